@@ -21,7 +21,7 @@ HEADER = [rf"#define STARLARK_LEX_VERSION_{part} (\d+)\n" for part in PARTS]
 
 # A file, the patterns whose groups joined by dots are the version, and whether it has to be there.
 PLACES = [
-    ("crates/starlark_c/src/versions.rt", LIBRARY, True),
+    ("crates/starlark_c/src/library_version.rt", LIBRARY, True),
     ("bindings/c/starlark_lex.h", HEADER, True),
     ("bindings/rust/Cargo.toml", [r'(?m)^version = "(.*)"$'], True),
     ("bindings/python/starlark_lexer/__init__.py", [r'(?m)^__version__ = "(.*)"$'], True),

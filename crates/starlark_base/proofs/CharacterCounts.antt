@@ -7,7 +7,7 @@ use Rattle.std.proofs.lemmas.Str.{chars-IsAscii, IsAscii-take, IsUtf8-from_ascii
 use Rattle.std.specs.Str.{IsAscii, IsUtf8, IsCharBoundary}
 use Rattle.starlark_text.specs.Characters.{starts_character, char_count}
 use Rattle.starlark_text.proofs.CharacterStarts.{begun_on}
-use Rattle.starlark_text.proofs.Counts.{begun_count}
+use Rattle.starlark_text.proofs.CountedCharacters.{begun_count}
 use Rattle.starlark_base.specs.Inner.CharacterCounts.{starts_before, AreCounts}
 
 abbrev pub begun : List ℕ → ℕ

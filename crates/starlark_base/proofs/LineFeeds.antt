@@ -41,7 +41,7 @@ begin_step (b ∷ rest) (suc line) =
       | false ↦ let h = begin_step rest (suc line) in omega arith
     ]
 
--- remainder the last line feed there is one line more, and it runs to the end
+-- after the last line feed there is one line more, and it runs to the end
 pub begin_past : (text : Text) (line : ℕ) → lf_search text < line → line_begin text line ≡ length text
 begin_past text zero h = absurd (omega arith)
 begin_past [] (suc line) h = refl
@@ -95,16 +95,16 @@ begin_before (b ∷ rest) (suc line) (suc at) h =
       | false ↦ λ h. let e = begin_before rest (suc line) at h in omega arith
     ] h
 
--- and a later line begins remainder the place
-pub begin_behind : (text : Text) (line at : ℕ) → lf_search (take at text) < line → line ≤ lf_search text → at < line_begin text line
-begin_behind text line at h within = go (cases_lt at (line_begin text line))
+-- and a later line begins after the place
+pub begin_after : (text : Text) (line at : ℕ) → lf_search (take at text) < line → line ≤ lf_search text → at < line_begin text line
+begin_after text line at h within = go (cases_lt at (line_begin text line))
   where
     go : (at < line_begin text line) ⊎ (line_begin text line ≤ at) → at < line_begin text line
     go (inl remainder) = remainder
     go (inr before) =
         absurd (omega (arith, feeds_before text line within, feeds_rise text (line_begin text line) at before))
 
--- a line but the first begins right remainder a line feed
+-- a line but the first begins right after a line feed
 pub begin_after_feed : (text : Text) (line : ℕ) → line < lf_search text → (m : ℕ) × (line_begin text (suc line) ≡ suc m) × (m < length text) × (get_or text m 0 ≡ 10)
 begin_after_feed [] line h = absurd (omega arith)
 begin_after_feed (b ∷ rest) zero h =
@@ -163,7 +163,7 @@ pub line_starts_at : (text : Text) (line : ℕ) → line ≤ lf_search text → 
 line_starts_at text zero h = refl
 line_starts_at text (suc line) h = starts_from_at 0 text line (omega arith) ∙ omega arith
 
--- remainder a line's begin, up to a place on it, no line feed stands
+-- after a line's begin, up to a place on it, no line feed stands
 no_feed_on_line : (text : Text) (at k : ℕ) → at ≤ length text → line_begin text (lf_search (take at text)) ≤ k → k < at → is_lf (get_or text k 0) ≡ false
 no_feed_on_line text at k within from before =
     elim (is_lf (get_or text k 0)) as (λ f. is_lf (get_or text k 0) ≡ f → f ≡ false) [
@@ -181,7 +181,7 @@ before_line text (suc line) h some =
     let e : line_begin text (suc line) - 1 ≡ r.0 = omega (arith, r.1) in
     ap (λ n. get_or text n 0) e ∙ r.3
 
--- what stands remainder the last line feed before a place begins where the place's line does
+-- what stands after the last line feed before a place begins where the place's line does
 pub last_line : (text : Text) (at : ℕ) → at ≤ length text → after_last is_lf (take at text) ≡ drop (line_begin text (lf_search (take at text))) (take at text)
 last_line text at within =
     let front = take at text in
@@ -245,7 +245,7 @@ found_line text at n within bound parts = go (cases_lt n (suc (lf_search (take a
         let inside : line < length (line_starts text) = omega arith in
         let test : leb (get_or (line_starts text) line 0) at ≡ true = parts.0 line 0 (omega arith) more in
         let here : get_or (line_starts text) line 0 ≡ line_begin text line = starts_at text line 0 inside in
-        let remainder : at < line_begin text line = begin_behind text line at (omega arith) (omega (arith, size)) in
+        let remainder : at < line_begin text line = begin_after text line at (omega arith) (omega (arith, size)) in
         absurd (omega (arith, leb-true _ _ test))
     go (inr enough) (inr not_more) = omega arith
 

@@ -39,8 +39,8 @@ pairs_along front more one =
     ∙ sum_by-append (λ x. cond (starts_pair x) 1 0) (after_last is_lf front) more
 
 -- what is after the last LF, by its index
-pub last_line_behind : (front passed : Text) (last : ℕ) → (last < length passed) × (get_or passed last 0 ≡ 10) × ((i : ℕ) → last < i → i < length passed → get_or passed i 0 ≢ 10) → after_last is_lf (front ++ passed) ≡ drop (last + 1) passed
-last_line_behind front passed last found =
+pub last_line_after : (front passed : Text) (last : ℕ) → (last < length passed) × (get_or passed last 0 ≡ 10) × ((i : ℕ) → last < i → i < length passed → get_or passed i 0 ≢ 10) → after_last is_lf (front ++ passed) ≡ drop (last + 1) passed
+last_line_after front passed last found =
     let tail = drop (last + 1) passed in
     let split : passed ≡ take last passed ++ 10 ∷ tail = split_at passed last 0 found.0 ∙ ap (λ b. take last passed ++ b ∷ drop (suc last) passed) found.1 ∙ ap (λ n. take last passed ++ 10 ∷ drop n passed) (sym (add-one last)) in
     let one : is_one_line tail ≡ true = one_line_by_index tail (λ k l e. found.2 (last + 1 + k) (omega arith) (omega (arith, l, length-drop (last + 1) passed)) (sym (get_or-drop (last + 1) passed k 0) ∙ e)) in
@@ -49,8 +49,8 @@ last_line_behind front passed last found =
     ap (after_last is_lf) parted ∙ after_last_along ((front ++ take last passed) ++ 10 ∷ []) tail one ∙ ap (λ t. t ++ tail) (after_last_feed (front ++ take last passed))
 
 -- after the last LF only what follows it counts
-pub pairs_behind_last : (front passed : Text) (last : ℕ) → (last < length passed) × (get_or passed last 0 ≡ 10) × ((i : ℕ) → last < i → i < length passed → get_or passed i 0 ≢ 10) → pairs_in_line (front ++ passed) ≡ count_by starts_pair (drop (last + 1) passed)
-pairs_behind_last front passed last found = ap (count_by starts_pair) (last_line_behind front passed last found)
+pub pairs_after_last : (front passed : Text) (last : ℕ) → (last < length passed) × (get_or passed last 0 ≡ 10) × ((i : ℕ) → last < i → i < length passed → get_or passed i 0 ≢ 10) → pairs_in_line (front ++ passed) ≡ count_by starts_pair (drop (last + 1) passed)
+pairs_after_last front passed last found = ap (count_by starts_pair) (last_line_after front passed last found)
 
 -- a text has no more such characters than bytes
 pub pairs_bound : (front : Text) → pairs_in_line front ≤ length front

@@ -95,21 +95,21 @@ one_line_by_index [] h = refl
 one_line_by_index (b ∷ bs) h =
     and_from _ _ (ap not (ne_eqb b 10 (h 0 (omega arith)))) (one_line_by_index bs (λ k l. h (suc k) (omega arith)))
 
--- remainder the last line feed only the bytes remainder it count for the column
-pub place_behind_feed : (front before tail : Text) → is_one_line tail ≡ true → place_after (front ++ (before ++ 10 ∷ tail)) ≡ record { line = (place_after front).line + count_by is_lf (before ++ 10 ∷ tail); column = length (chars tail) }
+-- after the last line feed only the bytes after it count for the column
+pub place_after_feed : (front before tail : Text) → is_one_line tail ≡ true → place_after (front ++ (before ++ 10 ∷ tail)) ≡ record { line = (place_after front).line + count_by is_lf (before ++ 10 ∷ tail); column = length (chars tail) }
 unfolding place_after
-place_behind_feed front before tail h =
+place_after_feed front before tail h =
     let parted : front ++ (before ++ 10 ∷ tail) ≡ ((front ++ before) ++ 10 ∷ []) ++ tail = sym (append_assoc front before (10 ∷ tail)) ∙ sym (append_assoc (front ++ before) (10 ∷ []) tail) in
     let last : after_last is_lf (front ++ (before ++ 10 ∷ tail)) ≡ tail = ap (after_last is_lf) parted ∙ after_last_along ((front ++ before) ++ 10 ∷ []) tail h ∙ ap (λ t. t ++ tail) (after_last_feed (front ++ before)) in
     rw (last, sum_by-append (λ x. cond (is_lf x) 1 0) front (before ++ 10 ∷ tail)) refl
 
 -- the same, where the last line feed is known by its index
-pub place_behind_last : (front passed : Text) (last : ℕ) → (last < length passed) × (get_or passed last 0 ≡ 10) × ((i : ℕ) → last < i → i < length passed → get_or passed i 0 ≢ 10) → place_after (front ++ passed) ≡ record { line = (place_after front).line + count_by is_lf passed; column = length (chars (drop (last + 1) passed)) }
-place_behind_last front passed last found =
+pub place_after_last : (front passed : Text) (last : ℕ) → (last < length passed) × (get_or passed last 0 ≡ 10) × ((i : ℕ) → last < i → i < length passed → get_or passed i 0 ≢ 10) → place_after (front ++ passed) ≡ record { line = (place_after front).line + count_by is_lf passed; column = length (chars (drop (last + 1) passed)) }
+place_after_last front passed last found =
     let tail = drop (last + 1) passed in
     let split : passed ≡ take last passed ++ 10 ∷ tail = split_at passed last 0 found.0 ∙ ap (λ b. take last passed ++ b ∷ drop (suc last) passed) found.1 ∙ ap (λ n. take last passed ++ 10 ∷ drop n passed) (sym (add-one last)) in
     let one : is_one_line tail ≡ true = one_line_by_index tail (λ k l e. found.2 (last + 1 + k) (omega arith) (omega (arith, l, length-drop (last + 1) passed)) (sym (get_or-drop (last + 1) passed k 0) ∙ e)) in
-    subst (λ t. place_after (front ++ t) ≡ record { line = (place_after front).line + count_by is_lf t; column = length (chars tail) }) (sym split) (place_behind_feed front (take last passed) tail one)
+    subst (λ t. place_after (front ++ t) ≡ record { line = (place_after front).line + count_by is_lf t; column = length (chars tail) }) (sym split) (place_after_feed front (take last passed) tail one)
 
 -- a place is that of what stands before it and between
 pub place_onward : (text : Text) (place to : ℕ) → place ≤ to → place_after (take place text ++ take (to - place) (drop place text)) ≡ place_at text to

@@ -26,12 +26,12 @@
 
 mod edited;
 mod keystrokes;
-mod places;
+mod spread_spans;
 mod tally;
 
 use crate::edited::{edited_in_the_middle, middle, print_relexed};
 use crate::keystrokes::print_keystrokes;
-use crate::places::tally_of_places;
+use crate::spread_spans::tally_of_places;
 use crate::tally::{BenchFault, tally_of};
 use starlark_syntax::codemap::{CodeMap, CodeMapId};
 use std::process::ExitCode;

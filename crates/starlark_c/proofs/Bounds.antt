@@ -11,7 +11,7 @@ use Rattle.starlark_c.proofs.Filled.{fewer_values}
 use Rattle.starlark_c.proofs.ValueBounds.{values_bound}
 use Rattle.starlark_grammar.specs.Reading.{outcome}
 use Rattle.starlark_grammar.specs.Words.{Text, language}
-use Rattle.starlark_grammar.proofs.Indentation.Totals.{outcome_balances}
+use Rattle.starlark_grammar.proofs.Indentation.LayoutTotals.{outcome_balances}
 use Rattle.starlark_token.specs.Lexemes.{shown_lexeme}
 
 -- a text has at most two lexemes a byte, and one more

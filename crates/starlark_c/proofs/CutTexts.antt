@@ -17,7 +17,7 @@ use Rattle.starlark_grammar.specs.Tokens.{Lexeme, Outcome, moved}
 use Rattle.starlark_grammar.specs.Words.{Text, language}
 use Rattle.starlark_grammar.proofs.Joining.CleanCuts.{cuts_join}
 use Rattle.starlark_grammar.proofs.Joining.LineCuts.{kept_parts}
-use Rattle.starlark_grammar.proofs.Joining.Tabs.{HasTab, behind_tab, first_margin_is, tab}
+use Rattle.starlark_grammar.proofs.Joining.Tabs.{HasTab, after_tab, first_margin_is, tab}
 use Rattle.starlark_grammar.proofs.Reading.Readings.{one_longest, read_is}
 use Rattle.starlark_syntax.proofs.LexedTexts.HeldCuts.{kept_some}
 use Rattle.starlark_syntax.specs.CutAfter.{IsCutAfter}
@@ -33,7 +33,7 @@ kept_joins text at kept = go (first_margin_is (drop at text))
     go : HasFirstMargin language (drop at text) ⊎ HasTab (margin_of (drop at text)) → Join (take at text) (drop at text)
     go (inl margin) = cuts_join (take at text) (drop at text) (kept_parts text at kept).1 margin
     go (inr has) =
-        let found = behind_tab (take at text) (drop at text) (kept_parts text at kept).1 has in
+        let found = after_tab (take at text) (drop at text) (kept_parts text at kept).1 has in
         let same = one_longest language nothing text (read language text).pieces found.front (read language text).last (Fails tab) (read_is language text)
         (subst (λ (t : Text). IsLongestReading language nothing t found.front (Fails tab)) whole found.longest) in
         absurd (omega (arith, found.less, (kept_parts text at kept).0, ap pieces_len same.0, length-take at text))

@@ -2,7 +2,7 @@
 use Rattle.std.proofs.Common.{◌≡◌, ◌<◌, ◌≤◌, ◌⊎◌, ◌==◌, ℕ, Some, inl, inr, refl, sym, subst, arith, length}
 use Rattle.std.specs.Str.{IsUtf8}
 use Rattle.starlark_c.specs.Records.{fault_number}
-use Rattle.starlark_c.specs.Restarts.{AreOf, IsRestart, IsSpan, no_restart}
+use Rattle.starlark_c.specs.NumberedRestarts.{AreOf, IsRestart, IsSpan, no_restart}
 use Rattle.starlark_grammar.proofs.Order.WholeTexts.{fault_edges}
 use Rattle.starlark_grammar.proofs.Reading.Faults.{outcome_fault}
 use Rattle.starlark_grammar.specs.Reading.{outcome}

@@ -10,7 +10,7 @@ use Rattle.std.specs.List.{prefix_len, starts_with}
 use Rattle.std.specs.Map.{lookup}
 use Rattle.std.specs.Str.{byte}
 use Rattle.std.specs.Str.Parse.{digits_value}
-use Rattle.starlark_grammar.specs.Characters.{first_character}
+use Rattle.starlark_grammar.specs.FrontCharacter.{first_character}
 use Rattle.starlark_grammar.specs.Items.{Body, Found, Goes, Item, Literal, Stops, body_at, body_from, body_len, body_onward, body_value, brace, broken, closing_quotes, drops_backslash, escape, escaped_newline, found_at, goes, hexadecimal, is_brace, is_character, is_of_bytes, numbered, octal, raw_pair, simple, simple_escapes}
 use Rattle.starlark_grammar.specs.declared.class.LiteralKind.{LiteralKind as Kind}
 use Rattle.starlark_grammar.specs.declared.class.Quote.{Quote}

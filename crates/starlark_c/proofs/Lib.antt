@@ -1,5 +1,5 @@
 -- Where each proof is. What belongs to one function is in a folder that has its name.
--- Items: what a lexer yields, by the lexemes and the fault of its text.
+-- YieldedItems: what a lexer yields, by the lexemes and the fault of its text.
 -- Filled: records and values of one lexeme more.
 -- CutTexts: a piece of a text: what is before a kept cut. Also of one that begins with the text.
 -- Ends: how lexing ends after all lexemes of a text.
@@ -16,7 +16,7 @@
 -- ItemBounds: what an item of a literal denotes has no more bytes than the item.
 -- ValueBounds: a text's values have no more bytes than the text.
 -- Bounds: what an outcome tells of a text is bounded by the text's length.
-pub mod Items
+pub mod YieldedItems
 pub mod Filled
 pub mod CutTexts
 pub mod Ends

@@ -8,11 +8,11 @@ use Rattle.std.specs.List.{slice_range}
 use Rattle.std.specs.Str.{IsUtf8, chars}
 use Rattle.starlark_base.specs.Places.{is_lf, place_after}
 use Rattle.starlark_base.specs.Positions.{starts_pair}
-use Rattle.starlark_base.proofs.Pairs.{front_range, pairs_along, pairs_behind_last, pairs_bound}
-use Rattle.starlark_base.proofs.PlacesAlong.{characters_bound, column_bound, is_one_line, line_bound, place_along, place_behind_last}
+use Rattle.starlark_base.proofs.Pairs.{front_range, pairs_along, pairs_after_last, pairs_bound}
+use Rattle.starlark_base.proofs.PlacesAlong.{characters_bound, column_bound, is_one_line, line_bound, place_along, place_after_last}
 use Rattle.starlark_c.specs.Endings.{capped}
-use Rattle.starlark_c.specs.Inner.Places.{place_on_line}
-use Rattle.starlark_c.specs.Places.{AreCharacters, IsPlaceOf, place_record}
+use Rattle.starlark_c.specs.Inner.OneLinePlaces.{place_on_line}
+use Rattle.starlark_c.specs.PlaceRecords.{AreCharacters, IsPlaceOf, place_record}
 use Rattle.starlark_c.specs.declared.places.PlaceRecord.{PlaceRecord}
 use Rattle.starlark_grammar.specs.Words.{Text}
 
@@ -43,8 +43,8 @@ pub after_line : (front passed : Text) (last : ℕ) → IsUtf8 front → IsUtf8 
     → (last < length passed) × (get_or passed last 0 ≡ 10) × ((i : ℕ) → last < i → i < length passed → get_or passed i 0 ≢ 10)
     → place_on_line (record { line = capped ((place_record front).line + count_by is_lf passed); column = 0; utf16_column = 0 }) (drop (last + 1) passed) ≡ place_record (front ++ passed)
 after_line front passed last utf8 more short found =
-    let along = place_behind_last front passed last found in
-    let pairs = pairs_behind_last front passed last found in
+    let along = place_after_last front passed last found in
+    let pairs = pairs_after_last front passed last found in
     let tail = drop (last + 1) passed in
     let text : IsUtf8 tail = IsUtf8-drop passed (last + 1) more (IsCharBoundary-after_ascii passed last more found.0 (omega (arith, found.1))) in
     let long : length tail ≤ length passed = omega (arith, length-drop (last + 1) passed) in

@@ -2,13 +2,13 @@
 use Rattle.std.proofs.Common.{◌≡◌, ℕ, ◌+◌, ◌≤◌, ◌||◌, false, refl, length, take, ap, ◌∙◌, arith, Ok, Err}
 use Rattle.std.specs.Prelude.{Bool, ⊤}
 use Rattle.starlark_c.specs.Endings.{Buffers, Hold, IsText, lexemes_of}
-use Rattle.starlark_c.specs.Inner.Filling.{EndsWithStop, IsOverflow, IsStop, MayStop, PutsNext, filled_by, wanted_by}
+use Rattle.starlark_c.specs.Inner.Filling.{EndsWithCutPoint, IsOverflow, IsCutPoint, MayStop, PutsNext, filled_by, wanted_by}
 use Rattle.starlark_c.specs.Records.{records, value_bytes, values}
 use Rattle.starlark_c.specs.declared.endings.Ending.{Ending}
 use Rattle.starlark_c.specs.declared.endings.Filled.{Filled}
-use Rattle.starlark_c.specs.declared.progress.Progress.{Progress}
+use Rattle.starlark_c.specs.declared.fill_state.FillState.{FillState}
 use Rattle.starlark_c.proofs.Filled.{put_next}
-use Rattle.starlark_c.proofs.Items.{IsNext}
+use Rattle.starlark_c.proofs.YieldedItems.{IsNext}
 use Rattle.starlark_c.proofs.Stops.{all_but, overflow_filled, overflows, stop_stays}
 use Rattle.starlark_grammar.specs.Tokens.{Spanned}
 use Rattle.starlark_grammar.specs.Words.{Text}
@@ -16,36 +16,36 @@ use Rattle.starlark_syntax.specs.Lexer.{LexerView}
 use Rattle.starlark_token.specs.TokenViews.{TokenView}
 
 -- the first lexemes of a text fill the buffers
-pub record HasFilled (text : Text) (n : ℕ) (progress : Progress) (before now : Buffers) : Type 0 where
+pub record HasFilled (text : Text) (n : ℕ) (progress : FillState) (before now : Buffers) : Type 0 where
   pub few : n ≤ length (lexemes_of text)
   pub hold : Hold (records (take n (lexemes_of text))) (values (take n (lexemes_of text))) before now
   pub filled : progress.filled ≡ filled_by (take n (lexemes_of text))
-  pub stop : IsStop text n progress.stop
+  pub stop : IsCutPoint text n progress.stop
 
 -- and then those with the next one, after which there may be a stop
-pub has_filled_more : (text : Text) (n : ℕ) (x : Spanned TokenView) (old new : Progress) (before now after : Buffers) (done : ⊤) → HasFilled text n old before now → IsNext text n x → PutsNext x old new now after (Ok done)
+pub has_filled_more : (text : Text) (n : ℕ) (x : Spanned TokenView) (old new : FillState) (before now after : Buffers) (done : ⊤) → HasFilled text n old before now → IsNext text n x → PutsNext x old new now after (Ok done)
     → HasFilled text (n + 1) new before after
 has_filled_more text n x old new before now after done had next puts =
     let more = put_next (lexemes_of text) n x before now after old.filled new.filled next.more had.hold had.filled puts.0 in
     record { few = next.few; hold = more.hold; filled = more.counts; stop = rw puts.1 (stop_stays text n old.stop had.stop) }
 
-pub may_stop : (text : Text) (n : ℕ) (progress : Progress) (before now : Buffers) → HasFilled text (n + 1) progress before now → MayStop text (n + 1) progress
+pub may_stop : (text : Text) (n : ℕ) (progress : FillState) (before now : Buffers) → HasFilled text (n + 1) progress before now → MayStop text (n + 1) progress
 may_stop text n progress before now had = record { some = omega arith; few = had.few; filled = had.filled; stop = had.stop }
 
 -- and then with a stop
-pub has_stopped : (text : Text) (n : ℕ) (old new : Progress) (before now : Buffers) → HasFilled text n old before now → new.filled ≡ old.filled → IsStop text n new.stop → HasFilled text n new before now
+pub has_stopped : (text : Text) (n : ℕ) (old new : FillState) (before now : Buffers) → HasFilled text n old before now → new.filled ≡ old.filled → IsCutPoint text n new.stop → HasFilled text n new before now
 has_stopped text n old new before now had same stop = record { few = had.few; hold = had.hold; filled = same ∙ had.filled; stop = stop }
 
 -- what is wanted with the next one, if it has no room
-pub wanted_with_next : (text : Text) (n : ℕ) (x : Spanned TokenView) (old new : Progress) (before now after : Buffers) (wanted : Filled) → HasFilled text n old before now → IsNext text n x → PutsNext x old new now after (Err wanted)
+pub wanted_with_next : (text : Text) (n : ℕ) (x : Spanned TokenView) (old new : FillState) (before now after : Buffers) (wanted : Filled) → HasFilled text n old before now → IsNext text n x → PutsNext x old new now after (Err wanted)
     → wanted ≡ wanted_by (n + 1) (length (values (take (n + 1) (lexemes_of text))))
 wanted_with_next text n x old new before now after wanted had next puts =
     let both = all_but text n x old.filled next had.few had.filled in
     puts.2 ∙ ap (λ k. wanted_by k (old.filled.values + length (value_bytes x.node))) both.0 ∙ ap (wanted_by (n + 1)) both.1
 
 -- how lexing ends then
-pub ends_without_room : (text : Text) (n : ℕ) (x : Spanned TokenView) (old new : Progress) (before now after : Buffers) (wanted : Filled) (end : Ending) (is_front : Bool) → IsText text → old.stop.is_front ≡ is_front → HasFilled text n old before now → IsNext text n x → PutsNext x old new now after (Err wanted)
-    → IsOverflow text (n + 1) new end → EndsWithStop text is_front before after (end, new.stop)
+pub ends_without_room : (text : Text) (n : ℕ) (x : Spanned TokenView) (old new : FillState) (before now after : Buffers) (wanted : Filled) (end : Ending) (is_front : Bool) → IsText text → old.stop.is_front ≡ is_front → HasFilled text n old before now → IsNext text n x → PutsNext x old new now after (Err wanted)
+    → IsOverflow text (n + 1) new end → EndsWithCutPoint text is_front before after (end, new.stop)
 ends_without_room text n x old new before now after wanted end is_front is kind had next puts over = (
   overflows text before now after n x old end is next had.few had.hold had.filled had.stop puts.0 (rw puts.1 at over),
   n,

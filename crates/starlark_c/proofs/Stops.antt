@@ -2,15 +2,15 @@
 use Rattle.std.proofs.Common.{◌≡◌, ℕ, ◌+◌, ◌≤◌, ◌<◌, length, take, drop, refl, ap, sym, ◌∙◌, arith, Some, true, inl, inr, subst, ◌++◌, ◌⊎◌, length-append}
 use Rattle.std.proofs.lemmas.List.{length-take, length-take-le, take-take}
 use Rattle.starlark_c.specs.Endings.{Buffers, Ends, EndsFront, Hold, IsCut, IsText, all_values, lexemes_of, named}
-use Rattle.starlark_c.specs.Inner.Filling.{EndsAtFault, EndsWithStop, HasNoRoom, IsCutIn, IsFilledTo, IsOverflow, IsStop, IsStopIn, IsStopped, MayStop, filled_by, has_stop}
+use Rattle.starlark_c.specs.Inner.Filling.{EndsAtFault, EndsWithCutPoint, HasNoRoom, IsCutIn, IsFilledTo, IsOverflow, IsCutPoint, IsCutPointIn, IsStopped, MayStop, filled_by, has_stop}
 use Rattle.starlark_c.specs.Records.{records, value_bytes, values}
 use Rattle.starlark_c.specs.declared.endings.Ending.{Ending}
 use Rattle.starlark_c.specs.declared.endings.Ending.TheVariants as ending
 use Rattle.starlark_c.specs.declared.endings.Filled.{Filled}
-use Rattle.starlark_c.specs.declared.progress.Progress.{Progress}
-use Rattle.starlark_c.specs.declared.progress.Stop.{Stop}
+use Rattle.starlark_c.specs.declared.fill_state.FillState.{FillState}
+use Rattle.starlark_c.specs.declared.fill_state.CutPoint.{CutPoint}
 use Rattle.starlark_c.proofs.Filled.{front_lexemes, front_records, front_values, front_values_more, same_sizes, values_more}
-use Rattle.starlark_c.proofs.Items.{IsNext}
+use Rattle.starlark_c.proofs.YieldedItems.{IsNext}
 use Rattle.starlark_c.proofs.CutTexts.{piece_at, piece_followed}
 use Rattle.starlark_c.proofs.Ends.{ends_fault}
 use Rattle.starlark_grammar.specs.Reading.{outcome}
@@ -19,12 +19,12 @@ use Rattle.starlark_grammar.specs.Words.{Text}
 use Rattle.starlark_token.specs.TokenViews.{TokenView}
 
 -- the stop stays one after one lexeme more
-pub stop_stays : (text : Text) (n : ℕ) (stop : Stop) → IsStop text n stop → IsStop text (n + 1) stop
+pub stop_stays : (text : Text) (n : ℕ) (stop : CutPoint) → IsCutPoint text n stop → IsCutPoint text (n + 1) stop
 stop_stays text n stop (inl none) = inl none
 stop_stays text n stop (inr is) = inr (record { some = is.some; few = omega (arith, is.few); cut = is.cut; values = is.values })
 
 -- a stop after all lexemes that were yielded
-pub stop_at : (text : Text) (n at : ℕ) (progress : Progress) → MayStop text n progress → IsCutIn text progress.stop.is_front n at → IsStop text n (record { at = at; filled = progress.filled; is_front = progress.stop.is_front })
+pub stop_at : (text : Text) (n at : ℕ) (progress : FillState) → MayStop text n progress → IsCutIn text progress.stop.is_front n at → IsCutPoint text n (record { at = at; filled = progress.filled; is_front = progress.stop.is_front })
 stop_at text n at progress may cut =
     let count : progress.filled.lexemes ≡ n = ap (λ (f : Filled). f.lexemes) may.filled ∙ length-take-le n (lexemes_of text) may.few in
     inr (record {
@@ -35,7 +35,7 @@ stop_at text n at progress may cut =
     })
 
 -- What a stop that is none leaves.
-pub no_stop : (text : Text) (n : ℕ) (stop : Stop) → IsStop text n stop → 0 < stop.filled.lexemes → IsStopIn text n stop
+pub no_stop : (text : Text) (n : ℕ) (stop : CutPoint) → IsCutPoint text n stop → 0 < stop.filled.lexemes → IsCutPointIn text n stop
 no_stop text n stop (inl none) some = absurd (omega (arith, none, some))
 no_stop text n stop (inr is) some = is
 
@@ -50,8 +50,8 @@ all_but text n x filled next few counted =
     )
 
 -- How lexing ends at a stop, where the buffers didn't change.
-pub stopped : (text : Text) (before now after : Buffers) (n : ℕ) (progress : Progress) (end : Ending) → IsText text → n ≤ length (lexemes_of text) → Hold (records (take n (lexemes_of text))) (values (take n (lexemes_of text))) before now
-    → progress.filled ≡ filled_by (take n (lexemes_of text)) → IsStop text n progress.stop → after.lexemes ≡ now.lexemes → after.values ≡ now.values → IsStopped text progress end → Ends text before after end
+pub stopped : (text : Text) (before now after : Buffers) (n : ℕ) (progress : FillState) (end : Ending) → IsText text → n ≤ length (lexemes_of text) → Hold (records (take n (lexemes_of text))) (values (take n (lexemes_of text))) before now
+    → progress.filled ≡ filled_by (take n (lexemes_of text)) → IsCutPoint text n progress.stop → after.lexemes ≡ now.lexemes → after.values ≡ now.values → IsStopped text progress end → Ends text before after end
 stopped text before now after n progress (ending.Piece filled next) is few held counted stop same_lexemes same_values over =
     let here = no_stop text n progress.stop stop over.2 in
     let all = lexemes_of text in
@@ -71,8 +71,8 @@ stopped text before now after n progress (ending.NotUtf8 valid) is few held coun
 stopped text before now after n progress ending.TooLong is few held counted stop same_lexemes same_values over = absurd over
 
 -- How lexing ends where a lexeme has no room.
-pub overflows : (text : Text) (before now after : Buffers) (n : ℕ) (x : Spanned TokenView) (progress : Progress) (end : Ending) → IsText text → IsNext text n x → n ≤ length (lexemes_of text)
-    → Hold (records (take n (lexemes_of text))) (values (take n (lexemes_of text))) before now → progress.filled ≡ filled_by (take n (lexemes_of text)) → IsStop text n progress.stop
+pub overflows : (text : Text) (before now after : Buffers) (n : ℕ) (x : Spanned TokenView) (progress : FillState) (end : Ending) → IsText text → IsNext text n x → n ≤ length (lexemes_of text)
+    → Hold (records (take n (lexemes_of text))) (values (take n (lexemes_of text))) before now → progress.filled ≡ filled_by (take n (lexemes_of text)) → IsCutPoint text n progress.stop
     → HasNoRoom x progress.filled now after → IsOverflow text (n + 1) progress end → Ends text before after end
 overflows text before now after n x progress (ending.Full wanted) is one few held counted stop none over =
     (is, record { lexemes = over.all_lexemes; bytes = over.all_bytes; first = over.first; lacks = lacking none.lacks; needs = over.needs; count = n; few = few; hold = rw (none.lexemes, none.values) held })
@@ -88,8 +88,8 @@ overflows text before now after n x progress (ending.NotUtf8 valid) is one few h
 overflows text before now after n x progress ending.TooLong is one few held counted stop none over = absurd over
 
 -- How lexing ends at a fault.
-pub ends_at_fault : (text : Text) (before now : Buffers) (values_after : Text) (n : ℕ) (fault : Spanned Fault) (progress : Progress) (end : Ending) → IsText text → (outcome text).fault ≡ Some fault → n ≡ length (lexemes_of text)
-    → Hold (records (take n (lexemes_of text))) (values (take n (lexemes_of text))) before now → progress.filled ≡ filled_by (take n (lexemes_of text)) → IsStop text n progress.stop → EndsAtFault text fault progress now.values values_after end
+pub ends_at_fault : (text : Text) (before now : Buffers) (values_after : Text) (n : ℕ) (fault : Spanned Fault) (progress : FillState) (end : Ending) → IsText text → (outcome text).fault ≡ Some fault → n ≡ length (lexemes_of text)
+    → Hold (records (take n (lexemes_of text))) (values (take n (lexemes_of text))) before now → progress.filled ≡ filled_by (take n (lexemes_of text)) → IsCutPoint text n progress.stop → EndsAtFault text fault progress now.values values_after end
     → Ends text before (record { lexemes = now.lexemes; values = values_after }) end
 ends_at_fault text before now values_after n fault progress (ending.Fault more told) is has all held counted stop ends = ends_fault text before now values_after n fault progress.filled (ending.Fault more told) is has all held counted ends
 ends_at_fault text before now values_after n fault progress (ending.Full wanted) is has all held counted stop ends = ends_fault text before now values_after n fault progress.filled (ending.Full wanted) is has all held counted ends
@@ -100,7 +100,7 @@ ends_at_fault text before now values_after n fault progress (ending.NotUtf8 vali
 ends_at_fault text before now values_after n fault progress ending.TooLong is has all held counted stop ends = absurd ends.0
 
 -- The stop where a piece ends.
-pub overflow_filled : (text : Text) (count : ℕ) (progress : Progress) (end : Ending) → IsOverflow text count progress end → IsFilledTo progress.stop end
+pub overflow_filled : (text : Text) (count : ℕ) (progress : FillState) (end : Ending) → IsOverflow text count progress end → IsFilledTo progress.stop end
 overflow_filled text count progress (ending.Piece filled next) over = (over.1, over.2)
 overflow_filled text count progress (ending.Whole filled) over = tt
 overflow_filled text count progress (ending.Fault filled fault) over = tt
@@ -109,7 +109,7 @@ overflow_filled text count progress (ending.NotUtf8 valid) over = tt
 overflow_filled text count progress (ending.Memory filled) over = tt
 overflow_filled text count progress ending.TooLong over = tt
 
-pub fault_filled : (text : Text) (fault : Spanned Fault) (progress : Progress) (before after : Text) (end : Ending) → EndsAtFault text fault progress before after end → IsFilledTo progress.stop end
+pub fault_filled : (text : Text) (fault : Spanned Fault) (progress : FillState) (before after : Text) (end : Ending) → EndsAtFault text fault progress before after end → IsFilledTo progress.stop end
 fault_filled text fault progress before after (ending.Piece filled next) ends = (ends.0.1, ends.0.2)
 fault_filled text fault progress before after (ending.Whole filled) ends = tt
 fault_filled text fault progress before after (ending.Fault filled told) ends = tt
@@ -119,7 +119,7 @@ fault_filled text fault progress before after (ending.Memory filled) ends = tt
 fault_filled text fault progress before after ending.TooLong ends = tt
 
 -- How lexing the front of a longer text ends, at its last stop.
-cut_there : (text : Text) (after : Buffers) (n : ℕ) (stop : Stop) → IsStopIn text n stop → n ≤ length (lexemes_of text) → stop.is_front ≡ true → take stop.filled.lexemes after.lexemes ≡ records (take stop.filled.lexemes (lexemes_of text))
+cut_there : (text : Text) (after : Buffers) (n : ℕ) (stop : CutPoint) → IsCutPointIn text n stop → n ≤ length (lexemes_of text) → stop.is_front ≡ true → take stop.filled.lexemes after.lexemes ≡ records (take stop.filled.lexemes (lexemes_of text))
     → take (length (values (take stop.filled.lexemes (lexemes_of text)))) after.values ≡ values (take stop.filled.lexemes (lexemes_of text)) → (rest : Text) → IsCut (text ++ rest) after stop.filled stop.at
 cut_there text after n stop here inside front lexemes bytes rest =
     let both = piece_followed text rest stop.at stop.filled.lexemes here.cut.cut (here.cut.stays front) in
@@ -132,13 +132,13 @@ cut_there text after n stop here inside front lexemes bytes rest =
       counts = rw both.1 (ap (λ v. record { lexemes = stop.filled.lexemes; values = v }) here.values);
     }
 
-pub front_cut : (text : Text) (before after : Buffers) (end : Ending) (stop : Stop) → EndsWithStop text true before after (end, stop) → (stop.filled.lexemes ≡ 0 → ⊥) → has_stop end ≡ true → EndsFront text before after (ending.Piece stop.filled stop.at)
+pub front_cut : (text : Text) (before after : Buffers) (end : Ending) (stop : CutPoint) → EndsWithCutPoint text true before after (end, stop) → (stop.filled.lexemes ≡ 0 → ⊥) → has_stop end ≡ true → EndsFront text before after (ending.Piece stop.filled stop.at)
 front_cut text before after end stop ends some over = by_stop ends.3
   where
     c : ℕ
     c = stop.filled.lexemes
 
-    by_end : IsStopIn text ends.1 stop → (end : Ending) → Ends text before after end → IsFilledTo stop end → has_stop end ≡ true → EndsFront text before after (ending.Piece stop.filled stop.at)
+    by_end : IsCutPointIn text ends.1 stop → (end : Ending) → Ends text before after end → IsFilledTo stop end → has_stop end ≡ true → EndsFront text before after (ending.Piece stop.filled stop.at)
     by_end here (ending.Whole filled) is filling over =
         let few : c ≤ length (lexemes_of text) = omega (arith, here.few, ends.2) in
         (is.0, cut_there text after ends.1 stop here ends.2 ends.4 (front_lexemes before after (lexemes_of text) c is.1.hold few) (front_values before after (lexemes_of text) c is.1.hold))
@@ -160,12 +160,12 @@ front_cut text before after end stop ends some over = by_stop ends.3
     by_end here (ending.Memory filled) is filling over = cc
     by_end here ending.TooLong is filling over = cc
 
-    by_stop : IsStop text ends.1 stop → EndsFront text before after (ending.Piece stop.filled stop.at)
+    by_stop : IsCutPoint text ends.1 stop → EndsFront text before after (ending.Piece stop.filled stop.at)
     by_stop (inl none) = absurd (some none)
     by_stop (inr here) = by_end here end ends.0 ends.5 over
 
 -- Where there is no stop in a front all is as for a text.
-pub front_stays : (text : Text) (before after : Buffers) (end : Ending) (stop : Stop) → EndsWithStop text true before after (end, stop) → (0 < stop.filled.lexemes → has_stop end ≡ true → ⊥) → EndsFront text before after end
+pub front_stays : (text : Text) (before after : Buffers) (end : Ending) (stop : CutPoint) → EndsWithCutPoint text true before after (end, stop) → (0 < stop.filled.lexemes → has_stop end ≡ true → ⊥) → EndsFront text before after end
 front_stays text before after end stop ends none = by_end end ends.0 ends.5 none
   where
     by_end : (end : Ending) → Ends text before after end → IsFilledTo stop end → (0 < stop.filled.lexemes → has_stop end ≡ true → ⊥) → EndsFront text before after end

@@ -11,13 +11,13 @@ use Rattle.std.specs.Str.Parse.{digits_value}
 use Rattle.starlark_c.specs.Endings.{all_values, lexemes_of, named}
 use Rattle.starlark_c.specs.Records.{fault_bytes, token_bytes, value_bytes, values}
 use Rattle.starlark_c.proofs.ItemBounds.{body_short}
-use Rattle.starlark_grammar.specs.Characters.{first_character}
+use Rattle.starlark_grammar.specs.FrontCharacter.{first_character}
 use Rattle.starlark_grammar.specs.Depths.{Mode, Outside, InText, AtTop, Deeper}
 use Rattle.starlark_grammar.specs.Front.{longest_front}
 use Rattle.starlark_grammar.specs.Items.{Stop, Closing, Line, Ended, OpeningBrace, ClosingBrace, BadEscape, Body, body_at, body_from, body_len, body_value, closing_quotes}
 use Rattle.starlark_grammar.specs.Margins.{Margin, blanks_len, comment_lines, comment_of, comment_part, comments_from, fits, has_tab, indentation, is_content, is_lf, is_widest, margin_of, open_widths, width_of, without_return}
 use Rattle.starlark_grammar.specs.Numbers.{Big, Integer, Small, integer_of, is_negative, is_small, plain_digits, signed}
-use Rattle.starlark_grammar.specs.Pieces.{Before, Nothing, Layout, Gap, Other, Piece, Step, Stands, Fails, Ends, Situation, by_before, by_place, chunk, chunk_by, chunk_text, counts, escape_fault, front_step, in_code, is_bang, is_plain, literal, literal_by, literal_token, margin_step, more_quotes, opener, opening_of, starts_zero, step_at, takes_bang, terminal_token, token, unfinished, word_step}
+use Rattle.starlark_grammar.specs.Pieces.{Before, Nothing, Layout, Gap, Other, Piece, Step, Stands, Fails, Ends, Situation, by_before, by_mode, chunk, chunk_by, chunk_text, counts, escape_fault, front_step, in_code, is_bang, is_plain, literal, literal_by, literal_token, margin_step, more_quotes, opener, opening_of, starts_zero, step_at, takes_bang, terminal_token, token, unfinished, word_step}
 use Rattle.starlark_grammar.specs.Longest.{IsLongestReading, IsReading}
 use Rattle.starlark_grammar.specs.Reading.{History, after, after_all, closing, lexemes_along, next_step, nothing, outcome, outcome_in, outcome_of, pieces_len, read, situation}
 use Rattle.starlark_grammar.specs.Tokens as grammar
@@ -121,7 +121,7 @@ literal_value OfText value = refl
 literal_value OfBytes value = refl
 literal_value OfFString value = refl
 
-unfinished_silent : (place : Mode) (kind : Kind) (opening : Opening) (remainder : Text) → length (fault_bytes (unfinished place kind opening remainder)) ≡ 0
+unfinished_silent : (mode : Mode) (kind : Kind) (opening : Opening) (remainder : Text) → length (fault_bytes (unfinished mode kind opening remainder)) ≡ 0
 unfolding fault_bytes
 unfinished_silent Outside kind opening remainder = refl
 unfinished_silent (InText inner) OfText opening remainder = either (λ (f : Fault). length (fault_bytes f) ≡ 0) (is_plain opening remainder) _ _ refl refl
@@ -139,26 +139,26 @@ unfolding fault_bytes
 escape_fault_short begin [] text fits = omega arith
 escape_fault_short begin (b ∷ bs) text fits = fits
 
-literal_by_short : (place : Mode) (kind : Kind) (opening : Opening) (len : ℕ) (remainder text : Text) (body : Body) (stop : Stop) → length remainder ≤ length text → length (body_value body) ≤ body_len body → StepShort text (literal_by place kind opening len remainder body stop)
-literal_by_short place kind opening len remainder text body Closing inside short = omega (arith, ap (λ (t : Text). length t) (literal_value kind (body_value body)), short)
-literal_by_short place kind opening len remainder text body (BadEscape read last) inside short =
+literal_by_short : (mode : Mode) (kind : Kind) (opening : Opening) (len : ℕ) (remainder text : Text) (body : Body) (stop : Stop) → length remainder ≤ length text → length (body_value body) ≤ body_len body → StepShort text (literal_by mode kind opening len remainder body stop)
+literal_by_short mode kind opening len remainder text body Closing inside short = omega (arith, ap (λ (t : Text). length t) (literal_value kind (body_value body)), short)
+literal_by_short mode kind opening len remainder text body (BadEscape read last) inside short =
     let taken = take_fits read (drop (body_len body) remainder) in
     escape_fault_short (len + body_len body) (drop 1 (take read (drop (body_len body) remainder))) text
     (omega (arith, length-drop (body_len body) remainder, length-drop 1 (take read (drop (body_len body) remainder)), taken.0, inside))
-literal_by_short place kind opening len remainder text body Line inside short = omega (arith, unfinished_silent place kind opening remainder)
-literal_by_short place kind opening len remainder text body Ended inside short = omega (arith, unfinished_silent place kind opening remainder)
-literal_by_short place kind opening len remainder text body OpeningBrace inside short = omega (arith, unfinished_silent place kind opening remainder)
-literal_by_short place kind opening len remainder text body ClosingBrace inside short = omega (arith, unfinished_silent place kind opening remainder)
+literal_by_short mode kind opening len remainder text body Line inside short = omega (arith, unfinished_silent mode kind opening remainder)
+literal_by_short mode kind opening len remainder text body Ended inside short = omega (arith, unfinished_silent mode kind opening remainder)
+literal_by_short mode kind opening len remainder text body OpeningBrace inside short = omega (arith, unfinished_silent mode kind opening remainder)
+literal_by_short mode kind opening len remainder text body ClosingBrace inside short = omega (arith, unfinished_silent mode kind opening remainder)
 
-literal_short : (place : Mode) (kind : Kind) (opening : Opening) (len : ℕ) (remainder text : Text) → length remainder ≤ length text → StepShort text (literal place kind opening len remainder)
-literal_short place kind opening len remainder text inside =
+literal_short : (mode : Mode) (kind : Kind) (opening : Opening) (len : ℕ) (remainder text : Text) → length remainder ≤ length text → StepShort text (literal mode kind opening len remainder)
+literal_short mode kind opening len remainder text inside =
     let body = body_at (record { kind = kind; opening = opening }) remainder in
-    literal_by_short place kind opening len remainder text body body.stop inside (body_short (record { kind = kind; opening = opening }) remainder)
+    literal_by_short mode kind opening len remainder text body body.stop inside (body_short (record { kind = kind; opening = opening }) remainder)
 
-opener_short : (place : Mode) (kind : Kind) (opening : Opening) (len : ℕ) (remainder text : Text) → length remainder ≤ length text → StepShort text (opener place kind opening len remainder)
-opener_short place OfFString opening len remainder text inside = omega arith
-opener_short place OfText opening len remainder text inside = literal_short place OfText opening (len + more_quotes opening) (drop (more_quotes opening) remainder) text (omega (arith, length-drop (more_quotes opening) remainder, inside))
-opener_short place OfBytes opening len remainder text inside = literal_short place OfBytes opening (len + more_quotes opening) (drop (more_quotes opening) remainder) text (omega (arith, length-drop (more_quotes opening) remainder, inside))
+opener_short : (mode : Mode) (kind : Kind) (opening : Opening) (len : ℕ) (remainder text : Text) → length remainder ≤ length text → StepShort text (opener mode kind opening len remainder)
+opener_short mode OfFString opening len remainder text inside = omega arith
+opener_short mode OfText opening len remainder text inside = literal_short mode OfText opening (len + more_quotes opening) (drop (more_quotes opening) remainder) text (omega (arith, length-drop (more_quotes opening) remainder, inside))
+opener_short mode OfBytes opening len remainder text inside = literal_short mode OfBytes opening (len + more_quotes opening) (drop (more_quotes opening) remainder) text (omega (arith, length-drop (more_quotes opening) remainder, inside))
 
 -- Texts of f-strings
 
@@ -193,9 +193,9 @@ integer_fits base text =
     either (λ (n : Integer). length (token_bytes (grammar.Int n)) ≤ length text) (is_small (is_negative text) (digits_value base (unsigned text))) (Small (signed (is_negative text) (digits_value base (unsigned text)))) (Big (is_negative text) (plain_digits (unsigned text)) base) (omega arith)
     (omega (arith, digits_fit (unsigned text), length-drop (sign_len text) text))
 
-terminal_silent : (place : Mode) (symbol : Terminal) → length (token_bytes (terminal_token place symbol)) ≡ 0
+terminal_silent : (mode : Mode) (symbol : Terminal) → length (token_bytes (terminal_token mode symbol)) ≡ 0
 terminal_silent AtTop terminal.ClosingCurly = refl
-terminal_silent place symbol = refl
+terminal_silent mode symbol = refl
 
 token_short : (text : Text) (len : ℕ) (node : Token) → length (token_bytes node) ≤ len → StepShort text (token len node)
 token_short text len node short = omega (arith, short)
@@ -206,8 +206,8 @@ word_step_short s word.Skipped front remainder text inside = omega arith
 word_step_short s word.Comment front remainder text inside = token_short text (length front) (grammar.Comment (drop 1 front)) (omega (arith, length-drop 1 front))
 word_step_short s word.Tabs front remainder text inside = omega arith
 word_step_short s word.LineEnd front remainder text inside =
-    either (StepShort text) (counts s.place s.is_balanced) _ _ (margin_step_short text (length front) _ s.levels (margin_of remainder) refl (margin_size remainder)) (omega arith)
-word_step_short s (word.Opener kind is_raw quote) front remainder text inside = opener_short s.place kind (opening_of is_raw quote remainder) (length front) remainder text (omega (arith, inside))
+    either (StepShort text) (counts s.mode s.is_balanced) _ _ (margin_step_short text (length front) _ s.levels (margin_of remainder) refl (margin_size remainder)) (omega arith)
+word_step_short s (word.Opener kind is_raw quote) front remainder text inside = opener_short s.mode kind (opening_of is_raw quote remainder) (length front) remainder text (omega (arith, inside))
 word_step_short s word.Reserved front remainder text inside = omega (arith, inside)
 word_step_short s word.Identifier front remainder text inside = token_short text (length front) (grammar.Identifier front) (omega arith)
 word_step_short s word.Decimal front remainder text inside = either (StepShort text) (starts_zero front) _ _ (omega (arith, inside)) (token_short text (length front) (grammar.Int (integer_of 10 front)) (integer_fits 10 front))
@@ -215,7 +215,7 @@ word_step_short s word.Hexadecimal front remainder text inside = token_short tex
 word_step_short s word.Octal front remainder text inside = token_short text (length front) (grammar.Int (integer_of 8 (drop 2 front))) (omega (arith, integer_fits 8 (drop 2 front), length-drop 2 front))
 word_step_short s word.Binary front remainder text inside = token_short text (length front) (grammar.Int (integer_of 2 (drop 2 front))) (omega (arith, integer_fits 2 (drop 2 front), length-drop 2 front))
 word_step_short s word.Float front remainder text inside = token_short text (length front) (grammar.Float front) (omega arith)
-word_step_short s (word.Fixed symbol) front remainder text inside = token_short text (length front) (terminal_token s.place symbol) (omega (arith, terminal_silent s.place symbol))
+word_step_short s (word.Fixed symbol) front remainder text inside = token_short text (length front) (terminal_token s.mode symbol) (omega (arith, terminal_silent s.mode symbol))
 
 front_step_short : (s : Situation) (text : Text) (found : Option (Class × ℕ)) → StepShort text (front_step s text found)
 unfolding fault_bytes
@@ -225,19 +225,19 @@ front_step_short s text (Some front) = word_step_short s front.0 (take front.1 t
 in_code_short : (table : Table) (s : Situation) (text : Text) → StepShort text (in_code table s text)
 in_code_short table s [] = tt
 in_code_short table s (b ∷ bs) =
-    either (StepShort (b ∷ bs)) (takes_bang s.place s.before && is_bang (b ∷ bs)) _ _ (omega arith) (front_step_short s (b ∷ bs) (longest_front (class_in table) (b ∷ bs)))
+    either (StepShort (b ∷ bs)) (takes_bang s.mode s.before && is_bang (b ∷ bs)) _ _ (omega arith) (front_step_short s (b ∷ bs) (longest_front (class_in table) (b ∷ bs)))
 
-by_place_short : (table : Table) (s : Situation) (place : Mode) (text : Text) → StepShort text (by_place table s place text)
-by_place_short table s Outside text = in_code_short table s text
-by_place_short table s (InText opening) text = chunk_short opening text
-by_place_short table s AtTop text = in_code_short table s text
-by_place_short table s Deeper text = in_code_short table s text
+by_mode_short : (table : Table) (s : Situation) (mode : Mode) (text : Text) → StepShort text (by_mode table s mode text)
+by_mode_short table s Outside text = in_code_short table s text
+by_mode_short table s (InText opening) text = chunk_short opening text
+by_mode_short table s AtTop text = in_code_short table s text
+by_mode_short table s Deeper text = in_code_short table s text
 
 by_before_short : (table : Table) (s : Situation) (before : Before) (text : Text) → StepShort text (by_before table s before text)
 by_before_short table s Nothing text = margin_step_short text 0 [] [] (margin_of text) refl (margin_size text)
-by_before_short table s Layout text = by_place_short table s s.place text
-by_before_short table s Gap text = by_place_short table s s.place text
-by_before_short table s Other text = by_place_short table s s.place text
+by_before_short table s Layout text = by_mode_short table s s.mode text
+by_before_short table s Gap text = by_mode_short table s s.mode text
+by_before_short table s Other text = by_mode_short table s s.mode text
 
 step_short : (table : Table) (history : History) (text : Text) → StepShort text (next_step table history text)
 unfolding next_step step_at

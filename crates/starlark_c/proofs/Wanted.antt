@@ -7,7 +7,7 @@ use Rattle.starlark_c.specs.Records.{fault_bytes, value_bytes, values}
 use Rattle.starlark_c.specs.declared.endings.Filled.{Filled}
 use Rattle.starlark_c.proofs.Ends.{whole_front}
 use Rattle.starlark_c.proofs.Filled.{values_more}
-use Rattle.starlark_c.proofs.Items.{IsNext}
+use Rattle.starlark_c.proofs.YieldedItems.{IsNext}
 use Rattle.starlark_grammar.specs.Reading.{outcome}
 use Rattle.starlark_grammar.specs.Tokens.{Fault, Spanned}
 use Rattle.starlark_grammar.specs.Words.{Text}

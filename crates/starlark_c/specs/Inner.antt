@@ -1,4 +1,4 @@
 -- Definitions that only inner functions and proofs cite.
 pub mod Filling
 pub mod Recovering
-pub mod Places
+pub mod OneLinePlaces

@@ -4,11 +4,11 @@ pub mod Endings
 pub mod Outcomes
 pub mod Written
 pub mod Messages
-pub mod Places
-pub mod Restarts
+pub mod PlaceRecords
+pub mod NumberedRestarts
 pub mod FinalFaults
-pub mod FaultCodes
-pub mod Versions
+pub mod NumberedCodes
+pub mod LibraryVersion
 pub mod RecoveredTexts
 pub mod RecoveredOutcomes
 pub mod Inner

@@ -1,10 +1,10 @@
 //! The codes of faults.
 
 ghost use Rattle.std.specs.Prelude.{◌≡◌};
-ghost use Rattle.starlark_c.specs.FaultCodes.{code_at};
+ghost use Rattle.starlark_c.specs.NumberedCodes.{code_at};
 
 /// The code of the fault with a number; empty where no fault has it.
-#[tactic(auto, unfolding(crate::specs::FaultCodes::code_at, crate::specs::FaultCodes::fault_codes))]
+#[tactic(auto, unfolding(crate::specs::NumberedCodes::code_at, crate::specs::NumberedCodes::fault_codes))]
 pub fn code_of_fault(kind: u32) -> &'static str
     ensures { result.now ≡ code_at kind }
 {

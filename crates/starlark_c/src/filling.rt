@@ -3,7 +3,7 @@
 ghost use Rattle.std.specs.Prelude.{◌≡◌, ◌<◌, ◌≤◌, ◌+◌, ◌^◌, ℕ, Some, IfSome, IfNone, false, length, take};
 ghost use Rattle.starlark_base.specs.Sources.{SourceFile};
 ghost use Rattle.starlark_c.specs.Endings.{IsText, lexemes_of};
-ghost use Rattle.starlark_c.specs.Inner.Filling.{EndsAtFault, EndsByFault, EndsWithStop, IsCutIn, IsOverflow, IsStop, IsStopped, IsWanted, MayStop, Puts, PutsNext, is_without_margin, put, wanted_by};
+ghost use Rattle.starlark_c.specs.Inner.Filling.{EndsAtFault, EndsByFault, EndsWithCutPoint, IsCutIn, IsOverflow, IsCutPoint, IsStopped, IsWanted, MayStop, Puts, PutsNext, is_without_margin, put, wanted_by};
 ghost use Rattle.starlark_c.specs.Kinds.{token_number};
 ghost use Rattle.starlark_c.specs.Records.{fault_bytes, value_bytes, values};
 ghost use Rattle.starlark_grammar.specs.Reading.{outcome};
@@ -15,8 +15,8 @@ ghost use Rattle.starlark_token.specs.Lexemes.{fault_view, lexeme_view};
 ghost use Rattle.starlark_token.specs.TokenViews.{token_view};
 
 use crate::endings::{Ending, Filled};
-use crate::kinds::number_of_plain;
-use crate::progress::{Progress, Stop, is_last_of_line, want, want_lexeme, want_plain};
+use crate::fill_state::{CutPoint, FillState, is_last_of_line, want, want_lexeme, want_plain};
+use crate::lexeme_kinds::number_of_plain;
 use crate::records::{
     FaultRecord, LexemeRecord, bytes_of, bytes_of_fault, bytes_of_plain, number_of_fault,
     plain_record_at, record_at,
@@ -174,7 +174,7 @@ fn put_fault(_text: &str, values: &mut [u8], filled: Filled, exception: &EvalExc
 fn put_next(
     lexemes: &mut [LexemeRecord],
     values: &mut [u8],
-    progress: &mut Progress,
+    progress: &mut FillState,
     lexeme: &(usize, Token, usize),
 ) -> Result<(), Filled>
     requires values_within { progress.old.filled.values ≤ length values.old }
@@ -196,7 +196,7 @@ fn put_next(
 fn take_next(
     lexemes: &mut [LexemeRecord],
     values: &mut [u8],
-    progress: &mut Progress,
+    progress: &mut FillState,
     lexeme: (usize, Token, usize),
 ) -> Result<(), Filled>
     requires values_within { progress.old.filled.values ≤ length values.old }
@@ -214,7 +214,7 @@ fn take_next(
 fn take_plain(
     lexemes: &mut [LexemeRecord],
     values: &mut [u8],
-    progress: &mut Progress,
+    progress: &mut FillState,
     text: &str,
     plain: PlainLexeme,
 ) -> Result<(), Filled>
@@ -320,8 +320,8 @@ fn count_first_piece(
 
 /// How lexing ends where there is no room for more and the text can be cut at a stop. `None` where
 /// there is no stop.
-fn end_at_stop(_text: &str, progress: Progress) -> Option<Ending>
-    requires stop { (yielded : ℕ) × IsStop _text.now yielded progress.stop }
+fn end_at_stop(_text: &str, progress: FillState) -> Option<Ending>
+    requires stop { (yielded : ℕ) × IsCutPoint _text.now yielded progress.stop }
     ensures { IfSome result (IsStopped _text.now progress) }
 {
     if progress.stop.filled.lexemes == 0 {
@@ -334,12 +334,12 @@ fn end_at_stop(_text: &str, progress: Progress) -> Option<Ending>
 }
 
 /// How lexing ends where a lexeme, which a lexer has just yielded, has no room.
-fn overflow(text: &str, lexer: &mut Lexer<'_>, progress: Progress, passed: Filled) -> Ending
+fn overflow(text: &str, lexer: &mut Lexer<'_>, progress: FillState, passed: Filled) -> Ending
     requires same { lexer.old.text ≡ text.now }
     requires going { lexer.old.has_ended ≡ false }
     requires few { lexer.old.yielded_count ≤ length (lexemes_of text.now) }
     requires counted { passed ≡ wanted_by lexer.old.yielded_count (length (values (take lexer.old.yielded_count (lexemes_of text.now)))) }
-    requires stop { (yielded : ℕ) × IsStop text.now yielded progress.stop }
+    requires stop { (yielded : ℕ) × IsCutPoint text.now yielded progress.stop }
     ensures { IsOverflow text.now lexer.old.yielded_count progress result }
 {
     if let Some(ending) = end_at_stop(text, progress) {
@@ -357,11 +357,11 @@ fn overflow(text: &str, lexer: &mut Lexer<'_>, progress: Progress, passed: Fille
 fn end_at_fault(
     text: &str,
     values: &mut [u8],
-    progress: Progress,
+    progress: FillState,
     exception: &EvalException,
 ) -> Ending
     requires within { progress.filled.values ≤ length values.old }
-    requires stop { (yielded : ℕ) × IsStop text.now yielded progress.stop }
+    requires stop { (yielded : ℕ) × IsCutPoint text.now yielded progress.stop }
     requires thrown { (file : SourceFile) × IsFaultIn file (outcome text.now).fault (Some exception.now) }
     ensures { (fault : Spanned GrammarFault) → (outcome text.now).fault ≡ Some fault → EndsAtFault text.now fault progress values.old values.new result }
 {
@@ -375,11 +375,11 @@ fn end_at_fault(
 /// Makes the offset where the text may be cut after the lexemes that its lexer has yielded the last
 /// stop, if there is one.
 #[inline(always)]
-fn stop_after(progress: &mut Progress, may_stop: bool, text: &str, lexer: &Lexer<'_>)
+fn stop_after(progress: &mut FillState, may_stop: bool, text: &str, lexer: &Lexer<'_>)
     requires same { lexer.now.text ≡ text.now }
     requires may { MayStop text.now lexer.now.yielded_count progress.old }
     ensures filled { progress.new.filled ≡ progress.old.filled }
-    ensures stop { IsStop text.now lexer.now.yielded_count progress.new.stop }
+    ensures stop { IsCutPoint text.now lexer.now.yielded_count progress.new.stop }
     ensures kind { progress.new.stop.is_front ≡ progress.old.stop.is_front }
 {
     if !may_stop {
@@ -400,12 +400,12 @@ pub fn fill(
     lexer: &mut Lexer<'_>,
     lexemes: &mut [LexemeRecord],
     values: &mut [u8],
-) -> (Ending, Stop)
+) -> (Ending, CutPoint)
     requires fresh { lexer.old ≡ record { text = text.now; code_map = lexer.old.code_map; yielded_count = 0; has_ended = false; reads = 0 } }
     requires text { IsText text.now }
-    ensures { EndsWithStop text.now is_front (record { lexemes = lexemes.old; values = values.old }) (record { lexemes = lexemes.new; values = values.new }) result }
+    ensures { EndsWithCutPoint text.now is_front (record { lexemes = lexemes.old; values = values.old }) (record { lexemes = lexemes.new; values = values.new }) result }
 {
-    let mut progress = Progress::new(is_front);
+    let mut progress = FillState::new(is_front);
     loop {
         if let Some(plain) = lexer.next_plain() {
             if let Err(passed) = take_plain(lexemes, values, &mut progress, text, plain) {

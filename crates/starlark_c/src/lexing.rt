@@ -2,12 +2,12 @@
 
 ghost use Rattle.std.specs.Prelude.{◌≡◌, ◌<◌, ◌^◌, [], IfOk, IfSome, false, length, true};
 ghost use Rattle.starlark_c.specs.Endings.{Buffers, Ends, EndsFront};
-ghost use Rattle.starlark_c.specs.Inner.Filling.{EndsWithStop, has_stop};
+ghost use Rattle.starlark_c.specs.Inner.Filling.{EndsWithCutPoint, has_stop};
 ghost use Rattle.starlark_grammar.specs.Words.{Text};
 
 use crate::endings::{Ending, Filled};
+use crate::fill_state::CutPoint;
 use crate::filling::fill;
-use crate::progress::Stop;
 use crate::records::LexemeRecord;
 use starlark_syntax::codemap::{CodeMap, CodeMapId};
 use starlark_syntax::dialect::Dialect;
@@ -41,10 +41,10 @@ fn lex_with_stop(
     is_front: bool,
     lexemes: &mut [LexemeRecord],
     values: &mut [u8],
-) -> (Ending, Stop)
-    ensures { EndsWithStop bytes.now is_front (record { lexemes = lexemes.old; values = values.old }) (record { lexemes = lexemes.new; values = values.new }) result }
+) -> (Ending, CutPoint)
+    ensures { EndsWithCutPoint bytes.now is_front (record { lexemes = lexemes.old; values = values.old }) (record { lexemes = lexemes.new; values = values.new }) result }
 {
-    let none = Stop::none(is_front);
+    let none = CutPoint::none(is_front);
     if bytes.len() > u32::MAX as usize {
         return (Ending::TooLong, none);
     }
@@ -86,8 +86,8 @@ fn is_past_stop(ending: Ending) -> bool
 
 /// How lexing the front of a longer text ends: at the last stop, if there is one, and else as lexing
 /// it as a text does.
-fn front_ending(ending: Ending, stop: Stop) -> Ending
-    ensures { (text : Text) (before after : Buffers) → EndsWithStop text true before after (ending, stop) → EndsFront text before after result }
+fn front_ending(ending: Ending, stop: CutPoint) -> Ending
+    ensures { (text : Text) (before after : Buffers) → EndsWithCutPoint text true before after (ending, stop) → EndsFront text before after result }
 {
     if stop.filled.lexemes == 0 {
         return ending;

@@ -6,49 +6,49 @@
 
 ghost use Rattle.std.specs.Prelude.{◌≡◌, length};
 ghost use Rattle.starlark_c.specs.Endings.{Ends, EndsFront};
-ghost use Rattle.starlark_c.specs.FaultCodes.{code_at};
+ghost use Rattle.starlark_c.specs.NumberedCodes.{code_at};
 ghost use Rattle.starlark_c.specs.FinalFaults.{IsFinal};
 ghost use Rattle.starlark_c.specs.Kinds.{NamesTokens, kind_name};
 ghost use Rattle.starlark_c.specs.Messages.{TellsErrors, fault_message};
 ghost use Rattle.starlark_c.specs.Outcomes.{AreBounded, outcome_record};
-ghost use Rattle.starlark_c.specs.Places.{MovesPlace, TellsPlace};
+ghost use Rattle.starlark_c.specs.PlaceRecords.{MovesPlace, TellsPlace};
 ghost use Rattle.starlark_c.specs.RecoveredOutcomes.{recovered_record};
 ghost use Rattle.starlark_c.specs.RecoveredTexts.{Recovers};
-ghost use Rattle.starlark_c.specs.Restarts.{IsRestart};
-ghost use Rattle.starlark_c.specs.Versions.{version_number};
+ghost use Rattle.starlark_c.specs.NumberedRestarts.{IsRestart};
+ghost use Rattle.starlark_c.specs.LibraryVersion.{version_number};
 ghost use Rattle.starlark_c.specs.Written.{IsWritten};
 ghost use Rattle.starlark_c.specs.declared.endings.Ending.{Ending};
 ghost use Rattle.starlark_c.specs.declared.recovered_endings.RecoveredEnding.{RecoveredEnding};
 
 mod endings;
 mod fault_codes;
+mod fill_state;
 mod filling;
 mod final_faults;
-mod kinds;
+mod lexeme_kinds;
 mod lexing;
+mod library_version;
+mod numbered_restarts;
 mod outcomes;
 mod places;
-mod progress;
 mod records;
 mod recovered_endings;
 mod recovered_outcomes;
 mod recovering;
-mod restarts;
-mod texts;
-mod versions;
+mod written_texts;
 
 use crate::fault_codes::code_of_fault;
 use crate::final_faults::is_final;
-use crate::kinds::name_of_kind;
+use crate::lexeme_kinds::name_of_kind;
 use crate::lexing::{lex_front, lex_into};
+use crate::library_version::{MAJOR, MINOR, PATCH, version};
+use crate::numbered_restarts::restart_of;
 use crate::outcomes::{LexOutcome, outcome_of};
 use crate::places::{PlaceRecord, move_place, tell_place};
 use crate::records::LexemeRecord;
 use crate::recovered_outcomes::{FoundFault, RecoveredOutcome, recovered_outcome};
 use crate::recovering::recover_into;
-use crate::restarts::restart_of;
-use crate::texts::{write_message, write_text};
-use crate::versions::{MAJOR, MINOR, PATCH, version};
+use crate::written_texts::{write_message, write_text};
 use std::alloc::Global;
 
 /// The version of the library as one number: `1_000_000 * major + 1_000 * minor + patch`.

@@ -5,8 +5,8 @@ ghost use Rattle.std.specs.List.{slice_range};
 ghost use Rattle.std.specs.Str.{IsUtf8};
 ghost use Rattle.starlark_base.specs.Places.{is_lf};
 ghost use Rattle.starlark_base.specs.Positions.{starts_pair};
-ghost use Rattle.starlark_c.specs.Places.{AreCharacters, MovesPlace, TellsPlace, place_record};
-ghost use Rattle.starlark_c.specs.Inner.Places.{place_on_line};
+ghost use Rattle.starlark_c.specs.PlaceRecords.{AreCharacters, MovesPlace, TellsPlace, place_record};
+ghost use Rattle.starlark_c.specs.Inner.OneLinePlaces.{place_on_line};
 ghost use Rattle.starlark_grammar.specs.Words.{Text};
 
 use starlark_text::character_starts::count_characters;

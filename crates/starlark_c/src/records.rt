@@ -8,7 +8,7 @@ ghost use Rattle.starlark_syntax.specs.PlainLexemes.{IsPlainIn, plain_view, toke
 ghost use Rattle.starlark_token.specs.Lexemes.{fault_view, lexeme_view};
 ghost use Rattle.starlark_token.specs.TokenViews.{fstring_quote_view, token_view};
 
-use crate::kinds::number_of_kind;
+use crate::lexeme_kinds::number_of_kind;
 use starlark_syntax::lexer::{FStringQuote, LexemeError, PlainKind, PlainLexeme, Token, TokenInt};
 
 /// A lexeme: its place in the text, its kind, and where its value is among the values.

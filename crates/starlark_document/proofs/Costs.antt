@@ -6,7 +6,7 @@ use Rattle.std.proofs.lemmas.Nat.{mul-le}
 use Rattle.std.specs.Prelude.{◌*◌, ◌⊎◌, min, IfSome, Result}
 use Rattle.starlark_base.specs.Diagnostics.{Diagnosed}
 use Rattle.starlark_document.specs.Inner.Costs.{IsCostSoFar, IsPaid, IsPartCost, IsTextCost, cost_sum}
-use Rattle.starlark_document.specs.declared.lexing.LexingCost.{LexingCost}
+use Rattle.starlark_document.specs.declared.segment_lexing.LexingCost.{LexingCost}
 use Rattle.starlark_grammar.specs.Words.{Text}
 use Rattle.starlark_syntax.specs.RecoveringLexer.{AreReadsOn, HasReadOn, is_memory}
 use Rattle.starlark_syntax.specs.declared.error.kinds.ErrorKind.{ErrorKind}

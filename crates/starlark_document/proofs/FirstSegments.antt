@@ -7,13 +7,13 @@ use Rattle.std.proofs.lemmas.List.{length-take-le, take_all}
 use Rattle.starlark_base.specs.Diagnostics.{Diagnosed}
 use Rattle.starlark_base.specs.Places.{is_lf}
 use Rattle.starlark_base.specs.Sources.{SourceFile}
-use Rattle.starlark_document.specs.Inner.Fronts.{IsFirstSegment, IsFront, given_of, is_dedent_item, refused_of, without_newline}
+use Rattle.starlark_document.specs.Inner.LexedFronts.{IsFirstSegment, IsLexedFront, given_of, is_dedent_item, refused_of, without_newline}
 use Rattle.starlark_document.specs.Inner.Segments.{AreFaults, text_in}
-use Rattle.starlark_document.specs.declared.fronts.Front.{Front}
+use Rattle.starlark_document.specs.declared.lexed_fronts.LexedFront.{LexedFront}
 use Rattle.starlark_document.specs.declared.segments.Segment.{Segment}
 use Rattle.starlark_document.proofs.FrontItems.{refused_both}
-use Rattle.starlark_document.proofs.Laws.{items_are_found, items_close, items_cut}
-use Rattle.starlark_document.proofs.Newlines.{without_shown}
+use Rattle.starlark_document.proofs.SegmentLaws.{items_are_found, items_close, items_cut}
+use Rattle.starlark_document.proofs.LineEndings.{without_shown}
 use Rattle.starlark_grammar.specs.Words.{Text}
 use Rattle.starlark_syntax.specs.Joining.{begins_plainly, is_closed, is_closed_from, without_last_newline}
 use Rattle.starlark_syntax.specs.Recovery.{recovered}
@@ -60,7 +60,7 @@ empty_closed [] e = refl
 empty_closed (b ∷ bs) e = absurd (omega (arith, e))
 
 -- a text that ends with a newline of some bytes is closed
-pub line_closed : (text : Text) (front : Front) → IsFront text (all_items text) front → front.line_end ≡ length text → is_closed text ≡ true
+pub line_closed : (text : Text) (front : LexedFront) → IsLexedFront text (all_items text) front → front.line_end ≡ length text → is_closed text ≡ true
 line_closed text front is end = by_length (length text) refl
   where
     by_length : (n : ℕ) → length text ≡ n → is_closed text ≡ true
@@ -76,7 +76,7 @@ no_faults (Given lexeme ∷ more) all = no_faults more all.1
 no_faults (Refused fault ∷ more) all = cc
 
 -- the segment of a whole text that is the last of a document
-pub whole_last : (text : Text) (front : Front) (segment : Segment) → IsFront text (all_items text) front
+pub whole_last : (text : Text) (front : LexedFront) (segment : Segment) → IsLexedFront text (all_items text) front
     → text_in segment ≡ text → segment.len ≡ length text → segment.lines ≡ count_by is_lf text → segment.content.value.lexemes.items ≡ front.lexemes.items → segment.content.value.faults ≡ front.faults
     → IsFirstSegment text true segment
 whole_last text front segment is same len lines lexemes faults = record {
@@ -95,7 +95,7 @@ whole_last text front segment is same len lines lexemes faults = record {
 }
 
 -- the segment of a whole text that others follow
-pub whole_open : (text : Text) (front rest : Front) (segment : Segment) → IsFront text (all_items text) front → is_closed text ≡ true
+pub whole_open : (text : Text) (front rest : LexedFront) (segment : Segment) → IsLexedFront text (all_items text) front → is_closed text ≡ true
     → map lexeme_view rest.lexemes.items ≡ without_newline (map lexeme_view front.lexemes.items) → rest.faults ≡ front.faults
     → text_in segment ≡ text → segment.len ≡ length text → segment.lines ≡ count_by is_lf text → segment.content.value.lexemes.items ≡ rest.lexemes.items → segment.content.value.faults ≡ rest.faults
     → IsFirstSegment text false segment
@@ -118,8 +118,8 @@ whole_open text front rest segment is closed taken kept same len lines lexemes f
 }
 
 -- the segment of a text up to where it can be cut, before an item that isn't a `Dedent`
-pub cut_first : (text : Text) (is_last : Bool) (items : List LexerItem) (item : LexerItem) (more : List LexerItem) (front : Front) (segment : Segment)
-    → all_items text ≡ items ++ (item ∷ more) → IsFront text items front → front.is_cut ≡ true → is_dedent_item item ≡ false
+pub cut_first : (text : Text) (is_last : Bool) (items : List LexerItem) (item : LexerItem) (more : List LexerItem) (front : LexedFront) (segment : Segment)
+    → all_items text ≡ items ++ (item ∷ more) → IsLexedFront text items front → front.is_cut ≡ true → is_dedent_item item ≡ false
     → text_in segment ≡ take front.line_end text → segment.len ≡ front.line_end → segment.lines ≡ count_by is_lf (take front.line_end text) → segment.content.value.lexemes.items ≡ front.lexemes.items → segment.content.value.faults ≡ front.faults
     → IsFirstSegment text is_last segment
 cut_first text is_last items item more front segment all is is_cut other same len lines lexemes faults =

@@ -5,9 +5,9 @@ use Rattle.std.specs.Str.{IsCharBoundary}
 use Rattle.std.proofs.lemmas.List.{map-append}
 use Rattle.starlark_base.specs.Diagnostics.{Diagnosed}
 use Rattle.starlark_base.specs.Sources.{SourceFile}
-use Rattle.starlark_document.specs.Inner.Fronts.{EndsLine, EndsPlainly, IsFront, given_of, is_dedent_item, is_newline_view, refused_of}
+use Rattle.starlark_document.specs.Inner.LexedFronts.{EndsLine, EndsPlainly, IsLexedFront, given_of, is_dedent_item, is_newline_view, refused_of}
 use Rattle.starlark_document.specs.Inner.Segments.{AreFaults, IsPlaced}
-use Rattle.starlark_document.specs.declared.fronts.Front.{Front}
+use Rattle.starlark_document.specs.declared.lexed_fronts.LexedFront.{LexedFront}
 use Rattle.starlark_document.specs.declared.segments.PlacedFault.{PlacedFault}
 use Rattle.starlark_grammar.specs.Tokens as grammar
 use Rattle.starlark_grammar.specs.Words.{Text}
@@ -73,10 +73,10 @@ newline_is (Whole grammar.Newline) is = refl
 newline_is node is = cc
 
 -- a lexeme that isn't a `Newline` of some bytes
-pub front_more : (text : Text) (items : List LexerItem) (old new : Front) (lexeme : ℕ × Token × ℕ) → IsFront text items old
+pub front_more : (text : Text) (items : List LexerItem) (old new : LexedFront) (lexeme : ℕ × Token × ℕ) → IsLexedFront text items old
     → (old.is_cut ≡ true → is_dedent_item (Given (lexeme_view lexeme)) ≡ true)
     → new.lexemes.items ≡ old.lexemes.items ++ (lexeme ∷ []) → new.faults ≡ old.faults → new.line_end ≡ old.line_end → new.is_cut ≡ old.is_cut
-    → IsFront text (items ++ (Given (lexeme_view lexeme) ∷ [])) new
+    → IsLexedFront text (items ++ (Given (lexeme_view lexeme) ∷ [])) new
 front_more text items old new lexeme is dedent lexemes faults line_end is_cut = record {
   lexemes = ap (map lexeme_view) lexemes ∙ map-append lexeme_view old.lexemes.items (lexeme ∷ []) ∙ ap (λ ls. ls ++ (lexeme_view lexeme ∷ [])) is.lexemes ∙ sym (given_both items (Given (lexeme_view lexeme) ∷ []));
   faults = rw (faults, refused_both items (Given (lexeme_view lexeme) ∷ []), append-nil (refused_of items)) is.faults;
@@ -87,11 +87,11 @@ front_more text items old new lexeme is dedent lexemes faults line_end is_cut = 
 }
 
 -- a `Newline` of some bytes
-pub front_line : (text : Text) (items : List LexerItem) (old new : Front) (lexeme : ℕ × Token × ℕ) → IsFront text items old
+pub front_line : (text : Text) (items : List LexerItem) (old new : LexedFront) (lexeme : ℕ × Token × ℕ) → IsLexedFront text items old
     → is_newline_view (token_view lexeme.1) ≡ true → lexeme.0 < lexeme.2 → lexeme.2 ≤ length text → IsCharBoundary text lexeme.2
     → (new.is_cut ≡ true → begins_plainly (drop lexeme.2 text) ≡ true)
     → new.lexemes.items ≡ old.lexemes.items ++ (lexeme ∷ []) → new.faults ≡ old.faults → new.line_end ≡ lexeme.2
-    → IsFront text (items ++ (Given (lexeme_view lexeme) ∷ [])) new
+    → IsLexedFront text (items ++ (Given (lexeme_view lexeme) ∷ [])) new
 front_line text items old new lexeme is newline some within boundary plain lexemes faults line_end = record {
   lexemes = ap (map lexeme_view) lexemes ∙ map-append lexeme_view old.lexemes.items (lexeme ∷ []) ∙ ap (λ ls. ls ++ (lexeme_view lexeme ∷ [])) is.lexemes ∙ sym (given_both items (Given (lexeme_view lexeme) ∷ []));
   faults = rw (faults, refused_both items (Given (lexeme_view lexeme) ∷ []), append-nil (refused_of items)) is.faults;
@@ -118,10 +118,10 @@ front_line text items old new lexeme is newline some within boundary plain lexem
 }
 
 -- a fault
-pub front_fault : (text : Text) (items : List LexerItem) (old new : Front) (fault : grammar.Spanned grammar.Fault) (placed : PlacedFault) → IsFront text items old
+pub front_fault : (text : Text) (items : List LexerItem) (old new : LexedFront) (fault : grammar.Spanned grammar.Fault) (placed : PlacedFault) → IsLexedFront text items old
     → (old.is_cut ≡ true → is_dedent_item (Refused fault) ≡ true) → IsPlaced fault placed
     → new.lexemes ≡ old.lexemes → new.faults.items ≡ old.faults.items ++ (placed ∷ []) → new.line_end ≡ old.line_end → new.is_cut ≡ old.is_cut
-    → IsFront text (items ++ (Refused fault ∷ [])) new
+    → IsLexedFront text (items ++ (Refused fault ∷ [])) new
 front_fault text items old new fault placed is dedent is_placed lexemes faults line_end is_cut = record {
   lexemes = rw (lexemes, given_both items (Refused fault ∷ []), append-nil (given_of items)) is.lexemes;
   faults = rw (faults, refused_both items (Refused fault ∷ [])) (are_faults_more (refused_of items) old.faults.items fault placed is.faults is_placed);
@@ -132,11 +132,11 @@ front_fault text items old new fault placed is dedent is_placed lexemes faults l
 }
 
 -- an exception, which is that of a fault
-pub front_exception : (text : Text) (items : List LexerItem) (old new : Front) (file : SourceFile) (next : LexerItem) (exception : Diagnosed ErrorKind) (placed : PlacedFault) → IsFront text items old
+pub front_exception : (text : Text) (items : List LexerItem) (old new : LexedFront) (file : SourceFile) (next : LexerItem) (exception : Diagnosed ErrorKind) (placed : PlacedFault) → IsLexedFront text items old
     → Answers file next (Err (refusal.Error exception)) → (old.is_cut ≡ true → is_dedent_item next ≡ true)
     → ((file : SourceFile) (fault : grammar.Spanned grammar.Fault) → IsException file fault exception → IsPlaced fault placed)
     → new.lexemes ≡ old.lexemes → new.faults.items ≡ old.faults.items ++ (placed ∷ []) → new.line_end ≡ old.line_end → new.is_cut ≡ old.is_cut
-    → IsFront text (items ++ (next ∷ [])) new
+    → IsLexedFront text (items ++ (next ∷ [])) new
 front_exception text items old new file (Given lexeme) exception placed is answers dedent are lexemes faults line_end is_cut = absurd answers
 front_exception text items old new file (Refused fault) exception placed is answers dedent are lexemes faults line_end is_cut =
     front_fault text items old new fault placed is dedent (are file fault answers) lexemes faults line_end is_cut

@@ -3,7 +3,7 @@ use Rattle.std.proofs.Common.{◌≡◌, ℕ, zero, suc, ◌+◌, ◌≤◌, Lis
 use Rattle.std.proofs.lemmas.List.{drop_all}
 use Rattle.std.proofs.lemmas.Option.{same_Some}
 use Rattle.std.specs.List.{AllByRecursion, slice_get}
-use Rattle.starlark_document.proofs.Places.{drop_at}
+use Rattle.starlark_document.proofs.SegmentOffsets.{drop_at}
 use Rattle.starlark_document.specs.Inner.Segments.{AreBounded, AreFaults, IsBounded, IsPlaced, faults_along, faults_from, lexemes_along, lexemes_from, text_in, text_of}
 use Rattle.starlark_document.specs.declared.segments.PlacedFault.{PlacedFault}
 use Rattle.starlark_document.specs.declared.segments.Segment.{Segment}

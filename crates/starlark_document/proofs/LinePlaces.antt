@@ -9,17 +9,17 @@ use Rattle.std.proofs.lemmas.Option.{same_Some, slice_get_within}
 use Rattle.starlark_base.specs.Places.{is_lf, place_after, place_at}
 use Rattle.starlark_base.specs.declared.codemap.resolved.ResolvedPos.{ResolvedPos}
 use Rattle.starlark_document.specs.Inner.Segments.{AreLaid, AreOpen, HaveLines, text_in, text_of}
-use Rattle.starlark_document.specs.Places.{StandsAt, place_of}
+use Rattle.starlark_document.specs.Utf16Places.{StandsAt, place_of}
 use Rattle.starlark_document.specs.declared.line_places.Place.{Place}
 use Rattle.starlark_document.specs.declared.segments.Segment.{Segment}
 use Rattle.std.proofs.lemmas.Str.{IsUtf8-between, IsUtf8-take, encodes-chars}
 use Rattle.std.proofs.Math.Utf8.{encodes}
 use Rattle.std.specs.Prelude.{IfSome, Option}
-use Rattle.starlark_document.specs.Inner.Parts.{IsPlaceIn}
+use Rattle.starlark_document.specs.Inner.EditedParts.{IsPlaceIn}
 use Rattle.starlark_document.specs.declared.segments.SegmentPlace.{SegmentPlace}
-use Rattle.starlark_document.proofs.Boundaries.{IsCharBoundary-in_own, IsCharBoundary-of_part}
-use Rattle.starlark_document.proofs.Laid.{laid_around}
-use Rattle.starlark_document.proofs.Places.{HaveLens-laid, IsUtf8-text_of, all_at, len_at, text_of-at, text_of-more}
+use Rattle.starlark_document.proofs.SlicedTexts.{IsCharBoundary-in_own, IsCharBoundary-of_part}
+use Rattle.starlark_document.proofs.LaidSegments.{laid_around}
+use Rattle.starlark_document.proofs.SegmentOffsets.{HaveLens-laid, IsUtf8-text_of, all_at, len_at, text_of-at, text_of-more}
 use Rattle.starlark_grammar.specs.Words.{Text}
 use Rattle.starlark_grammar.proofs.Joining.Followed.{ends_line, ends_line_of}
 use Rattle.starlark_syntax.specs.Joining.{is_closed}

@@ -2,7 +2,7 @@
 use Rattle.std.proofs.Common.{◌≡◌, ℕ, ◌+◌, ◌≤◌, true, List, [], ◌∷◌, ◌++◌, map, length, refl, ap, ◌∙◌, sym, arith, append_assoc, length-append}
 use Rattle.std.proofs.lemmas.List.{map-append}
 use Rattle.std.specs.List.{AllByRecursion}
-use Rattle.starlark_document.proofs.Found.{all_bounded, faults_by, faults_laid, lexemes_laid, map_moved}
+use Rattle.starlark_document.proofs.FoundInSegments.{all_bounded, faults_by, faults_laid, lexemes_laid, map_moved}
 use Rattle.starlark_document.specs.Documents.{AllInside, SameOutside, faults_of, lexemes_of}
 use Rattle.starlark_document.specs.Inner.Segments.{AreLaid, IsBounded, faults_along, lexemes_along, text_in, text_of}
 use Rattle.starlark_document.specs.declared.segments.Segment.{Segment}

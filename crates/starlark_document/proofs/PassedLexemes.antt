@@ -4,7 +4,7 @@ use Rattle.std.proofs.lemmas.Bool.{cases_lt, le-leb, lt-leb}
 use Rattle.std.proofs.lemmas.Bool.Decides.{nat_tests}
 use Rattle.std.proofs.lemmas.List.{drop_all}
 use Rattle.std.specs.List.{AllByRecursion, prefix_len, slice_get}
-use Rattle.starlark_document.proofs.Places.{drop_at, text_of-split}
+use Rattle.starlark_document.proofs.SegmentOffsets.{drop_at, text_of-split}
 use Rattle.starlark_document.specs.Documents.{ends_by}
 use Rattle.starlark_document.specs.Inner.Segments.{AreBounded, IsBounded, lexemes_along, lexemes_from, text_in, text_of}
 use Rattle.starlark_document.specs.declared.segments.Segment.{Segment}

@@ -2,12 +2,12 @@
 use Rattle.std.proofs.Common.{◌≡◌, ℕ, ◌+◌, ◌-◌, ◌≤◌, List, [], ◌++◌, Some, ap, arith, drop, length, subst, sym, take, true, ◌∙◌}
 use Rattle.std.specs.List.{slice_get}
 use Rattle.std.specs.Str.{IsCharBoundary}
-use Rattle.starlark_document.proofs.Boundaries.{IsCharBoundary-in_own, range_in_own}
-use Rattle.starlark_document.proofs.Places.{HaveLens-laid, part_reaches, text_of-part}
+use Rattle.starlark_document.proofs.SlicedTexts.{IsCharBoundary-in_own, range_in_own}
+use Rattle.starlark_document.proofs.SegmentOffsets.{HaveLens-laid, part_reaches, text_of-part}
 use Rattle.starlark_document.specs.Documents.{IsRange}
-use Rattle.starlark_document.specs.Inner.Parts.{IsPlaceIn, IsRangeIn}
+use Rattle.starlark_document.specs.Inner.EditedParts.{IsPlaceIn, IsRangeIn}
 use Rattle.starlark_document.specs.Inner.Segments.{AreLaid, HaveLens, text_of}
-use Rattle.starlark_document.specs.declared.parts.SegmentRange.{SegmentRange}
+use Rattle.starlark_document.specs.declared.edited_parts.SegmentRange.{SegmentRange}
 use Rattle.starlark_document.specs.declared.segments.Segment.{Segment}
 use Rattle.starlark_document.specs.declared.segments.SegmentPlace.{SegmentPlace}
 use Rattle.starlark_grammar.specs.Words.{Text}

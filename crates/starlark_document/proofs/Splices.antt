@@ -14,17 +14,17 @@ use Rattle.std.specs.declared.vec.IntoIter.{IntoIter}
 use Rattle.std.specs.Vec.Iter.{into_iter_items, into_iter_len, into_iter_steps}
 use Rattle.std.specs.List.{slice_get, slice_range, slice_set, splice}
 use Rattle.std.proofs.Math.Seq.{drop-append-add, drop-append_seam, take-append-add, take-append_seam}
-use Rattle.starlark_document.proofs.Laid.{first_taken, follows_first, is_first_after, laid_append, laid_around, laid_at, laid_first, laid_head, len_at, open_append, take_one, text_append, text_at, text_split}
+use Rattle.starlark_document.proofs.LaidSegments.{first_taken, follows_first, is_first_after, laid_append, laid_around, laid_at, laid_first, laid_head, len_at, open_append, take_one, text_append, text_at, text_split}
 use Rattle.starlark_document.proofs.Outside.{faults_outside, lexemes_outside}
 use Rattle.starlark_document.specs.Documents.{IsChange, IsRange, SameOutside, edited, faults_of, lexemes_of}
 use Rattle.starlark_document.specs.declared.document.Change.{Change}
 use Rattle.starlark_grammar.specs.Tokens as grammar
-use Rattle.starlark_document.specs.Inner.Fronts.{IsFirstSegment}
+use Rattle.starlark_document.specs.Inner.LexedFronts.{IsFirstSegment}
 use Rattle.starlark_document.specs.Inner.Costs.{IsPartCost}
-use Rattle.starlark_document.specs.Inner.Parts.{IsLexedPart, IsPart, IsPlaceIn, IsReplaced}
+use Rattle.starlark_document.specs.Inner.EditedParts.{IsLexedPart, IsEditedPart, IsPlaceIn, IsReplaced}
 use Rattle.starlark_document.specs.Inner.Segments.{AreLaid, AreOpen, Follows, text_in, text_of}
-use Rattle.starlark_document.specs.declared.parts.LexedPart.{LexedPart}
-use Rattle.starlark_document.specs.declared.parts.Part.{Part}
+use Rattle.starlark_document.specs.declared.edited_parts.LexedPart.{LexedPart}
+use Rattle.starlark_document.specs.declared.edited_parts.EditedPart.{EditedPart}
 use Rattle.starlark_document.specs.declared.segments.Segment.{Segment}
 use Rattle.starlark_document.specs.declared.segments.SegmentPlace.{SegmentPlace}
 use Rattle.starlark_grammar.specs.Words.{Text}
@@ -47,7 +47,7 @@ taken segments from to order =
 
 -- The part with the segment before it
 
-module _ (segments : List Segment) (part : Part) (x : Segment) (laid : AreLaid true segments) (some : 0 < part.first.index) (is : x ≡ get_or segments (part.first.index - 1) x) where
+module _ (segments : List Segment) (part : EditedPart) (x : Segment) (laid : AreLaid true segments) (some : 0 < part.first.index) (is : x ≡ get_or segments (part.first.index - 1) x) where
   earlier_text : part.first.index ≤ length segments → text_of (take part.first.index segments) ≡ text_of (take (part.first.index - 1) segments) ++ text_in x
   earlier_text within =
       let e : part.first.index - 1 + 1 ≡ part.first.index = omega arith in
@@ -74,8 +74,8 @@ module _ (segments : List Segment) (part : Part) (x : Segment) (laid : AreLaid t
       go : (n : ℕ) → n < length segments → x ≡ get_or segments n x → (n ≡ 0) ⊎ (begins_plainly (text_in x) ≡ true)
       go n less at = by n (take n segments) (length-take n segments ∙ omega arith) (laid_head (is_first_after true (take n segments)) x (drop (n + 1) segments) (laid_at segments n x laid less at).1).0
 
-  pub earlier : (whole : Text) (more : Part) → IsReplaced segments whole part → more.first.index ≡ part.first.index - 1 → more.first.begin ≡ part.first.begin - x.len → more.end ≡ part.end
-      → string_bytes more.text ≡ text_in x ++ string_bytes part.text → IsPart segments whole more
+  pub earlier : (whole : Text) (more : EditedPart) → IsReplaced segments whole part → more.first.index ≡ part.first.index - 1 → more.first.begin ≡ part.first.begin - x.len → more.end ≡ part.end
+      → string_bytes more.text ≡ text_in x ++ string_bytes part.text → IsEditedPart segments whole more
   earlier whole more replaced index at end is_text = record {
     replaced = record {
       order = omega (arith, index, end, replaced.order);
@@ -163,7 +163,7 @@ module _ (segments : List Segment) (place : SegmentPlace) (x : Segment) (at : �
       ap (λ (t : Text). drop at t) text_here ∙ back_of (text_of (take place.index segments)) (text_in x) (text_of (drop (place.index + 1) segments)) at (omega (arith, here.after, here.found.begin)) (omega (arith, here.before, here.found.begin))
       ∙ ap (λ (n : ℕ). drop (at - n) (text_in x) ++ text_of (drop (place.index + 1) segments)) (sym here.found.begin)
 
-pub touched : (segments : List Segment) (from to : ℕ) (inserted : Text) (first last : SegmentPlace) (x y : Segment) (part : Part)
+pub touched : (segments : List Segment) (from to : ℕ) (inserted : Text) (first last : SegmentPlace) (x y : Segment) (part : EditedPart)
     → IsIn segments first x from → IsIn segments last y to → first.index ≤ last.index → part.first ≡ first → part.end ≡ last.index + 1
     → string_bytes part.text ≡ (take (from - first.begin) (text_in x) ++ inserted) ++ drop (to - last.begin) (text_in y)
     → IsReplaced segments (edited from to inserted (text_of segments)) part
@@ -207,7 +207,7 @@ spliced_one segments news from to x next order within one is =
 
 -- Segments are cut off the front of a text, to which the segments up to an index were taken in; the rest of it begins
 -- plainly, unless it is the first of the document.
-pub record IsLexing (segments : List Segment) (part : Part) (text : Text) (end len read : ℕ) (done : List Segment) : Type 0 where
+pub record IsLexing (segments : List Segment) (part : EditedPart) (text : Text) (end len read : ℕ) (done : List Segment) : Type 0 where
   pub order : part.end ≤ end
   pub within : end ≤ length segments
   pub same : text ++ text_of (drop end segments) ≡ string_bytes part.text ++ text_of (drop part.end segments)
@@ -218,7 +218,7 @@ pub record IsLexing (segments : List Segment) (part : Part) (text : Text) (end l
   pub plain : ((done ≡ []) × (part.first.index ≡ 0)) ⊎ (begins_plainly rest ≡ true)
   pub least : len ≤ read
 
-module _ (segments : List Segment) (part : Part) (text : Text) (end len read : ℕ) (done : List Segment) (is : IsLexing segments part text end len read done) where
+module _ (segments : List Segment) (part : EditedPart) (text : Text) (end len read : ℕ) (done : List Segment) (is : IsLexing segments part text end len read done) where
   pub lexing_within : len ≤ length text
   lexing_within = omega (arith, is.lens, ap length is.is_rest, length-append (text_of done) is.rest)
 
@@ -228,7 +228,7 @@ module _ (segments : List Segment) (part : Part) (text : Text) (end len read : �
   pub lexing_taken : take len text ≡ text_of done
   lexing_taken = ap (λ (n : ℕ). take n text) is.lens ∙ ap (λ (t : Text). take (length (text_of done)) t) is.is_rest ∙ take-append_seam (text_of done) is.rest
 
-  pub lexing_fits : (whole : Text) → IsPart segments whole part → length text ≤ length whole
+  pub lexing_fits : (whole : Text) → IsEditedPart segments whole part → length text ≤ length whole
   lexing_fits whole parts =
       let all = length-append (text_of (take part.first.index segments)) (string_bytes part.text ++ text_of (drop part.end segments)) in
       omega (arith, ap length parts.replaced.same, all, ap length is.same, length-append text (text_of (drop end segments)))
@@ -237,7 +237,7 @@ module _ (segments : List Segment) (part : Part) (text : Text) (end len read : �
   lexing_boundary utf8 = IsCharBoundary-from_take text len utf8 lexing_within (subst IsUtf8 (sym lexing_taken) (utf8_texts done))
 
 -- at the start nothing is lexed
-pub lexing_none : (segments : List Segment) (whole : Text) (part : Part) (done : List Segment) → IsPart segments whole part → done ≡ [] → IsLexing segments part (string_bytes part.text) part.end 0 0 done
+pub lexing_none : (segments : List Segment) (whole : Text) (part : EditedPart) (done : List Segment) → IsEditedPart segments whole part → done ≡ [] → IsLexing segments part (string_bytes part.text) part.end 0 0 done
 lexing_none segments whole part done parts none = record {
   order = omega arith;
   within = parts.replaced.within;
@@ -269,7 +269,7 @@ some_plain [] plain = absurd (the_false plain)
     the_false e = cc
 some_plain (b ∷ bs) plain = omega arith
 
-module _ (segments : List Segment) (part : Part) (text : Text) (end len read : ℕ) (done : List Segment) (is : IsLexing segments part text end len read done)
+module _ (segments : List Segment) (part : EditedPart) (text : Text) (end len read : ℕ) (done : List Segment) (is : IsLexing segments part text end len read done)
     (is_last : Bool) (x : Segment) (cut : IsFirstSegment (drop len text) is_last x) where
   rest_len : length text ≡ len + length is.rest
   rest_len = ap length is.is_rest ∙ length-append (text_of done) is.rest ∙ omega (arith, is.lens)
@@ -342,7 +342,7 @@ module _ (segments : List Segment) (part : Part) (text : Text) (end len read : �
       by_last false e at = absurd (omega (arith, inner e))
 
 -- segments after the part are taken in
-pub lexing_more : (segments : List Segment) (part : Part) (text more : Text) (end next len read : ℕ) (done : List Segment) → IsLexing segments part text end len read done → (read_more : ℕ) → len ≤ read_more
+pub lexing_more : (segments : List Segment) (part : EditedPart) (text more : Text) (end next len read : ℕ) (done : List Segment) → IsLexing segments part text end len read done → (read_more : ℕ) → len ≤ read_more
     → end ≤ next → next ≤ length segments → more ≡ text ++ text_of (slice_range segments end next) → IsLexing segments part more next len read_more done
 lexing_more segments part text more end next len read done is read_more least after within is_more = record {
   order = omega (arith, is.order);
@@ -390,7 +390,7 @@ outside_at {A} b b' o o' n n' xs xs' ys ys' e f g h k same =
     (subst (λ (zs : List (grammar.Spanned A)). SameOutside b o n zs ys') h
     (subst (λ (zs : List (grammar.Spanned A)). SameOutside b o n xs zs) k same))))
 
-module _ (segments : List Segment) (new : Text) (part : Part) (lexed : LexedPart) (parts : IsPart segments new part) (is : IsLexedPart segments part lexed) where
+module _ (segments : List Segment) (new : Text) (part : EditedPart) (lexed : LexedPart) (parts : IsEditedPart segments new part) (is : IsLexedPart segments part lexed) where
   pub replaced_text : text_of (splice segments part.first.index lexed.end lexed.segments.items) ≡ new
   replaced_text =
       text_append (take part.first.index segments) (lexed.segments.items ++ drop lexed.end segments)

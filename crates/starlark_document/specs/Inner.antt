@@ -1,5 +1,5 @@
 -- What only contracts of inner functions, and proofs, speak of.
 pub mod Costs
 pub mod Segments
-pub mod Fronts
-pub mod Parts
+pub mod LexedFronts
+pub mod EditedParts

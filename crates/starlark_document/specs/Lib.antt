@@ -1,3 +1,3 @@
 pub mod Documents
 pub mod Inner
-pub mod Places
+pub mod Utf16Places

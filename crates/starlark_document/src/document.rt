@@ -6,17 +6,17 @@ ghost use Rattle.std.specs.Str.{IsCharBoundary};
 ghost use Rattle.starlark_base.specs.Lines.{line_count};
 ghost use Rattle.starlark_base.specs.Refusals.{IsRefused};
 ghost use Rattle.starlark_document.specs.Documents.{AreEdits, IsChange, IsRange, IsStop, edit_view, edited, ends_by, faults_of, lexemes_of, text_after};
-ghost use Rattle.starlark_document.specs.Inner.Parts.{IsLexedPart, IsPart};
+ghost use Rattle.starlark_document.specs.Inner.EditedParts.{IsLexedPart, IsEditedPart};
 ghost use Rattle.starlark_document.specs.Inner.Segments.{AreLaid, text_of};
-ghost use Rattle.starlark_document.specs.Places.{StandsAt, place_of};
+ghost use Rattle.starlark_document.specs.Utf16Places.{StandsAt, place_of};
 ghost use Rattle.starlark_grammar.specs.Words.{Text};
 ghost use Rattle.starlark_run.specs.Calls.{WritesText};
 
-use crate::line_places::{Place, newlines_in, offset_in_segments, place_in};
-use crate::parts::{
-    LexedPart, Part, SegmentRange, append_texts, is_boundary_in, lex_part, part_of_edit, range_in,
-    write_texts,
+use crate::edited_parts::{
+    EditedPart, LexedPart, SegmentRange, append_texts, is_boundary_in, lex_part, part_of_edit,
+    range_in, write_texts,
 };
+use crate::line_places::{Place, newlines_in, offset_in_segments, place_in};
 use crate::segments::{Faults, Lexemes, Segment, SegmentPlace, passed_len, segment_at};
 use starlark_run::devices::WriteDevice;
 use starlark_syntax::codemap::{CodeMap, CodeMapId, OrMemory, SourceTooLong};
@@ -161,12 +161,12 @@ fn replace(
     old_len: usize,
     len: usize,
 ) -> Result<Change, AllocError>
-    requires part { (new : Text) × (part : Part) × IsPart segments.old.items new part × (part.first ≡ first) × IsLexedPart segments.old.items part lexed × (len ≡ length new) }
+    requires part { (new : Text) × (part : EditedPart) × IsEditedPart segments.old.items new part × (part.first ≡ first) × IsLexedPart segments.old.items part lexed × (len ≡ length new) }
     requires order { first.index < lexed.end }
     requires laid { AreLaid true segments.old.items }
     requires old_len { old_len ≡ length (text_of segments.old.items) }
     requires fits { (old_len < 2 ^ 32) × (len < 2 ^ 32) }
-    ensures text { OnOk result ((new : Text) (part : Part) → IsPart segments.old.items new part → part.first ≡ first → IsLexedPart segments.old.items part lexed → text_of segments.new.items ≡ new) }
+    ensures text { OnOk result ((new : Text) (part : EditedPart) → IsEditedPart segments.old.items new part → part.first ≡ first → IsLexedPart segments.old.items part lexed → text_of segments.new.items ≡ new) }
     ensures laid { AreLaid true segments.new.items }
     ensures change { IfOk result (IsChange (text_of segments.old.items) (text_of segments.new.items)) }
     ensures refused { OnErr result (text_of segments.new.items ≡ text_of segments.old.items) }
@@ -210,7 +210,7 @@ impl Document {
             return Err(OrMemory::Error(SourceTooLong));
         }
         let file = empty_file(alloc)?;
-        let part = Part {
+        let part = EditedPart {
             first: SegmentPlace { index: 0, begin: 0 },
             end: 0,
             text: String::from_str(alloc, text)?,

@@ -5,10 +5,10 @@
 #![tactic(auto)]
 
 mod document;
-mod fronts;
-mod lexing;
+mod edited_parts;
+mod lexed_fronts;
 mod line_places;
-mod parts;
+mod segment_lexing;
 mod segments;
 
 pub use document::{Change, Document, Edit, EditError};

@@ -4,7 +4,7 @@ ghost use Rattle.std.specs.Prelude.{◌≡◌, ◌<◌, ◌^◌, ◌↔◌, IfSo
 ghost use Rattle.std.specs.Str.{IsCharBoundary};
 ghost use Rattle.starlark_base.specs.Places.{is_lf};
 ghost use Rattle.starlark_document.specs.Inner.Segments.{AreLaid, HaveLines, text_of};
-ghost use Rattle.starlark_document.specs.Places.{StandsAt, place_of};
+ghost use Rattle.starlark_document.specs.Utf16Places.{StandsAt, place_of};
 
 use crate::segments::{Segment, segment_at};
 use starlark_base::position::Position;

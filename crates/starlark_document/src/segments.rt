@@ -3,7 +3,7 @@
 ghost use Rattle.std.specs.Prelude.{◌≡◌, ◌≤◌, ◌<◌, ◌+◌, ◌^◌, IfSome, None, Some, [], drop, length, nat_le};
 ghost use Rattle.std.specs.List.{prefix_len, slice_get};
 ghost use Rattle.starlark_document.specs.Documents.{IsKindOf};
-ghost use Rattle.starlark_document.specs.Inner.Parts.{IsPlaceIn};
+ghost use Rattle.starlark_document.specs.Inner.EditedParts.{IsPlaceIn};
 ghost use Rattle.starlark_document.specs.Inner.Segments.{AreBounded, HaveLens, text_of};
 ghost use Rattle.starlark_document.specs.Inner.Segments as inner;
 ghost use Rattle.starlark_grammar.specs.Tokens.{Fault, Spanned};

@@ -1,4 +1,4 @@
 -- Open widths, indents and dedents.
 pub mod Widths
 pub mod Balance
-pub mod Totals
+pub mod LayoutTotals

@@ -6,15 +6,15 @@
 -- Words/EarlierTable, Reading/EarlierTable: `rf'`, `rf"`: a text without them is read the same by both tables.
 -- Words/Printed: printed words: keywords and operators are read back as themselves.
 -- Words/IntegerValues: integers: leading zeros and case don't change a value.
--- Lines: newlines in words: only line ends and escaped ones have an LF, at their end.
+-- WordNewlines: newlines in words: only line ends and escaped ones have an LF, at their end.
 -- Literals/Bodies, Reading/Steps: lengths: no piece is longer than its text, none but a first margin is empty.
 -- Literals/Forms, ListedBodies: bodies as lists: items by their form; a scanned body is the only list with nothing
 --   forbidden.
 -- Reading/Readings: readings: of two readings one begins the other; one outcome.
 -- Reading/Faults: faults: the fault lies inside of the text.
 -- Indentation/Widths: open widths: what one more line of code makes of them.
--- Indentation/Balance, Totals: indents: indents and dedents balance; lexemes are bounded.
--- Order/Gaps, Lexemes, Literals/Silent: order: lexemes are in order, with only gaps between them.
+-- Indentation/Balance, LayoutTotals: indents: indents and dedents balance; lexemes are bounded.
+-- Order/Gaps, OrderedLexemes, Literals/Silent: order: lexemes are in order, with only gaps between them.
 -- Order/Inside: inside: all lexemes lie inside of the text.
 -- Order/Edges, Boundaries, WholeTexts: UTF-8 boundaries: lexemes begin and end at boundaries.
 -- Lists, Choices: for all: facts on lists, and on results of a test.
@@ -29,7 +29,7 @@
 -- Joining/KeptPlaces: kept cuts: in which piece, and after which lines of its margin, one lies.
 -- LineEnds/Texts, Fronts, Bodies, Margins, Pieces: CR LF: each piece is in the CR LF form with the same tokens.
 -- LineEnds/Readings: CR LF: so does the whole reading.
--- Recovery/Outcomes: outcomes: the laws of the outcomes, and bounds of the place where lexing begins again.
+-- Recovery/TextOutcomes: outcomes: the laws of the outcomes, and bounds of the place where lexing begins again.
 -- Recovery/Order, EarlierLexemes: order: lexemes and faults inside of the text, each in order.
 -- Recovery/FollowedStops, FollowedFaults, MarginTabs: texts after others: a fault that ends before its text stays.
 -- Recovery/DecidedFaults, MovedRestarts: decided faults: what follows a decided fault; a moved restart.
@@ -46,7 +46,7 @@ pub mod Indentation
 pub mod Reading
 pub mod Order
 pub mod Rows
-pub mod Lines
+pub mod WordNewlines
 pub mod Joining
 pub mod LineEnds
 pub mod Recovery

@@ -1,6 +1,6 @@
 -- Lexemes are in order, and lie between characters.
 pub mod Gaps
-pub mod Lexemes
+pub mod OrderedLexemes
 pub mod Edges
 pub mod Boundaries
 pub mod WholeTexts

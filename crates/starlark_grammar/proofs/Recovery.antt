@@ -1,5 +1,5 @@
 -- Texts that are lexed on after their faults, and texts after them.
-pub mod Outcomes
+pub mod TextOutcomes
 pub mod FollowedStops
 pub mod FollowedFaults
 pub mod MarginTabs

@@ -10,7 +10,7 @@ use Rattle.starlark_grammar.specs.Reading.{History, nothing, after_all, Reading,
 
 abbrev pub is_outside : Mode → Bool
 is_outside Outside = true
-is_outside place = false
+is_outside mode = false
 
 abbrev pub is_layout : Before → Bool
 is_layout Layout = true

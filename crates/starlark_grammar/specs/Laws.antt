@@ -53,14 +53,14 @@ GoodOrBad = (literal : Literal) (text : Text) → ((items : List Item) × IsGood
 
 -- A good literal is one token. Its value is what its items denote, and the closing quotes are its last bytes.
 abbrev pub GoodLiteralIsToken : Type 0
-GoodLiteralIsToken = (place : Mode) (kind : Kind) (opening : Opening) (len : ℕ) (text : Text) (items : List Item) → IsGoodBody (record { kind = kind; opening = opening }) text items
-    → literal place kind opening len text ≡ token (len + items_len items + length (closing_quotes opening)) (literal_token kind (items_value items))
+GoodLiteralIsToken = (mode : Mode) (kind : Kind) (opening : Opening) (len : ℕ) (text : Text) (items : List Item) → IsGoodBody (record { kind = kind; opening = opening }) text items
+    → literal mode kind opening len text ≡ token (len + items_len items + length (closing_quotes opening)) (literal_token kind (items_value items))
 
 -- A bad literal is a fault, by what ends its items.
 abbrev pub BadLiteralIsFault : Type 0
-BadLiteralIsFault = (place : Mode) (kind : Kind) (opening : Opening) (len : ℕ) (text : Text) (items : List Item) (stop : Stop)
+BadLiteralIsFault = (mode : Mode) (kind : Kind) (opening : Opening) (len : ℕ) (text : Text) (items : List Item) (stop : Stop)
     → IsBadBody (record { kind = kind; opening = opening }) text items stop
-    → literal place kind opening len text ≡ literal_by place kind opening len text (record { items = items; stop = stop }) stop
+    → literal mode kind opening len text ≡ literal_by mode kind opening len text (record { items = items; stop = stop }) stop
 
 -- A chunk of an f-string's text is a piece or a fault, by its items and what ends them.
 abbrev pub ChunkIsBody : Type 0

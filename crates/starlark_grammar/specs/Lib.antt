@@ -1,7 +1,7 @@
 pub mod Words
 pub mod Front
 pub mod Lengths
-pub mod Characters
+pub mod FrontCharacter
 pub mod Numbers
 pub mod IntegerValues
 pub mod PrintedWords

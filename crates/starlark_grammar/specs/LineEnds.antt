@@ -36,4 +36,4 @@ is_raw_in place text = opens_raw (language_front text)
 unfoldable pub no_raw_newline : History → Text → List Piece → Bool
 no_raw_newline history text [] = true
 no_raw_newline history text (piece ∷ pieces) =
-    not (is_raw_in (situation history).place text && holds_escaped_newline (take piece.len text)) && no_raw_newline (after history piece) (drop piece.len text) pieces
+    not (is_raw_in (situation history).mode text && holds_escaped_newline (take piece.len text)) && no_raw_newline (after history piece) (drop piece.len text) pieces

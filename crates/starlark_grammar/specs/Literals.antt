@@ -4,7 +4,7 @@ use Rattle.std.specs.List.{list_any, prefix_len, starts_with}
 use Rattle.std.specs.Str.{byte, bytes_eq}
 use Rattle.starlark_grammar.specs.Words.{Text, Kind, OfFString}
 use Rattle.starlark_grammar.specs.Tokens.{Opening}
-use Rattle.starlark_grammar.specs.Characters.{first_character}
+use Rattle.starlark_grammar.specs.FrontCharacter.{first_character}
 use Rattle.starlark_grammar.specs.Items.{Literal, Item, Stop, Closing, Line, Ended, OpeningBrace, ClosingBrace, BadEscape, Goes, Stops, Body, quote_byte, closing_quotes, escape, raw_pair, is_brace}
 
 -- Items

@@ -8,7 +8,7 @@ use Rattle.starlark_grammar.specs.Front.{longest_front}
 use Rattle.starlark_grammar.specs.Numbers.{integer_of}
 use Rattle.starlark_grammar.specs.Tokens.{Token, Comment, Newline, Identifier, Int, Float, String, Bytes, FStringStart, FStringText, FStringExprStart, FStringExprEnd, FStringBang, FStringEnd, Word, Opening, Spanned, Lexeme, moved, Fault, Indentation, InvalidInput, InvalidTab, UnfinishedStringLiteral, InvalidEscapeSequence, EmptyEscapeSequence, ReservedKeyword, StartsZero, UnfinishedFStringExpression}
 use Rattle.starlark_grammar.specs.Items.{Stop, Closing, Line, Ended, OpeningBrace, ClosingBrace, BadEscape, Body, body_at, body_len, body_value, closing_quotes, quote_byte}
-use Rattle.starlark_grammar.specs.Characters.{first_character}
+use Rattle.starlark_grammar.specs.FrontCharacter.{first_character}
 use Rattle.starlark_grammar.specs.Depths.{Mode, Outside, InText, AtTop}
 use Rattle.starlark_grammar.specs.Margins.{Margin, margin_of, margin_len, is_content, has_tab, width_of, fits, indentation}
 
@@ -34,7 +34,7 @@ pub data Step : Type 0 where
 
 -- What the rules ask of what was read before a place.
 pub record Situation : Type 0 where
-  pub place : Mode
+  pub mode : Mode
   pub is_balanced : Bool
   pub levels : List ℕ
   pub before : Before
@@ -180,8 +180,8 @@ abbrev pub word_step : Situation → Class → Text → Text → Step
 word_step s word.Skipped text remainder = gap (length text)
 word_step s word.Comment text remainder = token (length text) (Comment (drop 1 text))
 word_step s word.Tabs text remainder = fault 0 InvalidTab 0
-word_step s word.LineEnd text remainder = if counts s.place s.is_balanced then line_end (length text) s.levels remainder else piece (length text) []
-word_step s (word.Opener kind is_raw quote) text remainder = opener s.place kind (opening_of is_raw quote remainder) (length text) remainder
+word_step s word.LineEnd text remainder = if counts s.mode s.is_balanced then line_end (length text) s.levels remainder else piece (length text) []
+word_step s (word.Opener kind is_raw quote) text remainder = opener s.mode kind (opening_of is_raw quote remainder) (length text) remainder
 word_step s word.Reserved text remainder = fault 0 (ReservedKeyword text) (length text)
 word_step s word.Identifier text remainder = token (length text) (Identifier text)
 word_step s word.Decimal text remainder = if starts_zero text then fault 0 (StartsZero text) (length text) else token (length text) (Int (integer_of 10 text))
@@ -189,7 +189,7 @@ word_step s word.Hexadecimal text remainder = token (length text) (Int (integer_
 word_step s word.Octal text remainder = token (length text) (Int (integer_of 8 (drop 2 text)))
 word_step s word.Binary text remainder = token (length text) (Int (integer_of 2 (drop 2 text)))
 word_step s word.Float text remainder = token (length text) (Float text)
-word_step s (word.Fixed terminal) text remainder = token (length text) (terminal_token s.place terminal)
+word_step s (word.Fixed terminal) text remainder = token (length text) (terminal_token s.mode terminal)
 
 -- what stands where no word does: one character, which is a fault
 abbrev pub front_step : Situation → Text → Option (Class × ℕ) → Step
@@ -211,16 +211,16 @@ takes_bang place before = false
 abbrev pub in_code : Table → Situation → Text → Step
 in_code table s [] = Ends
 in_code table s (b ∷ bs) =
-    if takes_bang s.place s.before && is_bang (b ∷ bs) then token 1 FStringBang
+    if takes_bang s.mode s.before && is_bang (b ∷ bs) then token 1 FStringBang
     else front_step s (b ∷ bs) (longest_front (class_in table) (b ∷ bs))
 
-abbrev pub by_place : Table → Situation → Mode → Text → Step
-by_place table s (InText opening) text = chunk opening text
-by_place table s place text = in_code table s text
+abbrev pub by_mode : Table → Situation → Mode → Text → Step
+by_mode table s (InText opening) text = chunk opening text
+by_mode table s mode text = in_code table s text
 
 abbrev pub by_before : Table → Situation → Before → Text → Step
 by_before table s Nothing text = first_margin text
-by_before table s before text = by_place table s s.place text
+by_before table s before text = by_mode table s s.mode text
 
 -- What stands at a place, by the situation there and the rest of the text.
 unfoldable pub step_at : Table → Situation → Text → Step

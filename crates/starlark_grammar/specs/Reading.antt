@@ -34,7 +34,7 @@ after_all history (piece ∷ pieces) = after_all (after history piece) pieces
 
 unfoldable pub situation : History → Situation
 situation history = record {
-  place = mode_after history.tokens;
+  mode = mode_after history.tokens;
   is_balanced = is_balanced history.tokens;
   levels = open_widths history.widths;
   before = history.before;

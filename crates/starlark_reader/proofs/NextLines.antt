@@ -13,7 +13,7 @@ use Rattle.starlark_grammar.specs.Words.{Text, class_in, is_in_line, language}
 use Rattle.starlark_grammar.specs.declared.class.Class.TheVariants as class
 use Rattle.starlark_grammar.specs.declared.class.LiteralKind.{LiteralKind}
 use Rattle.starlark_grammar.specs.declared.class.Quote.{Quote}
-use Rattle.starlark_grammar.proofs.Lines.{language_lines}
+use Rattle.starlark_grammar.proofs.WordNewlines.{language_lines}
 use Rattle.starlark_grammar.proofs.Lists.{drop-sum, take_fits}
 use Rattle.starlark_grammar.proofs.Words.Fronts.{front_sound}
 

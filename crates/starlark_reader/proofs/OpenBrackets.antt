@@ -1,3 +1,3 @@
 -- The stack of open f-strings and the bracket counts.
-pub mod Counts
-pub mod FStrings
+pub mod BracketCounts
+pub mod OpenFStrings

@@ -2,10 +2,10 @@
 pub mod TextEnds
 pub mod Pending
 pub mod MarginLines
-pub mod Layout
+pub mod MarginViews
 pub mod Nesting
-pub mod Steps
-pub mod Pieces
-pub mod Reads
+pub mod StepViews
+pub mod PieceViews
+pub mod ReadBounds
 pub mod MarginCuts
 pub mod Reader

@@ -8,7 +8,7 @@ use starlark_token::tokens::Token;
 
 /// The effect of a token on brackets and f-strings, except for the start of an f-string.
 #[derive(Clone, Copy, PartialEq, Eq)]
-pub enum Change {
+pub enum NestingChange {
     OpensRound,
     ClosesRound,
     OpensSquare,
@@ -24,19 +24,19 @@ pub enum Change {
 /// The effect of a token on brackets and f-strings.
 #[tactic(auto, unfolding(starlark_token::specs::TokenViews::token_view, crate::specs::Inner::Nesting::change_by))]
 #[inline(always)]
-pub(crate) fn change_of(token: &Token) -> Change
+pub(crate) fn change_of(token: &Token) -> NestingChange
     ensures { result ≡ change_by (token_view token.now) }
 {
     match token {
-        Token::OpeningRound => Change::OpensRound,
-        Token::OpeningSquare => Change::OpensSquare,
-        Token::OpeningCurly => Change::OpensCurly,
-        Token::ClosingRound => Change::ClosesRound,
-        Token::ClosingSquare => Change::ClosesSquare,
-        Token::ClosingCurly => Change::ClosesCurly,
-        Token::FStringExprStart => Change::BeginsExpression,
-        Token::FStringExprEnd => Change::EndsExpression,
-        Token::FStringEnd => Change::EndsFString,
-        _ => Change::Nothing,
+        Token::OpeningRound => NestingChange::OpensRound,
+        Token::OpeningSquare => NestingChange::OpensSquare,
+        Token::OpeningCurly => NestingChange::OpensCurly,
+        Token::ClosingRound => NestingChange::ClosesRound,
+        Token::ClosingSquare => NestingChange::ClosesSquare,
+        Token::ClosingCurly => NestingChange::ClosesCurly,
+        Token::FStringExprStart => NestingChange::BeginsExpression,
+        Token::FStringExprEnd => NestingChange::EndsExpression,
+        Token::FStringEnd => NestingChange::EndsFString,
+        _ => NestingChange::Nothing,
     }
 }

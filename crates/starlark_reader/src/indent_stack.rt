@@ -1,7 +1,7 @@
 //! The indentation stack.
 
 ghost use Rattle.std.specs.Prelude.{◌≡◌, ◌∷◌, ◌++◌, ◌≤◌, ℕ, List, [], length, take, OnOk};
-ghost use Rattle.starlark_reader.specs.Inner.Layout.{IsLeftBy, greatest_of};
+ghost use Rattle.starlark_reader.specs.Inner.MarginViews.{IsLeftBy, greatest_of};
 
 use std::alloc::{AllocError, Global};
 use std::marker::Model;

@@ -3,7 +3,7 @@
 ghost use Rattle.std.specs.Prelude.{◌≡◌, ◌+◌, ◌-◌, ◌≤◌, ◌<◌, ◌^◌, length, not};
 ghost use Rattle.std.specs.List.{prefix_len};
 ghost use Rattle.starlark_grammar.specs.Margins as grammar;
-ghost use Rattle.starlark_words.specs.Inner.Lines.{most_front_reads};
+ghost use Rattle.starlark_words.specs.Inner.LineFronts.{most_front_reads};
 ghost use Rattle.starlark_words.specs.Inner.Reads.{AreReads};
 
 use starlark_words::lines::front_len;

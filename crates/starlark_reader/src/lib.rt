@@ -5,9 +5,9 @@
 //! content of a line: comment-only lines, and then the blanks of the line (`margins`, `widths`).
 #![tactic(auto)]
 
+mod bracket_counts;
 mod changes;
 mod comments;
-mod counts;
 mod indent_stack;
 mod lf_search;
 mod literal;

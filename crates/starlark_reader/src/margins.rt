@@ -2,7 +2,7 @@
 
 ghost use Rattle.std.specs.Prelude.{◌≡◌, ◌+◌, ◌*◌, ◌≤◌, ◌<◌, ◌^◌, ◌∷◌, if◌then◌else◌, true, false, IfSome, drop, get_or, length, min, nat_eq, not, take};
 ghost use Rattle.std.specs.List.{prefix_len};
-ghost use Rattle.starlark_reader.specs.Inner.Layout.{IsBlanks, IsMargin, spaces_margin};
+ghost use Rattle.starlark_reader.specs.Inner.MarginViews.{IsBlanks, IsMargin, spaces_margin};
 ghost use Rattle.starlark_grammar.specs.Margins as grammar;
 ghost use Rattle.starlark_words.specs.Inner.Reads.{AreReads, more_reads};
 

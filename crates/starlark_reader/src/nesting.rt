@@ -7,8 +7,8 @@ ghost use Rattle.starlark_grammar.specs.Inner.Openings.{opening_view};
 ghost use Rattle.starlark_token.specs.TokenViews.{Whole, token_view};
 ghost use Rattle.starlark_grammar.specs.Tokens as grammar;
 
-use crate::changes::{Change, change_of};
-use crate::counts::{Brackets, OpenFString};
+use crate::bracket_counts::{Brackets, OpenFString};
+use crate::changes::{NestingChange, change_of};
 use starlark_grammar::class::Opening;
 use starlark_token::tokens::Token;
 use std::alloc::{AllocError, Global};
@@ -47,12 +47,12 @@ impl Nesting {
 
     /// The lexer mode.
     #[inline(always)]
-    pub(crate) fn place(&self) -> LexerMode
+    pub(crate) fn mode(&self) -> LexerMode
         ensures { (tokens : List grammar.Token) → Represents tokens self.now → mode_view result ≡ mode_after tokens }
     {
         match self.fstrings.last() {
             None => LexerMode::Outside,
-            Some(innermost) => innermost.place(),
+            Some(innermost) => innermost.mode(),
         }
     }
 
@@ -70,14 +70,14 @@ impl Nesting {
         ensures passes { (tokens : List grammar.Token) (node : grammar.Token) → token_view token.now ≡ Whole node → is_fstring_start node ≡ false →
             Represents tokens self.old → Represents (node ∷ tokens) self.new }
         ensures count { bracket_count self.new ≤ bracket_count self.old + 1 }
-        ensures stays { change_by (token_view token.now) ≡ Change.Nothing → self.new ≡ self.old }
+        ensures stays { change_by (token_view token.now) ≡ NestingChange.Nothing → self.new ≡ self.old }
     {
         let change = change_of(token);
-        if change == Change::Nothing {
+        if change == NestingChange::Nothing {
             return;
         }
         self.brackets.count(change);
-        if change == Change::EndsFString {
+        if change == NestingChange::EndsFString {
             self.fstrings.pop();
         } else if let Some(innermost) = self.fstrings.last_mut() {
             innermost.pass(change);

@@ -4,28 +4,28 @@ ghost use Rattle.std.specs.Prelude.{◌≡◌, ◌≢◌, true, false, ◌<◌, 
 ghost use Rattle.std.specs.List.{ends_with};
 ghost use Rattle.std.specs.Str.{IsCharBoundary};
 ghost use Rattle.starlark_words.specs.Inner.Reads.{AreReads, more_reads};
-ghost use Rattle.starlark_reader.specs.Inner.Steps.{IsStep};
+ghost use Rattle.starlark_reader.specs.Inner.StepViews.{IsStep};
 ghost use Rattle.starlark_token.specs.Lexemes.{shown_lexeme};
-ghost use Rattle.starlark_words.specs.Inner.Literals.{IsPlainBody};
+ghost use Rattle.starlark_words.specs.Inner.LiteralViews.{IsPlainBody};
 ghost use Rattle.starlark_grammar.specs.Inner.Openings.{opening_view};
-ghost use Rattle.starlark_words.specs.Inner.Words.{IsDigitAt, begins_plain_number, is_number, word_len};
+ghost use Rattle.starlark_words.specs.Inner.ScannedWords.{IsDigitAt, begins_plain_number, is_number, word_len};
 ghost use Rattle.starlark_grammar.specs.Margins.{margin_of, open_widths};
-ghost use Rattle.starlark_reader.specs.Inner.Layout.{IsMargin, spaces_margin};
+ghost use Rattle.starlark_reader.specs.Inner.MarginViews.{IsMargin, spaces_margin};
 ghost use Rattle.starlark_grammar.specs.Pieces as grammar;
 ghost use Rattle.starlark_grammar.specs.declared.class.Class.TheVariants as class;
 ghost use Rattle.starlark_grammar.specs.declared.class.LiteralKind.TheVariants as kind;
 ghost use Rattle.starlark_reader.specs.Inner.Pending.{IsCommentIn, IsIdle, IsMark, IsPending, comment_lexeme, pending_lexemes};
 ghost use Rattle.starlark_reader.specs.Inner.MarginCuts.{IsCutBefore};
-ghost use Rattle.starlark_reader.specs.Inner.Reads.{HasStarted, HasLooked, HasLookedHere, HasRead, HasReadAt, HasReadNext, IsMarginRead, IsPassed, IsPassedBy, IsTaken};
+ghost use Rattle.starlark_reader.specs.Inner.ReadBounds.{HasStarted, HasLooked, HasLookedHere, HasRead, HasReadAt, HasReadNext, IsMarginRead, IsPassed, IsPassedBy, IsTaken};
 ghost use Rattle.starlark_reader.specs.Inner.Reader.{CountsLineEnds, has_read_none, IsAhead, IsAheadAfter, IsAheadPast, IsAtCode, IsBangHere, IsInCode, IsInFlatMargin, IsReached, IsStateAfter, IsNext, IsOver, IsPlainTextHere, IsRead, IsReady, IsSomething, IsTokenOf, IsWordHere, before_margin, before_view, fstring_text_lexeme, left_here, left_to_read, name_lexeme, newline_if, newline_of, silent_sort, step_here, text_lexeme};
-ghost use Rattle.starlark_reader.specs.Inner.Pieces.{IsAfter, IsLineEnd};
+ghost use Rattle.starlark_reader.specs.Inner.PieceViews.{IsAfter, IsLineEnd};
 ghost use Rattle.starlark_grammar.specs.AfterFaults.{next_line};
 ghost use Rattle.starlark_grammar.specs.Cuts.{is_layout, is_settled};
 ghost use Rattle.starlark_grammar.specs.Reading.{History, outcome};
 ghost use Rattle.starlark_token.specs.TokenViews.{TokenView, token_view};
 ghost use Rattle.starlark_grammar.specs.Tokens.{FStringStart, Fault, Spanned};
 ghost use Rattle.starlark_reader.specs.Inner.Nesting.{change_by};
-ghost use Rattle.starlark_reader.specs.declared.changes.Change.TheVariants as change;
+ghost use Rattle.starlark_reader.specs.declared.changes.NestingChange.TheVariants as change;
 ghost use Rattle.starlark_grammar.specs.Words.{Text};
 
 use crate::indent_stack::IndentStack;
@@ -477,7 +477,7 @@ impl Reader {
         ensures { (text : Text) (history : History) → IsStateAfter text history self.now → result ≡ is_settled history }
     {
         self.follows_margin()
-            && is_outside(self.nesting.place())
+            && is_outside(self.nesting.mode())
             && self.nesting.is_balanced()
             && self.levels.len() == 0
     }
@@ -574,12 +574,12 @@ impl Reader {
         ensures less { OnOk result (left_to_read text.now self.new self.new.stage < left_to_read text.now self.old Stage.Onward) }
         ensures reads { OnOk result ((beside : ℕ) → HasReadAt text.now beside self.old Stage.Onward → HasRead text.now beside self.new) }
     {
-        let place = self.nesting.place();
+        let mode = self.nesting.mode();
         let is_balanced = self.nesting.is_balanced();
         let rest = &text[self.at..];
         let follows_gap = self.follows_gap();
         let reads = &mut self.reads;
-        let piece = piece_at(reads, self.alloc, place, is_balanced, follows_gap, rest)?;
+        let piece = piece_at(reads, self.alloc, mode, is_balanced, follows_gap, rest)?;
         match piece {
             Piece::Nothing { len, is_gap } => {
                 self.step_over(len, Before::silent(is_gap));
@@ -625,7 +625,7 @@ impl Reader {
     pub fn is_in_code(&self) -> bool
         ensures { result ≡ true → IsInCode self.now }
     {
-        is_code(self.nesting.place())
+        is_code(self.nesting.mode())
     }
 
     /// Whether the next lexeme is to be read at the offset, in code, and none is pending.
@@ -776,7 +776,7 @@ impl Reader {
         requires front { front.now ≡ take 3 (drop self.now.at text.now) }
         ensures stands { result ≡ true → IsBangHere text.now self.now }
     {
-        bang_stands(self.nesting.place(), self.follows_gap(), front)
+        bang_stands(self.nesting.mode(), self.follows_gap(), front)
     }
 
     /// Length in bytes of the comment that comes next; `None` if something else comes. For offsets
@@ -817,7 +817,7 @@ impl Reader {
         ensures code { result ≡ true → IsAtCode text.now self.new }
         ensures taken { result ≡ true → IsTaken len self.old self.new }
     {
-        if line_end_counts(self.nesting.place(), self.nesting.is_balanced()) {
+        if line_end_counts(self.nesting.mode(), self.nesting.is_balanced()) {
             return false;
         }
         self.step_over(len, Before::Other);
@@ -1046,7 +1046,7 @@ impl Reader {
         if !self.reads_on() {
             return Err(0);
         }
-        match self.nesting.place() {
+        match self.nesting.mode() {
             LexerMode::InText(opening) => plain_text(&mut self.reads, opening, &text[self.at..]),
             _ => Err(0),
         }

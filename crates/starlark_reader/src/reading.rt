@@ -5,14 +5,14 @@ ghost use Rattle.std.specs.Str.{IsCharBoundary};
 ghost use Rattle.starlark_grammar.specs.AfterFaults.{next_line};
 ghost use Rattle.starlark_grammar.specs.Front.{language_front};
 ghost use Rattle.starlark_words.specs.Inner.Reads.{AreReads, more_reads};
-ghost use Rattle.starlark_reader.specs.Inner.Reads.{ArePieceReads, AreReadsAfter, AreStepReads, AreWordlessReads, IsFaultAt};
-ghost use Rattle.starlark_reader.specs.Inner.Steps.{IsStep};
+ghost use Rattle.starlark_reader.specs.Inner.ReadBounds.{ArePieceReads, AreReadsAfter, AreStepReads, AreWordlessReads, IsFaultAt};
+ghost use Rattle.starlark_reader.specs.Inner.StepViews.{IsStep};
 ghost use Rattle.starlark_grammar.specs.Cuts.{is_outside};
 ghost use Rattle.starlark_reader.specs.Inner.Nesting.{mode_view};
 ghost use Rattle.starlark_grammar.specs.Pieces as grammar;
-ghost use Rattle.starlark_reader.specs.Inner.Pieces.{IsAfter, IsLineEndOf, IsPiece};
+ghost use Rattle.starlark_reader.specs.Inner.PieceViews.{IsAfter, IsLineEndOf, IsPiece};
 ghost use Rattle.starlark_grammar.specs.Tokens.{InvalidInput};
-ghost use Rattle.starlark_grammar.specs.Characters.{first_character};
+ghost use Rattle.starlark_grammar.specs.FrontCharacter.{first_character};
 ghost use Rattle.starlark_grammar.specs.Words as word;
 ghost use Rattle.starlark_grammar.specs.declared.class.Class.TheVariants as class;
 ghost use Rattle.starlark_grammar.specs.declared.class.LiteralKind.TheVariants as kind;
@@ -47,35 +47,35 @@ pub enum Piece {
 }
 
 /// Whether a lexer mode is outside of all f-strings.
-pub(crate) fn is_outside(place: LexerMode) -> bool
-    ensures { result ≡ is_outside (mode_view place) }
+pub(crate) fn is_outside(mode: LexerMode) -> bool
+    ensures { result ≡ is_outside (mode_view mode) }
 {
-    matches!(place, LexerMode::Outside)
+    matches!(mode, LexerMode::Outside)
 }
 
 /// Whether newlines count: all brackets are closed and no f-string is open.
 #[inline(always)]
-pub(crate) fn line_end_counts(place: LexerMode, is_balanced: bool) -> bool
-    ensures { result ≡ grammar.counts (mode_view place) is_balanced }
+pub(crate) fn line_end_counts(mode: LexerMode, is_balanced: bool) -> bool
+    ensures { result ≡ grammar.counts (mode_view mode) is_balanced }
 {
-    is_outside(place) && is_balanced
+    is_outside(mode) && is_balanced
 }
 
 /// Whether a bang is allowed: at the top of an f-string expression, not right after a skipped
 /// piece.
-fn takes_bang(place: LexerMode, follows_gap: bool) -> bool
-    ensures { (before : grammar.Before) → IsAfter follows_gap before → result ≡ grammar.takes_bang (mode_view place) before }
+fn takes_bang(mode: LexerMode, follows_gap: bool) -> bool
+    ensures { (before : grammar.Before) → IsAfter follows_gap before → result ≡ grammar.takes_bang (mode_view mode) before }
 {
-    matches!(place, LexerMode::AtTop) && !follows_gap
+    matches!(mode, LexerMode::AtTop) && !follows_gap
 }
 
 /// The piece of a newline of `len` bytes.
-fn line_end(place: LexerMode, is_balanced: bool, len: usize) -> Piece
+fn line_end(mode: LexerMode, is_balanced: bool, len: usize) -> Piece
     ensures reads { (line reads : ℕ) → AreReadsAfter len 9 line 8 result reads reads }
-    ensures piece { (s : grammar.Situation) (front remainder text : word.Text) → s.place ≡ mode_view place → s.is_balanced ≡ is_balanced → length front ≡ len → drop len text ≡ remainder → IsCharBoundary text len →
+    ensures piece { (s : grammar.Situation) (front remainder text : word.Text) → s.mode ≡ mode_view mode → s.is_balanced ≡ is_balanced → length front ≡ len → drop len text ≡ remainder → IsCharBoundary text len →
         IsPiece s.levels text (grammar.word_step s class.LineEnd front remainder) result }
 {
-    if line_end_counts(place, is_balanced) {
+    if line_end_counts(mode, is_balanced) {
         Piece::LineEnd { len }
     } else {
         Piece::Nothing { len, is_gap: false }
@@ -105,7 +105,7 @@ fn fstring(
 fn opener(
     reads: &mut ReadCounter,
     alloc: Global,
-    place: LexerMode,
+    mode: LexerMode,
     kind: LiteralKind,
     is_raw: bool,
     quote: Quote,
@@ -115,13 +115,13 @@ fn opener(
     requires { len + length remainder.now < 2 ^ 64 }
     ensures reads { IfOk result (λ piece. AreReadsAfter len 9 0 8 piece reads.old reads.new) }
     ensures line_end { IfOk result (λ piece. (text : word.Text) → IsLineEndOf text piece) }
-    ensures piece { IfOk result (λ piece. (s : grammar.Situation) (front text : word.Text) → s.place ≡ mode_view place → length front ≡ len →
+    ensures piece { IfOk result (λ piece. (s : grammar.Situation) (front text : word.Text) → s.mode ≡ mode_view mode → length front ≡ len →
         IsPiece s.levels text (grammar.word_step s (class.Opener kind is_raw quote) front remainder.now) piece) }
 {
     match kind {
         LiteralKind::FString => Ok(fstring(reads, is_raw, quote, len, remainder)),
         _ => {
-            let outside = is_outside(place);
+            let outside = is_outside(mode);
             let step = literal_piece(reads, alloc, outside, kind, is_raw, quote, len, remainder)?;
             Ok(Piece::Lexed(step))
         }
@@ -132,7 +132,7 @@ fn opener(
 fn word_piece(
     reads: &mut ReadCounter,
     alloc: Global,
-    place: LexerMode,
+    mode: LexerMode,
     is_balanced: bool,
     class: Class,
     front: &str,
@@ -143,18 +143,18 @@ fn word_piece(
     requires fits { length front.now + length remainder.now < 2 ^ 64 }
     ensures reads { IfOk result (λ piece. AreReadsAfter (length front.now) 9 (next_line front.now 0) 8 piece reads.old reads.new) }
     ensures line_end { IfOk result (IsLineEndOf front.now) }
-    ensures piece { IfOk result (λ piece. (s : grammar.Situation) (text : word.Text) → s.place ≡ mode_view place → s.is_balanced ≡ is_balanced → drop (length front.now) text ≡ remainder.now → IsCharBoundary text (length front.now) →
+    ensures piece { IfOk result (λ piece. (s : grammar.Situation) (text : word.Text) → s.mode ≡ mode_view mode → s.is_balanced ≡ is_balanced → drop (length front.now) text ≡ remainder.now → IsCharBoundary text (length front.now) →
         IsPiece s.levels text (grammar.word_step s class front.now remainder.now) piece) }
 {
     let len = front.len();
     match class {
         Class::Skipped => Ok(Piece::Nothing { len, is_gap: true }),
-        Class::LineEnd => Ok(line_end(place, is_balanced, len)),
+        Class::LineEnd => Ok(line_end(mode, is_balanced, len)),
         Class::Opener {
             kind,
             is_raw,
             quote,
-        } => opener(reads, alloc, place, kind, is_raw, quote, len, remainder),
+        } => opener(reads, alloc, mode, kind, is_raw, quote, len, remainder),
         Class::Comment => Ok(Piece::Lexed(words::comment(alloc, front)?)),
         Class::Tabs => Ok(Piece::Lexed(words::tabs())),
         Class::Reserved => Ok(Piece::Lexed(words::reserved(alloc, front)?)),
@@ -164,7 +164,7 @@ fn word_piece(
             Ok(Piece::Lexed(words::number(alloc, class, front)?))
         }
         Class::Fixed(terminal) => Ok(Piece::Lexed(Step::Token {
-            token: terminal_token(place, terminal),
+            token: terminal_token(mode, terminal),
             len,
         })),
     }
@@ -199,27 +199,27 @@ fn is_bang(text: &[u8]) -> bool
 ///
 /// `front` is the text's first two bytes, or more of them.
 #[inline(always)]
-pub(crate) fn bang_stands(place: LexerMode, follows_gap: bool, front: &[u8]) -> bool
-    ensures { (before : grammar.Before) → IsAfter follows_gap before → result ≡ (grammar.takes_bang (mode_view place) before && grammar.is_bang front.now) }
+pub(crate) fn bang_stands(mode: LexerMode, follows_gap: bool, front: &[u8]) -> bool
+    ensures { (before : grammar.Before) → IsAfter follows_gap before → result ≡ (grammar.takes_bang (mode_view mode) before && grammar.is_bang front.now) }
 {
-    takes_bang(place, follows_gap) && is_bang(front)
+    takes_bang(mode, follows_gap) && is_bang(front)
 }
 
 /// The piece at the start of a text that begins with no word: a bang, or the fault there.
 fn wordless_piece(
     reads: &mut ReadCounter,
     alloc: Global,
-    place: LexerMode,
+    mode: LexerMode,
     follows_gap: bool,
     text: &str,
 ) -> Result<Piece, AllocError>
     requires some { 0 < length text.now }
     requires none { language_front text.now ≡ None }
     ensures reads { IfOk result (λ piece. AreWordlessReads piece reads.old reads.new) }
-    ensures piece { IfOk result (λ piece. (s : grammar.Situation) → s.place ≡ mode_view place → IsAfter follows_gap s.before →
+    ensures piece { IfOk result (λ piece. (s : grammar.Situation) → s.mode ≡ mode_view mode → IsAfter follows_gap s.before →
         IsPiece s.levels text.now (grammar.in_code language s text.now) piece) }
 {
-    if bang_stands(place, follows_gap, reads.front(text.as_bytes(), 2)) {
+    if bang_stands(mode, follows_gap, reads.front(text.as_bytes(), 2)) {
         return Ok(Piece::Lexed(Step::Token {
             token: Token::FStringBang,
             len: 1,
@@ -232,7 +232,7 @@ fn wordless_piece(
 fn code_piece(
     reads: &mut ReadCounter,
     alloc: Global,
-    place: LexerMode,
+    mode: LexerMode,
     is_balanced: bool,
     follows_gap: bool,
     text: &str,
@@ -240,17 +240,17 @@ fn code_piece(
     requires some { 0 < length text.now }
     ensures reads { IfOk result (λ piece. ArePieceReads 10 6 text.now piece reads.old reads.new) }
     ensures line_end { IfOk result (IsLineEndOf text.now) }
-    ensures piece { IfOk result (λ piece. (s : grammar.Situation) → s.place ≡ mode_view place → s.is_balanced ≡ is_balanced → IsAfter follows_gap s.before →
+    ensures piece { IfOk result (λ piece. (s : grammar.Situation) → s.mode ≡ mode_view mode → s.is_balanced ≡ is_balanced → IsAfter follows_gap s.before →
         IsPiece s.levels text.now (grammar.in_code language s text.now) piece) }
 {
     match first_word(reads, text) {
-        None => wordless_piece(reads, alloc, place, follows_gap, text),
+        None => wordless_piece(reads, alloc, mode, follows_gap, text),
         Some(word) => {
             let (front, remainder) = text.split_at(word.len);
             word_piece(
                 reads,
                 alloc,
-                place,
+                mode,
                 is_balanced,
                 word.class,
                 front,
@@ -260,26 +260,26 @@ fn code_piece(
     }
 }
 
-/// The piece at the start of a text, in the lexer mode `place`. It depends on whether brackets are
+/// The piece at the start of a text, in a lexer mode. It depends on whether brackets are
 /// balanced, and whether a skipped piece is right before it.
 pub(crate) fn piece_at(
     reads: &mut ReadCounter,
     alloc: Global,
-    place: LexerMode,
+    mode: LexerMode,
     is_balanced: bool,
     follows_gap: bool,
     text: &str,
 ) -> Result<Piece, AllocError>
     ensures reads { IfOk result (λ piece. ArePieceReads 10 6 text.now piece reads.old reads.new) }
     ensures line_end { IfOk result (IsLineEndOf text.now) }
-    ensures piece { IfOk result (λ piece. (s : grammar.Situation) → s.place ≡ mode_view place → s.is_balanced ≡ is_balanced → IsAfter follows_gap s.before →
+    ensures piece { IfOk result (λ piece. (s : grammar.Situation) → s.mode ≡ mode_view mode → s.is_balanced ≡ is_balanced → IsAfter follows_gap s.before →
         IsPiece s.levels text.now (grammar.step_at language s text.now) piece) }
 {
-    if let LexerMode::InText(opening) = place {
+    if let LexerMode::InText(opening) = mode {
         return Ok(Piece::Lexed(chunk_from(reads, alloc, opening, text)?));
     }
     if text.is_empty() {
         return Ok(Piece::End);
     }
-    code_piece(reads, alloc, place, is_balanced, follows_gap, text)
+    code_piece(reads, alloc, mode, is_balanced, follows_gap, text)
 }

@@ -1,7 +1,7 @@
 //! Takes margins: their lexemes become pending, and their widths go to the indentation stack.
 
 ghost use Rattle.std.specs.Prelude.{◌≡◌, ◌+◌, ◌<◌, ◌^◌, ℕ, List, [], true, false, IfOk, OnOk};
-ghost use Rattle.starlark_reader.specs.Inner.Layout.{IsFaultFound, IsLaid, IsMargin, keeps_widths, margin_fault};
+ghost use Rattle.starlark_reader.specs.Inner.MarginViews.{IsFaultFound, IsLaid, IsMargin, keeps_widths, margin_fault};
 ghost use Rattle.starlark_reader.specs.Inner.Pending.{lexemes_after};
 ghost use Rattle.starlark_reader.specs.Inner.MarginLines.{IsOfMargin};
 ghost use Rattle.starlark_grammar.specs.Margins as grammar;

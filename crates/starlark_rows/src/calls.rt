@@ -7,9 +7,9 @@
 mod code_map_rows;
 mod cursor_rows;
 mod device_rows;
-mod devices;
 mod each_byte;
 mod error_rows;
+mod failing_devices;
 mod file_rows;
 mod format_rows;
 mod index_grid;

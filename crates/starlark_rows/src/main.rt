@@ -14,31 +14,31 @@
 #![tactic(auto)]
 
 mod calls;
-mod documents;
-mod lexeme_lines;
+mod document_commands;
+mod printed_items;
 mod recovered;
 mod stored_parts;
 mod texts;
 
-use crate::stored_parts::{Part, first_part, invalid_data};
+use crate::stored_parts::{StoredPart, first_part, invalid_data};
 use std::alloc::Global;
 use std::io;
 use std::io::{BufWriter, Read, Write};
 
 /// Prints what a part's calls, texts or commands return.
-fn print_part<W: Write>(alloc: Global, out: &mut W, part: Part<'_>) -> io::Result<()> {
+fn print_part<W: Write>(alloc: Global, out: &mut W, part: StoredPart<'_>) -> io::Result<()> {
     match part.name {
         "calls" => calls::print_all(alloc, out, part.bytes),
         "texts" => texts::print_all(alloc, out, part.bytes),
         "recovered" => recovered::print_all(alloc, out, part.bytes),
-        "documents" => documents::print_all(alloc, out, part.bytes),
+        "documents" => document_commands::print_all(alloc, out, part.bytes),
         _ => Err(invalid_data()),
     }
 }
 
 /// Prints a part of what is printed for a part: its name, its length, and what its calls, texts or
 /// commands return.
-fn print_with_len<W: Write>(alloc: Global, out: &mut W, part: Part<'_>) -> io::Result<()> {
+fn print_with_len<W: Write>(alloc: Global, out: &mut W, part: StoredPart<'_>) -> io::Result<()> {
     let mut printed = Vec::new(alloc);
     print_part(alloc, &mut printed, part)?;
     write!(out, "part {} {}\n", part.name, printed.len())?;

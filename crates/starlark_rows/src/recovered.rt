@@ -4,7 +4,7 @@
 //! each text a line `text NUMBER` is printed, from 1, and then a line for each lexeme and each
 //! fault, in order.
 
-use crate::lexeme_lines::{add_fault, add_lexeme, file_of};
+use crate::printed_items::{add_fault, add_lexeme, file_of};
 use crate::stored_parts::{first_line, first_text, invalid_data};
 use starlark_syntax::codemap::{CodeMap, OrMemory};
 use starlark_syntax::dialect::Dialect;

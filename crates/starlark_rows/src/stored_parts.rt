@@ -5,7 +5,7 @@ use std::io::ErrorKind;
 
 /// A part of standard input, which has a name and bytes.
 #[derive(Clone, Copy)]
-pub struct Part<'b> {
+pub struct StoredPart<'b> {
     pub name: &'b str,
     pub bytes: &'b [u8],
 }
@@ -23,11 +23,11 @@ pub fn first_line(stored: &[u8]) -> Option<(&str, &[u8])> {
 }
 
 /// The part at the front of bytes, and what follows it; `None` if no part begins there.
-pub fn first_part(stored: &[u8]) -> Option<(Part<'_>, &[u8])> {
+pub fn first_part(stored: &[u8]) -> Option<(StoredPart<'_>, &[u8])> {
     let (line, after) = first_line(stored)?;
     let (name, len) = line.strip_prefix("part ")?.split_once(' ')?;
     let (bytes, after) = after.split_at_checked(len.parse().ok()?)?;
-    Some((Part { name, bytes }, after))
+    Some((StoredPart { name, bytes }, after))
 }
 
 /// The `len` bytes at the front of bytes, and what follows the LF after them.

@@ -11,8 +11,8 @@ use Rattle.starlark_grammar.specs.Reading.{outcome}
 use Rattle.starlark_token.specs.TextItems.{Given, LexerItem, Refused, items}
 use Rattle.starlark_token.specs.declared.tokens.Token.{Token}
 use Rattle.starlark_syntax.specs.Lexer.{AnswersNext}
-use Rattle.starlark_run.specs.Inner.Lines.{fault_items}
-use Rattle.starlark_run.proofs.Items.{IsNextLexeme, next_given, next_refused, none_left}
+use Rattle.starlark_run.specs.Inner.FaultLine.{fault_items}
+use Rattle.starlark_run.proofs.PrintedItems.{IsNextLexeme, next_given, next_refused, none_left}
 
 -- A lexeme that is answered is the next one of the grammar.
 pub next_lexeme : (file : SourceFile) (text : Text) (h : ℕ) (found : ℕ × Token × ℕ) → AnswersNext file (slice_get (items text) h) (Some (Ok found)) → IsNextLexeme text h found

@@ -6,7 +6,7 @@ use Rattle.std.specs.List.{AllByRecursion, flat_map}
 use Rattle.starlark_base.specs.Places.{Text}
 use Rattle.starlark_run.specs.Calls.{ReaderCalls, ReadCall, WasRead, GaveSome, given_by, StoppedBy, Came, WriterCalls, WriterCall, Wrote, Flushed, WasWritten, TookSome, taken_by, IsFailed, Ending, Going, Done, Broken, EndedBy, Went}
 
--- a list of items with a fact of each, and another remainder it
+-- a list of items with a fact of each, and another after it
 pub all_append : {A : Type 0} (P : A → Type 0) (xs ys : List A) → AllByRecursion P xs → AllByRecursion P ys → AllByRecursion P (xs ++ ys)
 all_append P [] ys all more = more
 all_append P (x ∷ xs) ys all more = (all.0, all_append P xs ys all.1 more)

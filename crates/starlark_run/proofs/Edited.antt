@@ -9,11 +9,11 @@ use Rattle.starlark_base.specs.Sources.{SourceFile}
 use Rattle.starlark_grammar.specs.Reading.{outcome}
 use Rattle.starlark_grammar.specs.Tokens.{Fault, Spanned}
 use Rattle.starlark_run.specs.Edits.{edited_text, text_after, text_after_one}
-use Rattle.starlark_run.specs.Inner.Versions.{AreVersions, AreVersionsAfter, AreVersionsLexed, AreVersionsRelexed, Fits, Follows, IsRefusal, IsVersion, newest_text}
+use Rattle.starlark_run.specs.Inner.EditedTexts.{AreVersions, AreVersionsAfter, AreVersionsLexed, AreVersionsRelexed, Fits, Follows, IsRefusal, IsVersion, newest_text}
 use Rattle.starlark_run.specs.Relexed.{AreLexed, AreRelexed, IsCutBefore, IsReadOn}
 use Rattle.starlark_syntax.specs.declared.error.kinds.ErrorKind.{ErrorKind}
 use Rattle.starlark_run.specs.declared.edits.Edit.{Edit}
-use Rattle.starlark_run.specs.declared.versions.Version.{Version}
+use Rattle.starlark_run.specs.declared.edited_texts.Version.{Version}
 use Rattle.starlark_syntax.specs.LexedTexts.{IsFaultIn, IsLexed, IsReadFrom, LexedView}
 use Rattle.starlark_run.specs.declared.ends.TheConstants.{GREATEST_LEN}
 use Rattle.starlark_run.specs.declared.ends.RunFault.{RunFault}
@@ -62,7 +62,7 @@ pub newest_more : (text : Text) (versions : List Version) (version : Version) �
 newest_more text [] version = refl
 newest_more text (v ∷ versions) version = newest_more (string_bytes v.text) versions version
 
--- the edits remainder one that is taken, and remainder one that is refused
+-- the edits after one that is taken, and after one that is refused
 after_taken : (at : ℕ) (text next : Text) (edit : Edit) (edits : List Edit) → text_after_one at text edit ≡ Ok next → text_after at text (edit ∷ edits) ≡ text_after (at + 1) next edits
 after_taken at text next edit edits is = rw is refl
 

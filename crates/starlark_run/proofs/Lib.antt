@@ -1,18 +1,18 @@
 -- Where each proof is. What belongs to one function is in a folder that has its name.
--- Places: places: a place moved over bytes, with an LF or none.
--- Items, Answered: items: the next item by its number, its line, order and edges.
+-- MovedAlong: places: a place moved over bytes, with an LF or none.
+-- PrintedItems, Answered: items: the next item by its number, its line, order and edges.
 -- Calls: calls: calls of a device one after another.
 -- Writing: writing: steps one after another, and where one stops.
 -- Edited: edits: versions in order, what is left to edit.
--- Refusals: edits: a refused edit.
--- Endings: the run: how a run ends.
--- Rows: worked rows, by computing.
-mod Rows
-pub mod Items
-pub mod Places
-pub mod Endings
+-- RefusedEdits: edits: a refused edit.
+-- RunEnds: the run: how a run ends.
+-- LineRows: worked rows, by computing.
+mod LineRows
+pub mod PrintedItems
+pub mod MovedAlong
+pub mod RunEnds
 pub mod Calls
 pub mod Writing
 pub mod Answered
 pub mod Edited
-pub mod Refusals
+pub mod RefusedEdits

@@ -76,27 +76,27 @@ module _ {W : Type 0} (calls : WriterCalls W) where
   unfolding Writes
   writes_nothing a waiting t sound = (rw append-nil (takes_none a waiting), sound)
 
-  -- what waits and the text remainder it are the text of two steps: the second writes what waits and a front of that text
+  -- what waits and the text after it are the text of two steps: the second writes what waits and a front of that text
   takes_then : (ending : Ending) (a b c : Watch W) (x left rest : Text) → Takes calls Going a b x left → Takes calls ending b c left rest → Takes calls ending a c x rest
   takes_then ending a b c x left rest first next =
       (first.0 ++ next.0, went_trans calls ending a.device b.device c.device first.0 next.0 first.1 next.1, append_assoc first.0 next.0 rest ∙ ap (λ t. first.0 ++ t) next.2 ∙ first.2)
 
-  takes_behind : (ending : Ending) (b c : Watch W) (x left more : Text) → Takes calls ending b c x left → Takes calls ending b c (x ++ more) (left ++ more)
-  takes_behind ending b c x left more h = (h.0, h.1, sym (append_assoc h.0 left more) ∙ ap (λ t. t ++ more) h.2)
+  takes_after : (ending : Ending) (b c : Watch W) (x left more : Text) → Takes calls ending b c x left → Takes calls ending b c (x ++ more) (left ++ more)
+  takes_after ending b c x left more h = (h.0, h.1, sym (append_assoc h.0 left more) ∙ ap (λ t. t ++ more) h.2)
 
   -- a step goes on with the front of what was left to write
   pub writes_on : {U V : Type 0} (T : Type 0) (a b c : Watch W) (whole waiting line rest left : Text) (u : U) (v : V) (t : T) → Writes {T = U} calls a b whole (waiting ++ (line ++ rest)) (Ok u) → Writes {T = V} calls b c (waiting ++ line) left (Ok v) → Writes {T = T} calls a c whole (left ++ rest) (Ok t)
   unfolding Writes
   writes_on T a b c whole waiting line rest left u v t before step =
-      (takes_then Going a b c whole _ _ before.0 (rw (← append_assoc) (takes_behind Going b c (waiting ++ line) left rest step.0)), step.1)
+      (takes_then Going a b c whole _ _ before.0 (rw (← append_assoc) (takes_after Going b c (waiting ++ line) left rest step.0)), step.1)
 
   -- a step that gives up there leaves a beginning of the whole written
   pub writes_on_stopped : {U : Type 0} (T V : Type 0) (a b c : Watch W) (whole waiting line rest left end : Text) (u : U) (fault : RunFault) → Writes {T = U} calls a b whole (waiting ++ (line ++ rest)) (Ok u) → Writes {T = V} calls b c (waiting ++ line) left (Err fault) → Writes {T = T} calls a c whole end (Err fault)
   unfolding Writes
   writes_on_stopped T V a b c whole waiting line rest left end u Write before step =
-      ((step.0.0 ++ rest, takes_then Broken a b c whole _ _ before.0 (rw (← append_assoc) (takes_behind Broken b c (waiting ++ line) step.0.0 rest step.0.1))), step.1)
+      ((step.0.0 ++ rest, takes_then Broken a b c whole _ _ before.0 (rw (← append_assoc) (takes_after Broken b c (waiting ++ line) step.0.0 rest step.0.1))), step.1)
   writes_on_stopped T V a b c whole waiting line rest left end u Memory before step =
-      ((step.0.0 ++ rest, takes_then Going a b c whole _ _ before.0 (rw (← append_assoc) (takes_behind Going b c (waiting ++ line) step.0.0 rest step.0.1))), step.1)
+      ((step.0.0 ++ rest, takes_then Going a b c whole _ _ before.0 (rw (← append_assoc) (takes_after Going b c (waiting ++ line) step.0.0 rest step.0.1))), step.1)
   writes_on_stopped T V a b c whole waiting line rest left end u NotUtf8 before step = step
   writes_on_stopped T V a b c whole waiting line rest left end u TooLong before step = step
   writes_on_stopped T V a b c whole waiting line rest left end u Read before step = step
@@ -136,7 +136,7 @@ module _ {W : Type 0} (calls : WriterCalls W) where
   unfolding Writes
   writes_told T a b x waiting u t h = h
 
-  -- a step that gives up for want of memory remainder others
+  -- a step that gives up for want of memory after others
   pub writes_given_up : {U : Type 0} (T : Type 0) (a b : Watch W) (x waiting end : Text) (u : U) → Writes {T = U} calls a b x waiting (Ok u) → Writes {T = T} calls a b x end (Err Memory)
   unfolding Writes
   writes_given_up T a b x waiting end u h = ((waiting, h.0), h.1)

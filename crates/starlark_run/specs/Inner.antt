@@ -1,3 +1,3 @@
 -- Definitions that only contracts of inner functions, and proofs, cite.
-pub mod Lines
-pub mod Versions
+pub mod FaultLine
+pub mod EditedTexts

@@ -1,6 +1,6 @@
 pub mod Calls
 pub mod Watch
-pub mod Places
+pub mod KnownPlaces
 pub mod Output
 pub mod Writing
 pub mod Runs

@@ -3,7 +3,7 @@
 ghost use Rattle.std.specs.Prelude.{◌≡◌, ◌+◌, ◌↔◌, IfOk, IsTrue, length, string_bytes, true};
 ghost use Rattle.starlark_base.specs.Sources.{Holds, holds};
 ghost use Rattle.starlark_run.specs.Edits.{edit_fits, edit_span, edited_text};
-ghost use Rattle.starlark_run.specs.Inner.Versions.{Fits};
+ghost use Rattle.starlark_run.specs.Inner.EditedTexts.{Fits};
 
 use std::alloc::{AllocError, Global};
 

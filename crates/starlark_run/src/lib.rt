@@ -6,6 +6,7 @@
 mod buffer;
 pub mod devices;
 mod edited_runs;
+mod edited_texts;
 mod edits;
 pub mod ends;
 mod input;
@@ -15,7 +16,6 @@ mod place;
 mod plain_runs;
 mod printer;
 mod printing;
-mod versions;
 pub mod watched;
 
 pub use edited_runs::{EditedRun, run_edits};

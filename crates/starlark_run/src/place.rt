@@ -3,7 +3,7 @@
 ghost use Rattle.std.specs.Prelude.{◌≡◌, ◌+◌, ◌<◌, ◌≤◌, ◌^◌, ◌++◌, ◌==◌, ℕ, List, count_by, length};
 ghost use Rattle.std.specs.Str.{IsCharBoundary, IsUtf8};
 ghost use Rattle.starlark_base.specs.Places.{place_after};
-ghost use Rattle.starlark_run.specs.Places.{IsPlace};
+ghost use Rattle.starlark_run.specs.KnownPlaces.{IsPlace};
 
 use memchr::memchr_iter;
 use starlark_base::codemap::ResolvedPos;

@@ -9,10 +9,10 @@ use Rattle.starlark_grammar.specs.Words.{Text}
 use Rattle.starlark_grammar.specs.declared.class.Class.TheVariants as class
 use Rattle.starlark_reader.specs.Inner.Pending.{pending_lexemes}
 use Rattle.starlark_reader.specs.Inner.Reader.{IsAhead, IsAheadAfter, IsAheadPast, IsAtCode, IsInCode, IsSomething, IsWordHere, newline_if}
-use Rattle.starlark_reader.specs.Inner.Reads.{HasLooked, IsMarginRead, IsTaken}
+use Rattle.starlark_reader.specs.Inner.ReadBounds.{HasLooked, IsMarginRead, IsTaken}
 use Rattle.starlark_reader.specs.declared.reader.Reader.{Reader}
 use Rattle.starlark_reader.specs.declared.reader.Stage.TheVariants as stages
-use Rattle.starlark_reader.proofs.Pieces.ReaderReads.{looked_reads, margin_reads, taken_reads}
+use Rattle.starlark_reader.proofs.TakenPieces.ReaderReads.{looked_reads, margin_reads, taken_reads}
 use Rattle.starlark_syntax.proofs.LexerItems.{one_more}
 use Rattle.starlark_syntax.proofs.LexerReads.{goes_on, look_paid, nothing_kept, nothing_looked, same_word, word_inside, word_opened}
 use Rattle.starlark_syntax.proofs.LexerStates.{IsGoingOn, IsSameText}

@@ -10,10 +10,10 @@ use Rattle.starlark_base.specs.Sources.{SourceFile}
 use Rattle.starlark_grammar.proofs.Lists.{drop-sum}
 use Rattle.starlark_grammar.specs.Tokens.{Fault, Spanned, moved}
 use Rattle.starlark_grammar.specs.Words.{Text}
-use Rattle.starlark_syntax.proofs.Items.{all_moved_by_none, all_moved_twice, given_counts, next_left, none_left, refused_counts}
+use Rattle.starlark_syntax.proofs.RecoveredItems.{all_moved_by_none, all_moved_twice, given_counts, next_left, none_left, refused_counts}
 use Rattle.starlark_syntax.specs.Inner.Passed.{HasPassed}
 use Rattle.starlark_syntax.specs.Inner.Rests.{HasReadBefore, IsRest, left_of, moved_item}
-use Rattle.starlark_grammar.proofs.Recovery.Outcomes.{restarts_later}
+use Rattle.starlark_grammar.proofs.Recovery.TextOutcomes.{restarts_later}
 use Rattle.starlark_words.specs.Inner.Reads.{AreReads, more_reads}
 use Rattle.starlark_grammar.specs.Reading.{outcome}
 use Rattle.starlark_syntax.specs.Recovery.{restart}

@@ -22,7 +22,7 @@ use Rattle.starlark_token.specs.Lexemes.{IsWithin}
 use Rattle.starlark_reader.specs.Inner.Reader.{IsSomething}
 use Rattle.starlark_token.specs.TokenViews.{TokenView}
 use Rattle.starlark_grammar.proofs.Order.Inside.{all_within}
-use Rattle.starlark_grammar.proofs.Indentation.Totals.{outcome_balances}
+use Rattle.starlark_grammar.proofs.Indentation.LayoutTotals.{outcome_balances}
 
 abbrev given : Lexeme → LexerItem
 given lexeme = Given (shown_lexeme lexeme)
@@ -33,11 +33,11 @@ given_at [] (suc h) x more rest e = cc
 given_at (l ∷ ls) zero x more rest e = let same : shown_lexeme l ≡ x = cc in ap (λ v. Some (Given v)) same
 given_at (l ∷ ls) (suc h) x more rest e = given_at ls h x more rest e
 
-behind_all : (ls : List Lexeme) (h : ℕ) (rest : List LexerItem) → h ≤ length ls → drop h (map shown_lexeme ls) ≡ [] → slice_get (map given ls ++ rest) h ≡ slice_get rest 0
-behind_all [] zero rest inside e = refl
-behind_all [] (suc h) rest inside e = absurd (omega (arith, inside))
-behind_all (l ∷ ls) zero rest inside e = cc
-behind_all (l ∷ ls) (suc h) rest inside e = behind_all ls h rest (omega (arith, inside)) e
+after_all : (ls : List Lexeme) (h : ℕ) (rest : List LexerItem) → h ≤ length ls → drop h (map shown_lexeme ls) ≡ [] → slice_get (map given ls ++ rest) h ≡ slice_get rest 0
+after_all [] zero rest inside e = refl
+after_all [] (suc h) rest inside e = absurd (omega (arith, inside))
+after_all (l ∷ ls) zero rest inside e = cc
+after_all (l ∷ ls) (suc h) rest inside e = after_all ls h rest (omega (arith, inside)) e
 
 pub one_more : {A : Type 0} (xs : List A) (h : ℕ) (x : A) (more : List A) → drop h xs ≡ x ∷ more → (h + 1 ≤ length xs) × (drop (h + 1) xs ≡ more)
 one_more [] zero x more e = cc
@@ -54,11 +54,11 @@ lexeme_item text h x more e = given_at (outcome text).lexemes h x more _ e
 
 pub fault_item : (text : Text) (h : ℕ) (fault : Spanned Fault) → h ≤ length (outcome text).lexemes → drop h (map shown_lexeme (outcome text).lexemes) ≡ [] → (outcome text).fault ≡ Some fault → slice_get (items text) h ≡ Some (Refused fault)
 unfolding items
-fault_item text h fault inside e has = behind_all (outcome text).lexemes h _ inside e ∙ ap (λ f. slice_get (map Refused (option_to_list f)) 0) has
+fault_item text h fault inside e has = after_all (outcome text).lexemes h _ inside e ∙ ap (λ f. slice_get (map Refused (option_to_list f)) 0) has
 
 pub nothing_item : (text : Text) (h : ℕ) → h ≤ length (outcome text).lexemes → drop h (map shown_lexeme (outcome text).lexemes) ≡ [] → (outcome text).fault ≡ None → slice_get (items text) h ≡ None
 unfolding items
-nothing_item text h inside e has = behind_all (outcome text).lexemes h _ inside e ∙ ap (λ f. slice_get (map Refused (option_to_list f)) 0) has
+nothing_item text h inside e has = after_all (outcome text).lexemes h _ inside e ∙ ap (λ f. slice_get (map Refused (option_to_list f)) 0) has
 
 pub some_item : (text : Text) (h : ℕ) → h ≤ length (outcome text).lexemes → IsSomething (drop h (map shown_lexeme (outcome text).lexemes)) (outcome text).fault → (item : LexerItem) × (slice_get (items text) h ≡ Some item)
 some_item text h inside some = by_rest (drop h (map shown_lexeme (outcome text).lexemes)) refl (outcome text).fault refl

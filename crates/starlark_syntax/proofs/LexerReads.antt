@@ -8,8 +8,8 @@ use Rattle.starlark_grammar.specs.Tokens.{Fault, Spanned}
 use Rattle.starlark_grammar.specs.declared.class.Class.{Class}
 use Rattle.starlark_token.specs.TokenViews.{TokenView}
 use Rattle.starlark_reader.specs.declared.reader.Stage.TheVariants as stages
-use Rattle.starlark_reader.proofs.Pieces.CodePlaces.{word_class, word_len, word_some}
-use Rattle.starlark_reader.proofs.Pieces.PieceTaken.{left_onward}
+use Rattle.starlark_reader.proofs.TakenPieces.CodePlaces.{word_class, word_len, word_some}
+use Rattle.starlark_reader.proofs.TakenPieces.PieceTaken.{left_onward}
 use Rattle.std.specs.Char.{is_ascii_digit, is_ascii_hexdigit}
 use Rattle.starlark_grammar.specs.Words.{Text, class_in, is_based, is_binary_digit, is_comment, is_float, is_identifier, is_octal_digit, is_pointed, is_run, line_ends, names, openers, patterns, symbols}
 use Rattle.starlark_grammar.specs.declared.class.Class.TheVariants as class
@@ -18,7 +18,7 @@ use Rattle.starlark_grammar.specs.declared.class.Quote.{Quote}
 use Rattle.starlark_grammar.proofs.Words.Classes.{all_fit, language_all_fit, none_found, row_fits}
 use Rattle.starlark_reader.specs.Inner.Pending.{IsPending}
 use Rattle.starlark_reader.specs.Inner.Reader.{IsAhead, IsAtCode}
-use Rattle.starlark_reader.specs.Inner.Reads.{HasLookedHere, HasRead, HasReadAt, IsPassedBy}
+use Rattle.starlark_reader.specs.Inner.ReadBounds.{HasLookedHere, HasRead, HasReadAt, IsPassedBy}
 use Rattle.starlark_reader.specs.declared.reader.LineEnd.{LineEnd}
 use Rattle.starlark_reader.specs.declared.reader.LineEnd.TheVariants as line_end
 use Rattle.starlark_reader.specs.declared.reader.Reader.{Reader}
@@ -90,7 +90,7 @@ pub word_opened : (text : Text) (reader : Reader) (class : Class) (len to beside
 word_opened text reader class len to beside front is paid has =
     (λ other n again. let same = same_word (drop reader.at text) class other len n front again in omega (arith, is, same.1), (beside, paid, has))
 
--- what is found out remainder a lexeme
+-- what is found out after a lexeme
 pub found_out : (text : Text) (reader : Reader) (to beside : ℕ) (it : Lookahead) → IsFoundOut reader to it → IsPending text reader.pending → beside ≤ 6 * to → HasRead text beside reader → IsLooked text reader to it
 found_out text reader to beside lookahead.Nothing is pending paid has = (is.1 text pending, is.0, (beside, omega (arith, paid), has))
 found_out text reader to beside lookahead.Front is pending paid has = absurd is

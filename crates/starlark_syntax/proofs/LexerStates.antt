@@ -8,7 +8,7 @@ use Rattle.starlark_syntax.specs.Inner.LexerStates.{HasAnswered, HasGivenNext, I
 use Rattle.starlark_syntax.specs.Inner.Looked.{GoesOn, IsInReach, IsLooked}
 use Rattle.starlark_reader.specs.Inner.Reader.{IsLeft}
 use Rattle.starlark_reader.proofs.NextLines.{restart_inside}
-use Rattle.starlark_reader.specs.Inner.Reads.{HasReadAt}
+use Rattle.starlark_reader.specs.Inner.ReadBounds.{HasReadAt}
 use Rattle.starlark_reader.specs.declared.reader.Reader.{Reader}
 use Rattle.starlark_reader.specs.declared.reader.Stage.{Stage}
 use Rattle.starlark_reader.specs.declared.reader.Stage.TheVariants as stages

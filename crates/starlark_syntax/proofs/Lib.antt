@@ -5,17 +5,17 @@
 --   the next.
 -- FoundWords, PlainLexemes: the fast path: the state at a word that the scanner has found, and after a lexeme was
 --   passed; a plain lexeme as the grammar sees it.
--- LexedTexts/Collected, Within, Boundaries: lists of lexemes: lexemes so far; what holds of ends holds in the list.
--- LexedTexts/CleanCuts, Newlines: clean cuts: by what is open at the end; the last `Newline`.
+-- LexedTexts/Collected, Within, ListBoundaries: lists of lexemes: lexemes so far; what holds of ends holds in the list.
+-- LexedTexts/CleanEnds, LastNewlines: clean cuts: by what is open at the end; the last `Newline`.
 -- LexedTexts/KeptCuts, HeldCuts: kept cuts: lexemes before one; the list has all.
--- LexedTexts/Joined, Parts: joins: joined lexed texts.
--- LexedTexts/Begins, Relexed, Edits: edits: where lexing starts again, and the outcome case by case.
+-- LexedTexts/JoinedLists, ReadParts: joins: joined lexed texts.
+-- LexedTexts/RelexStarts, RelexedOutcomes, EditedOutcomes: edits: where lexing starts again, and the outcome case by case.
 -- LexedTexts/Meetings, Puts, Moves: meetings: two texts that end alike after a clean cut each; the lists that are
 --   changed in place.
 -- Held: code maps: the code map of a text holds its outcome.
--- NextLines: the place: the next line begins at a character boundary.
+-- RestartPlaces: the place: the next line begins at a character boundary.
 -- RestartReads: its reads: what a margin and the search of the next line take.
--- Items: items: all items of a text, by its own and those of the rest.
+-- RecoveredItems: items: all items of a text, by its own and those of the rest.
 -- Lefts: what is left: before and after each answer.
 -- ErrorRows: worked rows, by computing.
 -- LexerCuts: where a lexer may cut its text.
@@ -29,8 +29,8 @@ pub mod LexerStates
 pub mod PlainLexemes
 pub mod LexedTexts
 pub mod Held
-pub mod Items
-pub mod NextLines
+pub mod RecoveredItems
+pub mod RestartPlaces
 pub mod RestartReads
 pub mod Reaches
 pub mod Lefts

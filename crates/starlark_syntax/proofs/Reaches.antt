@@ -2,7 +2,7 @@
 use Rattle.std.proofs.Common.{◌≡◌, ℕ, zero, suc, ◌+◌, ◌≤◌, ◌==◌, true, not, List, [], ◌∷◌, length, take, drop, ap, sym, ◌∙◌, arith, Some}
 use Rattle.std.proofs.lemmas.Bool.{and_parts}
 use Rattle.std.specs.List.{prefix_len}
-use Rattle.starlark_grammar.proofs.Lines.{feed_last, language_lines, line_fits}
+use Rattle.starlark_grammar.proofs.WordNewlines.{feed_last, language_lines, line_fits}
 use Rattle.starlark_grammar.proofs.Words.Fronts.{front_sound}
 use Rattle.starlark_grammar.specs.AfterFaults.{next_line}
 use Rattle.starlark_grammar.specs.Front.{language_front}
@@ -14,7 +14,7 @@ use Rattle.starlark_grammar.specs.Words.{Text, class_in, language}
 use Rattle.starlark_grammar.specs.declared.class.Class.{Class}
 use Rattle.starlark_grammar.specs.declared.class.Class.TheVariants as class
 use Rattle.starlark_reader.proofs.NextLines.{line_after, next_line_inside, next_line_later, rest_line, restart_line}
-use Rattle.starlark_reader.proofs.Pieces.PieceTaken.{left_onward}
+use Rattle.starlark_reader.proofs.TakenPieces.PieceTaken.{left_onward}
 use Rattle.starlark_reader.specs.Inner.Reader.{IsAhead, outcome_along, remaining_outcome}
 use Rattle.starlark_reader.specs.declared.reader.Reader.{Reader}
 use Rattle.starlark_reader.specs.declared.reader.Stage.TheVariants as stages

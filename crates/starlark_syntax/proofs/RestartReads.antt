@@ -7,11 +7,11 @@ use Rattle.std.specs.Prelude.{if◌then◌else◌}
 use Rattle.starlark_grammar.proofs.Lists.{drop-sum}
 use Rattle.starlark_grammar.specs.Margins.{is_blank, is_lf, margin_of}
 use Rattle.starlark_grammar.specs.Words.{Text}
-use Rattle.starlark_reader.specs.Inner.Layout.{IsMargin}
+use Rattle.starlark_reader.specs.Inner.MarginViews.{IsMargin}
 use Rattle.starlark_reader.specs.declared.margins.Margin.{Margin}
 use Rattle.starlark_grammar.specs.Tokens.{Fault, Spanned}
 use Rattle.starlark_reader.proofs.NextLines.{stopped_begin}
-use Rattle.starlark_reader.proofs.Pieces.SearchReads.{other_search, tab_search}
+use Rattle.starlark_reader.proofs.TakenPieces.SearchReads.{other_search, tab_search}
 use Rattle.starlark_syntax.specs.Lexer.{search_reads}
 use Rattle.starlark_syntax.specs.Recovery.{is_tab, next_line, restart, stopped_at}
 

@@ -18,7 +18,7 @@ pub use Rattle.starlark_token.specs.TextItems
 pub use Rattle.starlark_grammar.specs.Words
 pub use Rattle.starlark_grammar.specs.Front
 pub use Rattle.starlark_grammar.specs.Lengths
-pub use Rattle.starlark_grammar.specs.Characters
+pub use Rattle.starlark_grammar.specs.FrontCharacter
 pub use Rattle.starlark_grammar.specs.Numbers
 pub use Rattle.starlark_grammar.specs.IntegerValues
 pub use Rattle.starlark_grammar.specs.PrintedWords

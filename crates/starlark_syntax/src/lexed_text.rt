@@ -19,7 +19,7 @@ use crate::cuts::{Cut, append_cuts, begin_of, is_cut_after};
 use crate::eval_exception::EvalException;
 use crate::lexer_state::LexerState;
 use crate::meetings::{Known, put_part};
-use crate::parts::{exception_of, read_part};
+use crate::read_parts::{exception_of, read_part};
 use crate::tails::{append_later, given_after, kept_of, make_room};
 use starlark_base::codemap::{CodeMap, OrMemory, SourceTooLong};
 use starlark_base::dialect::Dialect;

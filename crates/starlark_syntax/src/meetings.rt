@@ -10,7 +10,7 @@ ghost use Rattle.starlark_syntax.specs.Lexer.{most_reads};
 
 use crate::cuts::{Begin, Cut, append_cuts, push_moved_cuts};
 use crate::lexer_state::LexerState;
-use crate::parts::Part;
+use crate::read_parts::ReadPart;
 use crate::tails::{make_room, replace_lexemes};
 use starlark_token::tokens::Token;
 use std::alloc::AllocError;
@@ -118,7 +118,7 @@ pub(crate) fn put_part(
     lexemes: &mut Vec<(usize, Token, usize)>,
     cuts: &mut Vec<Cut>,
     begin: Begin,
-    part: Part,
+    part: ReadPart,
     meeting: Meeting,
 ) -> Result<(), AllocError>
     requires { (file : SourceFile) × (known : Text) × (text : Text) × IsPutIn known text lexemes.old.items cuts.old.items begin (part_view part) meeting }

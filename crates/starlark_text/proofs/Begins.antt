@@ -17,7 +17,7 @@ begin_on bytes at index left found within counted begin =
       here = λ more. ap starts_character (sym (get_or-drop at bytes found 0)) ∙ begin_here.here (omega (arith, length-drop at bytes, more));
     }
 
--- where too few characters begin remainder a place, too few begin in all
+-- where too few characters begin after a place, too few begin in all
 pub begin_none : (bytes : List ℕ) (at index left : ℕ) → at ≤ length bytes → count_by starts_character (take at bytes) + left ≡ index
     → count_by starts_character (take (length bytes - at) (drop at bytes)) < left → count_by starts_character bytes < index
 begin_none bytes at index left within counted few = omega (arith, begun_rest bytes at within, counted, few)

@@ -44,11 +44,11 @@ lanes_counted n v long few =
     ∙ ap count_ones (mask_l-mod (map starts_character v) 64 (omega (arith, length-map v starts_character, long)))
     ∙ ones-mask_l starts_character v
 
--- the bytes before a place and so many remainder it
+-- the bytes before a place and so many after it
 pub begun_on : (bytes : List ℕ) (at more : ℕ) → count_by starts_character (take (at + more) bytes) ≡ count_by starts_character (take at bytes) + count_by starts_character (take more (drop at bytes))
 begun_on bytes at more = ap (count_by starts_character) (take-add at more bytes) ∙ sum_by-append (λ b. cond (starts_character b) 1 0) (take at bytes) (take more (drop at bytes))
 
--- the bytes before a place and all remainder it
+-- the bytes before a place and all after it
 pub begun_rest : (bytes : List ℕ) (at : ℕ) → at ≤ length bytes → count_by starts_character bytes ≡ count_by starts_character (take at bytes) + count_by starts_character (take (length bytes - at) (drop at bytes))
 begun_rest bytes at within =
     let whole : at + (length bytes - at) ≡ length bytes = omega arith in

@@ -113,7 +113,7 @@ after_nth s u n (Some c) utf8 ran =
     let last = ran.1.2 in
     (ran.0, ran.2, walk_push (chars_rest s) ran.0 (chars_rest t) (chars_rest u) c steps last.0)
 
--- the place remainder the character that `nth` gave
+-- the place after the character that `nth` gave
 pub from_walk : (text front rest : List ℕ) (c n : ℕ) → IsUtf8 text → length front + 1 ≡ n → IsWalk text (front ++ c ∷ []) rest → IsFrom text n rest
 from_walk text front rest c n utf8 count walk =
     let long : length (front ++ c ∷ []) ≡ n = length-append front (c ∷ []) ∙ count in

@@ -11,7 +11,7 @@ pub mod FaultCodes
 pub use Rattle.starlark_grammar.specs.Words
 pub use Rattle.starlark_grammar.specs.Front
 pub use Rattle.starlark_grammar.specs.Lengths
-pub use Rattle.starlark_grammar.specs.Characters
+pub use Rattle.starlark_grammar.specs.FrontCharacter
 pub use Rattle.starlark_grammar.specs.Numbers
 pub use Rattle.starlark_grammar.specs.IntegerValues
 pub use Rattle.starlark_grammar.specs.PrintedWords

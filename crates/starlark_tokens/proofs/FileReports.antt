@@ -7,7 +7,7 @@ use Rattle.std.proofs.lemmas.List.{length-map, map-append}
 use Rattle.std.specs.Io.KnownBytes.{Appends, Keeps}
 use Rattle.std.specs.List.{AllByRecursion}
 use Rattle.std.specs.Prelude.{None, Option, Some, drop, false, if◌then◌else◌, true}
-use Rattle.starlark_tokens.specs.Documents.{closing, is_collected, opening}
+use Rattle.starlark_tokens.specs.ReportDocuments.{closing, is_collected, opening}
 use Rattle.starlark_base.specs.Places.{Text}
 use Rattle.starlark_run.proofs.Calls.{all_append}
 use Rattle.starlark_tokens.specs.Reports.{fault_count, report}

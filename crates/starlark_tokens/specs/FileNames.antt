@@ -3,7 +3,7 @@ use Rattle.std.specs.Prelude.{Bool, ◌||◌, ◌-◌, nat_le, ◌&&◌, List, c
 use Rattle.std.specs.List.{list_any}
 use Rattle.starlark_base.specs.Places.{Text}
 use Rattle.starlark_tokens.specs.Globs.{fits}
-use Rattle.starlark_tokens.specs.Words.{begins_with, is_same}
+use Rattle.starlark_tokens.specs.CommandWords.{begins_with, is_same}
 use Rattle.starlark_tokens.specs.declared.requests.Reports.{Reports as ReportsRecord}
 
 -- the name ends with the text

@@ -3,7 +3,7 @@ use Rattle.std.specs.Prelude.{◌≡◌, List, [], map, Option, Some, None}
 use Rattle.std.specs.Io.KnownBytes.{Appends}
 use Rattle.std.specs.List.{AllByRecursion, flat_map}
 use Rattle.starlark_base.specs.Places.{Text}
-use Rattle.starlark_tokens.specs.Documents.{document}
+use Rattle.starlark_tokens.specs.ReportDocuments.{document}
 use Rattle.starlark_tokens.specs.Reports.{report}
 use Rattle.starlark_tokens.specs.SourceNames.{name_of}
 use Rattle.starlark_tokens.specs.Totals.{totals_of, with_source}

@@ -5,7 +5,7 @@ use Rattle.std.specs.List.{flat_map}
 use Rattle.std.specs.Str.{chars}
 use Rattle.starlark_base.specs.Places.{Text}
 use Rattle.starlark_base.specs.declared.codemap.resolved.ResolvedPos.{ResolvedPos}
-use Rattle.starlark_tokens.specs.Lines.{reason}
+use Rattle.starlark_tokens.specs.ItemLines.{reason}
 
 -- a character of a message
 abbrev pub github_char : ℕ → Text

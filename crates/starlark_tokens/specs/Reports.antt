@@ -12,7 +12,7 @@ use Rattle.starlark_token.specs.TextItems.{LexerItem, Given, Refused}
 use Rattle.starlark_token.specs.TokenTexts.{kind_of}
 use Rattle.starlark_token.specs.TokenViews.{TokenView}
 use Rattle.starlark_tokens.specs.JsonStrings.{json_string}
-use Rattle.starlark_tokens.specs.Lines.{fault_lines, json_fault, json_line, line_back, line_front, readable_line}
+use Rattle.starlark_tokens.specs.ItemLines.{fault_lines, json_fault, json_line, line_back, line_front, readable_line}
 use Rattle.starlark_base.specs.Positions.{position_at}
 use Rattle.starlark_tokens.specs.ShownPlaces.{shown_at, shown_of}
 use Rattle.starlark_tokens.specs.PythonLiterals.{quoted, shown_name}

@@ -2,7 +2,7 @@
 use Rattle.std.specs.Prelude.{◌≡◌, Bool, true, false, map, ◌++◌, ◌&&◌, ◌||◌, not, length, codes, drop, List, [], ◌∷◌, Option, Some, None, if◌then◌else◌}
 use Rattle.std.specs.List.{list_any}
 use Rattle.starlark_base.specs.Places.{Text}
-use Rattle.starlark_tokens.specs.Words.{begins_with, is_same}
+use Rattle.starlark_tokens.specs.CommandWords.{begins_with, is_same}
 use Rattle.starlark_tokens.specs.declared.form.Form.{Form}
 use Rattle.starlark_tokens.specs.declared.form.Form.TheVariants as shown
 use Rattle.starlark_tokens.specs.declared.requests.Format.{Format}
@@ -10,7 +10,7 @@ use Rattle.starlark_tokens.specs.declared.requests.Format.TheVariants.{Text as A
 use Rattle.starlark_tokens.specs.declared.requests.Reports.{Reports as ReportsRecord}
 use Rattle.starlark_tokens.specs.declared.requests.Request.{Request}
 use Rattle.starlark_tokens.specs.declared.requests.Request.TheVariants.{Unknown, Help, Version, Explain, Reports}
-use Rattle.starlark_tokens.specs.declared.words.Words.{Words as WordsRecord}
+use Rattle.starlark_tokens.specs.declared.command_words.Words.{Words as WordsRecord}
 
 -- a word that is an option: it begins with `-` and isn't `-` alone
 abbrev pub is_option : Text → Bool

@@ -5,7 +5,7 @@ use Rattle.std.specs.List.{flat_map, starts_with}
 use Rattle.starlark_base.specs.Places.{Text}
 use Rattle.starlark_base.specs.declared.codemap.resolved.ResolvedPos.{ResolvedPos}
 use Rattle.starlark_tokens.specs.JsonStrings.{json_string}
-use Rattle.starlark_tokens.specs.Lines.{reason}
+use Rattle.starlark_tokens.specs.ItemLines.{reason}
 use Rattle.starlark_tokens.specs.PythonLiterals.{hex_pair, is_between}
 
 -- a byte that stands for itself in a URI's path

@@ -4,7 +4,7 @@ ghost use Rattle.std.specs.Prelude.{◌≡◌, ◌<◌, ◌-◌, ◌++◌, OnOk,
 ghost use Rattle.starlark_text.specs.Characters.{starts_character};
 ghost use Rattle.std.specs.List.{flat_map};
 ghost use Rattle.std.specs.Str.{IsCharBoundary, chars};
-ghost use Rattle.starlark_tokens.specs.Lines as spec;
+ghost use Rattle.starlark_tokens.specs.ItemLines as spec;
 
 use crate::character_widths::width;
 use crate::python_literals::{is_hidden, push_ascii, push_one_line};
@@ -166,7 +166,7 @@ fn plain(is_painted: bool) -> &'static str
 }
 
 /// Appends the place of a fault.
-#[tactic(auto, unfolding(crate::specs::Lines::fault_place))]
+#[tactic(auto, unfolding(crate::specs::ItemLines::fault_place))]
 fn push_fault_place(
     line: &mut String,
     is_painted: bool,
@@ -182,7 +182,7 @@ fn push_fault_place(
 }
 
 /// Appends that a fault is an error.
-#[tactic(auto, unfolding(crate::specs::Lines::error_word))]
+#[tactic(auto, unfolding(crate::specs::ItemLines::error_word))]
 fn push_error_word(line: &mut String, is_painted: bool) -> Result<(), AllocError>
     ensures { OnOk result (string_bytes line.new ≡ string_bytes line.old ++ spec.error_word is_painted) }
 {
@@ -194,7 +194,7 @@ fn push_error_word(line: &mut String, is_painted: bool) -> Result<(), AllocError
 }
 
 /// Appends what a fault is, and its code.
-#[tactic(auto, unfolding(crate::specs::Lines::fault_words))]
+#[tactic(auto, unfolding(crate::specs::ItemLines::fault_words))]
 fn push_fault_words(line: &mut String, code: &str, message: &str) -> Result<(), AllocError>
     ensures { OnOk result (string_bytes line.new ≡ string_bytes line.old ++ spec.fault_words code.now message.now) }
 {
@@ -212,7 +212,7 @@ fn push_source_back(line: &mut String, back: &str) -> Result<(), AllocError>
 }
 
 /// Appends the line of the source, by what is before a fault and from it on.
-#[tactic(auto, unfolding(crate::specs::Lines::source_line))]
+#[tactic(auto, unfolding(crate::specs::ItemLines::source_line))]
 fn push_source_line(line: &mut String, front: &str, back: &str) -> Result<(), AllocError>
     ensures { OnOk result (string_bytes line.new ≡ string_bytes line.old ++ spec.source_line front.now back.now) }
 {
@@ -230,7 +230,7 @@ fn push_marks(line: &mut String, back: &str, len: usize) -> Result<(), AllocErro
 }
 
 /// Appends the line with carets.
-#[tactic(auto, unfolding(crate::specs::Lines::caret_line))]
+#[tactic(auto, unfolding(crate::specs::ItemLines::caret_line))]
 fn push_caret_line(
     line: &mut String,
     is_painted: bool,
@@ -261,7 +261,7 @@ pub struct ShownFault<'a> {
 }
 
 /// Appends the line of a fault's place and message.
-#[tactic(auto, unfolding(crate::specs::Lines::fault_line))]
+#[tactic(auto, unfolding(crate::specs::ItemLines::fault_line))]
 fn push_fault_line(line: &mut String, prefix: &str, fault: ShownFault<'_>) -> Result<(), AllocError>
     ensures { OnOk result (string_bytes line.new ≡ string_bytes line.old ++ spec.fault_line fault.entry.is_painted prefix.now fault.entry.shown.place fault.entry.code.now fault.entry.message.now) }
 {
@@ -272,7 +272,7 @@ fn push_fault_line(line: &mut String, prefix: &str, fault: ShownFault<'_>) -> Re
 
 /// Appends the lines of a fault, by its line before the place where it is shown and from it on.
 /// `len` bytes from there on belong to it.
-#[tactic(auto, unfolding(crate::specs::Lines::fault_lines))]
+#[tactic(auto, unfolding(crate::specs::ItemLines::fault_lines))]
 fn push_parted_lines(
     line: &mut String,
     prefix: &str,

@@ -3,9 +3,9 @@
 ghost use Rattle.std.specs.Prelude.{◌≡◌, map};
 ghost use Rattle.starlark_tokens.specs.FileNames as spec;
 
+use crate::command_words::{begins_with, is_same};
 use crate::globs::fits;
 use crate::requests::Reports;
-use crate::words::{begins_with, is_same};
 
 /// Whether a name ends with a text.
 fn ends_with(name: &[u8], text: &str) -> bool

@@ -2,17 +2,17 @@
 
 ghost use Rattle.std.specs.IoError.{error_kind};
 ghost use Rattle.std.specs.Prelude.{◌≡◌, ◌++◌, IfOk, OnOk, drop};
-ghost use Rattle.starlark_tokens.specs.ExitStatus.{status_of_output, status_of_run};
-ghost use Rattle.starlark_tokens.specs.Documents as documents;
+ghost use Rattle.starlark_tokens.specs.ReportStatus.{status_of_output, status_of_run};
+ghost use Rattle.starlark_tokens.specs.ReportDocuments as documents;
 ghost use Rattle.starlark_tokens.specs.FileReports.{AreReported, AreReportedAlone, IsDocument, IsReported};
 ghost use Rattle.starlark_tokens.specs.Requests as requests;
 ghost use Rattle.starlark_tokens.specs.Totals.{AreTotalsOf};
 
 use crate::counts::count_line;
-use crate::documents::{closing, opening};
 use crate::form::Form;
 use crate::messages::say;
 use crate::report::report_text;
+use crate::report_documents::{closing, opening};
 use crate::requests::{Format, Reports};
 use crate::screen::Screen;
 use crate::sources::{Source, Sources, Texts};

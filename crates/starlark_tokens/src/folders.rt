@@ -1,11 +1,11 @@
 //! Finds the sources of a run: files by their names, and those in folders.
 
+use crate::command_words::is_same;
 use crate::file_names::{is_left_out, is_read};
 use crate::messages::say;
 use crate::name_lists::{folder_names, listed_names};
 use crate::requests::Reports;
 use crate::sources::{STDIN, Source, Sources};
-use crate::words::is_same;
 use std::alloc::AllocError;
 use std::fs::{Files, Metadata};
 use std::io::Read;

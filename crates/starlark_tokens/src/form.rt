@@ -1,7 +1,7 @@
 //! What a report shows, and in which form.
 
 ghost use Rattle.std.specs.Prelude.{◌≡◌};
-ghost use Rattle.starlark_tokens.specs.Documents.{is_collected};
+ghost use Rattle.starlark_tokens.specs.ReportDocuments.{is_collected};
 ghost use Rattle.starlark_tokens.specs.Inner.Reporters.{has_only_faults};
 
 /// The form of a report.

@@ -2,7 +2,7 @@
 
 ghost use Rattle.std.specs.Prelude.{◌≡◌, ◌++◌, ◌∷◌, OnOk, codes, string_bytes};
 ghost use Rattle.std.specs.Str.{IsCharBoundary};
-ghost use Rattle.starlark_tokens.specs.Lines.{json_fault, json_line, readable_line};
+ghost use Rattle.starlark_tokens.specs.ItemLines.{json_fault, json_line, readable_line};
 ghost use Rattle.starlark_tokens.specs.PythonLiterals.{quoted};
 ghost use Rattle.starlark_tokens.specs.Reports.{fault_report, source_fault, token_report};
 ghost use Rattle.starlark_tokens.specs.Values.{json_of, readable};
@@ -92,7 +92,7 @@ fn push_readable_fault(
 }
 
 /// Appends the object of JSON of a fault.
-#[tactic(auto, unfolding(crate::specs::Lines::json_fault))]
+#[tactic(auto, unfolding(crate::specs::ItemLines::json_fault))]
 fn push_json_fault(
     lines: &mut String,
     prefix: &str,

@@ -5,7 +5,7 @@ ghost use Rattle.std.specs.Option.{option_map};
 ghost use Rattle.starlark_tokens.specs.Requests as spec;
 ghost use Rattle.starlark_tokens.specs.Requests.{Asks, Wants};
 
-use crate::words::{Words, begins_with, is_same};
+use crate::command_words::{Words, begins_with, is_same};
 use std::alloc::{AllocError, Global};
 
 /// What the arguments ask for.

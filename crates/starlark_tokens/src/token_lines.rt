@@ -1,14 +1,14 @@
 //! Lines of tokens and faults up to their values, for people and as JSON.
 
 ghost use Rattle.std.specs.Prelude.{◌≡◌, ◌+◌, ◌++◌, OnOk, codes, decimal, string_bytes};
-ghost use Rattle.starlark_tokens.specs.Lines.{json_head, json_places, readable_head};
+ghost use Rattle.starlark_tokens.specs.ItemLines.{json_head, json_places, readable_head};
 ghost use Rattle.starlark_base.specs.Positions.{utf16_column};
 
 use starlark_base::position::Position;
 use std::alloc::AllocError;
 
 /// Appends the line for people up to its value: the prefix, the places and the kind.
-#[tactic(auto, unfolding(crate::specs::Lines::readable_head))]
+#[tactic(auto, unfolding(crate::specs::ItemLines::readable_head))]
 pub fn push_readable_head(
     line: &mut String,
     prefix: &str,
@@ -53,7 +53,7 @@ fn push_units(line: &mut String, position: Position) -> Result<(), AllocError>
 }
 
 /// Appends lines and columns as fields of an object of JSON.
-#[tactic(auto, unfolding(crate::specs::Lines::json_places))]
+#[tactic(auto, unfolding(crate::specs::ItemLines::json_places))]
 fn push_json_places(line: &mut String, begin: Position, end: Position) -> Result<(), AllocError>
     ensures { OnOk result (string_bytes line.new ≡ string_bytes line.old ++ json_places begin end) }
 {
@@ -65,7 +65,7 @@ fn push_json_places(line: &mut String, begin: Position, end: Position) -> Result
 }
 
 /// Appends the object of JSON up to its value.
-#[tactic(auto, unfolding(crate::specs::Lines::json_head))]
+#[tactic(auto, unfolding(crate::specs::ItemLines::json_head))]
 pub fn push_json_head(
     line: &mut String,
     prefix: &str,

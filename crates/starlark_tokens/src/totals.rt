@@ -1,7 +1,7 @@
 //! What was found in all files of a run.
 
 ghost use Rattle.std.specs.Prelude.{◌≡◌, [], None};
-ghost use Rattle.starlark_tokens.specs.ExitStatus.{status_of};
+ghost use Rattle.starlark_tokens.specs.ReportStatus.{status_of};
 ghost use Rattle.starlark_tokens.specs.Totals.{totals_of, with_file, with_source};
 
 use starlark_run::TROUBLE;

@@ -4,7 +4,7 @@ use Rattle.std.proofs.lemmas.Simd.{zip2_splat, zip2_of_maps}
 use Rattle.std.specs.Int.{trailing_zeros, w64}
 use Rattle.std.specs.List.{prefix_len}
 use lib.Lanes.{mask_l, top, zip2}
-use Rattle.starlark_words.specs.Inner.Lines.{is_in_front}
+use Rattle.starlark_words.specs.Inner.LineFronts.{is_in_front}
 use Rattle.starlark_words.proofs.LaneRuns.{lane_of, either_lane, lanes_found}
 
 abbrev pub equal : ℕ → ℕ → ℕ

@@ -5,7 +5,7 @@ use Rattle.std.proofs.Math.Utf8.{encode}
 use Rattle.std.proofs.lemmas.Bool.Decides.{nat_tests}
 use Rattle.std.proofs.lemmas.Str.{IsCharBoundary-at_seam, IsUtf8-past_char}
 use Rattle.std.specs.Str.{continuation_len, IsCharBoundary, IsUtf8}
-use Rattle.starlark_grammar.specs.Characters.{first_character}
+use Rattle.starlark_grammar.specs.FrontCharacter.{first_character}
 use Rattle.starlark_grammar.specs.Words.{Text}
 
 is_less : (a b : ℕ) → nat_lt a b ≡ true → a < b
@@ -50,5 +50,5 @@ first_of_text text rest c e = ap first_character e ∙ first_encoded c rest
 pub taken : (text rest : Text) (c len : ℕ) → text ≡ encode c ++ rest → len ≡ length (encode c) → take len text ≡ first_character text
 taken text rest c len e n = rw (n, e) (take-append_seam (encode c) rest ∙ sym (first_encoded c rest))
 
-pub boundary_behind : (text rest : Text) (c len : ℕ) → IsUtf8 text → text ≡ encode c ++ rest → len ≡ length (encode c) → IsCharBoundary text len
-boundary_behind text rest c len utf8 e n = rw n (IsCharBoundary-at_seam text (encode c) rest e (IsUtf8-past_char text rest c utf8 e))
+pub boundary_after : (text rest : Text) (c len : ℕ) → IsUtf8 text → text ≡ encode c ++ rest → len ≡ length (encode c) → IsCharBoundary text len
+boundary_after text rest c len utf8 e n = rw n (IsCharBoundary-at_seam text (encode c) rest e (IsUtf8-past_char text rest c utf8 e))

@@ -1,4 +1,4 @@
 -- Texts that are one identifier.
 pub mod WordBoundaries
 pub mod OneIdentifier
-pub mod EarlierLanguage
+pub mod EarlierIdentifiers

@@ -23,7 +23,7 @@ module _ (p : ℕ → Bool) (n : ℕ) (xs : List ℕ) (room : n ≤ length xs) w
       other : prefix_len p (take n xs) ≡ n → ⊥
       other e = omega (arith, e, less)
 
-  -- a run that goes on remainder the first n
+  -- a run that goes on after the first n
   pub run_goes_on : prefix_len p (take n xs) ≡ n → prefix_len p xs ≡ n + prefix_len p (drop n xs)
   run_goes_on e = parts ∙ cond-true (eqb (prefix_len p (take n xs)) n) _ _ (eq-eqb (prefix_len p (take n xs)) n e)
 

@@ -1,10 +1,10 @@
 -- The longest front of a text, as the scanner finds it.
-pub mod Fronts
+pub mod WordFronts
 pub mod Residuals
 pub mod Listed
 pub mod Marks
 pub mod ReadFronts
-pub mod Numbers
+pub mod ScannedNumbers
 pub mod ByFirst
 pub mod Bangs
 pub mod ShortMarks

@@ -1,6 +1,6 @@
 -- Definitions that only contracts of inner functions, and proofs, cite.
 pub mod Reads
-pub mod Lines
-pub mod Words
-pub mod Literals
-pub mod Runs
+pub mod LineFronts
+pub mod ScannedWords
+pub mod LiteralViews
+pub mod PlainRuns

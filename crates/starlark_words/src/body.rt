@@ -3,7 +3,7 @@
 ghost use Rattle.std.specs.Prelude.{◌≡◌, ◌+◌, ◌*◌, ◌++◌, false, true, not, string_bytes, IfOk, OnOk};
 ghost use Rattle.std.specs.Str.{IsCharBoundary};
 ghost use Rattle.starlark_grammar.specs.Items as grammar;
-ghost use Rattle.starlark_words.specs.Inner.Literals.{IsBody, IsCharacters, holds_text, least_stop_reads, literal_view, stopped_len, value_view};
+ghost use Rattle.starlark_words.specs.Inner.LiteralViews.{IsBody, IsCharacters, holds_text, least_stop_reads, literal_view, stopped_len, value_view};
 ghost use Rattle.starlark_words.specs.Inner.Reads.{AreReads};
 
 use super::escapes::simple_escape;

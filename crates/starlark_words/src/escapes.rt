@@ -5,9 +5,9 @@ ghost use Rattle.std.specs.Char.{is_ascii_hexdigit, is_digit};
 ghost use Rattle.std.specs.List.{prefix_len};
 ghost use Rattle.std.specs.Map.{lookup};
 ghost use Rattle.std.specs.Str.Parse.{digits_value};
-ghost use Rattle.starlark_grammar.specs.Characters as characters;
+ghost use Rattle.starlark_grammar.specs.FrontCharacter as characters;
 ghost use Rattle.starlark_grammar.specs.Items as grammar;
-ghost use Rattle.starlark_words.specs.Inner.Literals.{IsCharacters, IsText, found_len, found_view, literal_view, value_view};
+ghost use Rattle.starlark_words.specs.Inner.LiteralViews.{IsCharacters, IsText, found_len, found_view, literal_view, value_view};
 ghost use Rattle.starlark_words.specs.Inner.Reads.{AreReads, more_reads};
 ghost use Rattle.starlark_grammar.specs.Words.{Text, is_octal_digit};
 

@@ -4,7 +4,7 @@ ghost use Rattle.std.specs.Prelude.{◌≡◌, ◌+◌, ◌-◌, ◌≤◌, ◌<
 ghost use Rattle.std.specs.Int.{trailing_zeros, w64};
 ghost use Rattle.std.specs.List.{prefix_len};
 ghost use Rattle.starlark_words.specs.Inner.Reads.{AreReads};
-ghost use Rattle.starlark_words.specs.Inner.Lines.{is_in_front, most_front_reads};
+ghost use Rattle.starlark_words.specs.Inner.LineFronts.{is_in_front, most_front_reads};
 
 use crate::lanes::LANES;
 use crate::reads::ReadCounter;

@@ -5,7 +5,7 @@ ghost use Rattle.starlark_grammar.specs.AfterFaults.{next_line};
 ghost use Rattle.starlark_grammar.specs.Items.{Stops, found_at, quote_byte};
 ghost use Rattle.starlark_grammar.specs.Words.{Text};
 ghost use Rattle.starlark_words.specs.Inner.Reads.{AreReads, more_reads};
-ghost use Rattle.starlark_words.specs.Inner.Literals.{IsPlainBody, IsPlainChunk, fstring_literal, stop_view};
+ghost use Rattle.starlark_words.specs.Inner.LiteralViews.{IsPlainBody, IsPlainChunk, fstring_literal, stop_view};
 ghost use Rattle.starlark_grammar.specs.Inner.Openings.{opening_view};
 
 use super::items::{Literal, Stop, closes, is_quote};

@@ -3,8 +3,8 @@
 ghost use Rattle.std.specs.Prelude.{◌≡◌, ℕ, ◌+◌, ◌≤◌, drop, length, not, take};
 ghost use Rattle.std.specs.List.{prefix_len};
 ghost use Rattle.starlark_grammar.specs.Items.{quote_byte};
-ghost use Rattle.starlark_words.specs.Inner.Literals.{literal_view};
-ghost use Rattle.starlark_words.specs.Inner.Runs.{is_end, is_special};
+ghost use Rattle.starlark_words.specs.Inner.LiteralViews.{literal_view};
+ghost use Rattle.starlark_words.specs.Inner.PlainRuns.{is_end, is_special};
 
 use super::items::Literal;
 use crate::lanes::lowest_bit;

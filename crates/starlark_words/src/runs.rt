@@ -4,9 +4,9 @@ ghost use Rattle.std.specs.Prelude.{◌≡◌, ◌<◌, ◌≤◌, ◌+◌, ◌*
 ghost use Rattle.std.specs.List.{prefix_len};
 ghost use Rattle.std.specs.Str.{IsCharBoundary};
 ghost use Rattle.starlark_grammar.specs.Items as grammar;
-ghost use Rattle.starlark_words.specs.Inner.Literals.{literal_view};
+ghost use Rattle.starlark_words.specs.Inner.LiteralViews.{literal_view};
 ghost use Rattle.starlark_words.specs.Inner.Reads.{AreReads, more_reads};
-ghost use Rattle.starlark_words.specs.Inner.Runs.{is_in_run, is_special};
+ghost use Rattle.starlark_words.specs.Inner.PlainRuns.{is_in_run, is_special};
 
 use super::items::{Literal, ends_line, is_brace, is_quote};
 use super::run_lanes::{Ends, lanes_run_len};

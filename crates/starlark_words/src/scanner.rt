@@ -5,7 +5,7 @@ ghost use Rattle.std.specs.List.{prefix_len, slice_get};
 ghost use Rattle.std.specs.Option.{option_map};
 ghost use Rattle.starlark_grammar.specs.Front.{language_front};
 ghost use Rattle.starlark_words.specs.Inner.Reads.{AreReads, more_reads};
-ghost use Rattle.starlark_words.specs.Inner.Words.{IsDigitAt, begins_number, begins_plain_number, is_number, word_len, word_view};
+ghost use Rattle.starlark_words.specs.Inner.ScannedWords.{IsDigitAt, begins_number, begins_plain_number, is_number, word_len, word_view};
 ghost use Rattle.starlark_grammar.specs.Pieces.{is_bang};
 ghost use Rattle.starlark_grammar.specs.Words as grammar;
 ghost use Rattle.starlark_grammar.specs.declared.class.Class.TheVariants as class;

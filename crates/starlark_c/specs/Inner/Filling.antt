@@ -6,8 +6,8 @@ use Rattle.starlark_c.specs.Records.{fault_bytes, fault_record, record_of, value
 use Rattle.starlark_c.specs.declared.endings.Ending.{Ending}
 use Rattle.starlark_c.specs.declared.endings.Ending.TheVariants as ending
 use Rattle.starlark_c.specs.declared.endings.Filled.{Filled}
-use Rattle.starlark_c.specs.declared.progress.Progress.{Progress}
-use Rattle.starlark_c.specs.declared.progress.Stop.{Stop}
+use Rattle.starlark_c.specs.declared.fill_state.FillState.{FillState}
+use Rattle.starlark_c.specs.declared.fill_state.CutPoint.{CutPoint}
 use Rattle.starlark_grammar.specs.Margins.{is_blank}
 use Rattle.starlark_grammar.specs.Tokens as grammar
 use Rattle.starlark_grammar.specs.Words.{Text}
@@ -68,29 +68,29 @@ pub record IsCutIn (text : Text) (is_front : Bool) (count at : ℕ) : Type 0 whe
   pub stays : is_front ≡ true → is_without_margin (drop at text) ≡ true
 
 -- the text may be cut at a stop, after some of the lexemes yielded so far
-pub record IsStopIn (text : Text) (yielded : ℕ) (stop : Stop) : Type 0 where
+pub record IsCutPointIn (text : Text) (yielded : ℕ) (stop : CutPoint) : Type 0 where
   pub some : 0 < stop.filled.lexemes
   pub few : stop.filled.lexemes ≤ yielded
   pub cut : IsCutIn text stop.is_front stop.filled.lexemes stop.at
   pub values : stop.filled.values ≡ length (values (take stop.filled.lexemes (lexemes_of text)))
 
 -- there is no stop yet, or the text may be cut at it
-abbrev pub IsStop : Text → (yielded : ℕ) → Stop → Type 0
-IsStop text yielded stop = (stop.filled.lexemes ≡ 0) ⊎ IsStopIn text yielded stop
+abbrev pub IsCutPoint : Text → (yielded : ℕ) → CutPoint → Type 0
+IsCutPoint text yielded stop = (stop.filled.lexemes ≡ 0) ⊎ IsCutPointIn text yielded stop
 
 -- the lexemes yielded so far fill the buffers, and there may be a stop after them
-pub record MayStop (text : Text) (yielded : ℕ) (progress : Progress) : Type 0 where
+pub record MayStop (text : Text) (yielded : ℕ) (progress : FillState) : Type 0 where
   pub some : 0 < yielded
   pub few : yielded ≤ length (lexemes_of text)
   pub filled : progress.filled ≡ filled_by (take yielded (lexemes_of text))
-  pub stop : IsStop text yielded progress.stop
+  pub stop : IsCutPoint text yielded progress.stop
 
 -- what is wanted with one more token
 abbrev pub wanted_with : Filled → TokenView → Filled
 wanted_with filled view = wanted_by (filled.lexemes + 1) (filled.values + length (value_bytes view))
 
 -- the result of putting the next lexeme: lexing went on, or nothing changed, and this is wanted with it
-abbrev pub PutsNext : grammar.Spanned TokenView → (old new : Progress) → Buffers → Buffers → Result ⊤ Filled → Type 0
+abbrev pub PutsNext : grammar.Spanned TokenView → (old new : FillState) → Buffers → Buffers → Result ⊤ Filled → Type 0
 PutsNext lexeme old new before after (Ok done) =
     IsPut lexeme old.filled before after new.filled × (new.stop ≡ old.stop)
 PutsNext lexeme old new before after (Err wanted) =
@@ -106,19 +106,19 @@ pub record IsWanted (text : Text) (count : ℕ) (wanted : Filled) : Type 0 where
   pub needs : wanted ≡ wanted_by all_lexemes all_bytes
 
 -- how lexing ends at a stop, as there is no room for more: with the piece before it, or as memory ran out
-abbrev pub IsStopped : Text → Progress → Ending → Type 0
+abbrev pub IsStopped : Text → FillState → Ending → Type 0
 IsStopped text progress (ending.Piece filled next) =
     (next ≡ progress.stop.at) × (filled ≡ progress.stop.filled) × (0 < progress.stop.filled.lexemes)
 IsStopped text progress (ending.Memory told) = told ≡ progress.filled
 IsStopped text progress end = ⊥
 
 -- how lexing ends where the last of `count` lexemes has no room: at the stop, or with what is wanted
-abbrev pub IsOverflow : Text → (count : ℕ) → Progress → Ending → Type 0
+abbrev pub IsOverflow : Text → (count : ℕ) → FillState → Ending → Type 0
 IsOverflow text count progress (ending.Full wanted) = IsWanted text count wanted
 IsOverflow text count progress end = IsStopped text progress end
 
 -- how lexing ends at a fault: with it, or where the text that it names has no room at the stop, or with what is wanted
-abbrev pub EndsAtFault : Text → grammar.Spanned grammar.Fault → Progress → Text → Text → Ending → Type 0
+abbrev pub EndsAtFault : Text → grammar.Spanned grammar.Fault → FillState → Text → Text → Ending → Type 0
 EndsAtFault text fault progress before after (ending.Fault more told) = EndsByFault fault progress.filled before after (ending.Fault more told)
 EndsAtFault text fault progress before after (ending.Full wanted) = EndsByFault fault progress.filled before after (ending.Full wanted)
 EndsAtFault text fault progress before after end = IsStopped text progress end × (after ≡ before)
@@ -131,12 +131,12 @@ has_stop (ending.Piece filled next) = true
 has_stop end = false
 
 -- a piece has all lexemes before a stop
-abbrev pub IsFilledTo : Stop → Ending → Type 0
+abbrev pub IsFilledTo : CutPoint → Ending → Type 0
 IsFilledTo stop (ending.Piece filled next) = (filled ≡ stop.filled) × (0 < stop.filled.lexemes)
 IsFilledTo stop end = ⊤
 
 -- how lexing some bytes into buffers ends, and the last stop in them
-abbrev pub EndsWithStop : Text → (is_front : Bool) → Buffers → Buffers → Ending × Stop → Type 0
-EndsWithStop text is_front before after found =
-    Ends text before after found.0 × (yielded : ℕ) × (yielded ≤ length (lexemes_of text)) × IsStop text yielded found.1
+abbrev pub EndsWithCutPoint : Text → (is_front : Bool) → Buffers → Buffers → Ending × CutPoint → Type 0
+EndsWithCutPoint text is_front before after found =
+    Ends text before after found.0 × (yielded : ℕ) × (yielded ≤ length (lexemes_of text)) × IsCutPoint text yielded found.1
     × (found.1.is_front ≡ is_front) × IsFilledTo found.1 found.0

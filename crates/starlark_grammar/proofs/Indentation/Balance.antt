@@ -14,7 +14,7 @@ use Rattle.starlark_grammar.specs.Tokens.{Token, Opening, Fault, Spanned, Lexeme
 use Rattle.starlark_grammar.specs.Items.{Stop, Closing, Line, Ended, OpeningBrace, ClosingBrace, BadEscape, Literal, Found, Goes, Stops, found_at, Body, body_onward, body_from, body_at, body_len, body_value, closing_quotes}
 use Rattle.starlark_grammar.specs.Depths.{Mode, Outside, InText, AtTop, Deeper}
 use Rattle.starlark_grammar.specs.Margins.{lines, is_comment_only, comment_of, comments_from, comment_lines, Margin, margin_of, margin_len, is_content, has_tab, width_of, fits, is_widest, indentation, open_widths}
-use Rattle.starlark_grammar.specs.Pieces.{Before, Nothing, Layout, Gap, Other, Piece, Step, Stands, Fails, Situation, token, margin_step, first_margin, line_end, opening_of, more_quotes, escape_fault, literal_token, literal_by, literal, opener, chunk_text, chunk_piece, chunk_by, chunk, terminal_token, counts, starts_zero, word_step, front_step, takes_bang, is_bang, in_code, by_place, by_before, step_at}
+use Rattle.starlark_grammar.specs.Pieces.{Before, Nothing, Layout, Gap, Other, Piece, Step, Stands, Fails, Situation, token, margin_step, first_margin, line_end, opening_of, more_quotes, escape_fault, literal_token, literal_by, literal, opener, chunk_text, chunk_piece, chunk_by, chunk, terminal_token, counts, starts_zero, word_step, front_step, takes_bang, is_bang, in_code, by_mode, by_before, step_at}
 use Rattle.starlark_grammar.specs.Reading.{History, situation, next_step, read}
 use Rattle.starlark_grammar.specs.Laws.{is_indent, is_dedent, indents, dedents}
 use Rattle.starlark_grammar.proofs.Words.Fronts.{front_sound}
@@ -167,31 +167,31 @@ margin_step_balances widths len before margin end quiet_margin =
 
 -- Literals and words
 
-literal_by_balances : (widths : List ℕ) (place : Mode) (kind : Kind) (opening : Opening) (len : ℕ) (remainder : Text) (body : Body) (stop : Stop) → 1 ≤ len → StepBalances widths (literal_by place kind opening len remainder body stop)
-literal_by_balances widths place OfText opening len remainder body Closing some = token_quiet widths _ (literal_token OfText (body_value body)) (omega arith) refl refl
-literal_by_balances widths place OfBytes opening len remainder body Closing some = token_quiet widths _ (literal_token OfBytes (body_value body)) (omega arith) refl refl
-literal_by_balances widths place OfFString opening len remainder body Closing some = token_quiet widths _ (literal_token OfFString (body_value body)) (omega arith) refl refl
-literal_by_balances widths place kind opening len remainder body (BadEscape read last) some = go (len + body_len body) (drop 1 (take read (drop (body_len body) remainder)))
+literal_by_balances : (widths : List ℕ) (mode : Mode) (kind : Kind) (opening : Opening) (len : ℕ) (remainder : Text) (body : Body) (stop : Stop) → 1 ≤ len → StepBalances widths (literal_by mode kind opening len remainder body stop)
+literal_by_balances widths mode OfText opening len remainder body Closing some = token_quiet widths _ (literal_token OfText (body_value body)) (omega arith) refl refl
+literal_by_balances widths mode OfBytes opening len remainder body Closing some = token_quiet widths _ (literal_token OfBytes (body_value body)) (omega arith) refl refl
+literal_by_balances widths mode OfFString opening len remainder body Closing some = token_quiet widths _ (literal_token OfFString (body_value body)) (omega arith) refl refl
+literal_by_balances widths mode kind opening len remainder body (BadEscape read last) some = go (len + body_len body) (drop 1 (take read (drop (body_len body) remainder)))
   where
     go : (begin : ℕ) (text : Text) → StepBalances widths (escape_fault begin text)
     go begin [] = tt
     go begin (b ∷ bs) = tt
-literal_by_balances widths place kind opening len remainder body Line some = tt
-literal_by_balances widths place kind opening len remainder body Ended some = tt
-literal_by_balances widths place kind opening len remainder body OpeningBrace some = tt
-literal_by_balances widths place kind opening len remainder body ClosingBrace some = tt
+literal_by_balances widths mode kind opening len remainder body Line some = tt
+literal_by_balances widths mode kind opening len remainder body Ended some = tt
+literal_by_balances widths mode kind opening len remainder body OpeningBrace some = tt
+literal_by_balances widths mode kind opening len remainder body ClosingBrace some = tt
 
-literal_balances : (widths : List ℕ) (place : Mode) (kind : Kind) (opening : Opening) (len : ℕ) (remainder : Text) → 1 ≤ len → StepBalances widths (literal place kind opening len remainder)
-literal_balances widths place kind opening len remainder some = literal_by_balances widths place kind opening len remainder (body_at (record { kind = kind; opening = opening }) remainder) _ some
+literal_balances : (widths : List ℕ) (mode : Mode) (kind : Kind) (opening : Opening) (len : ℕ) (remainder : Text) → 1 ≤ len → StepBalances widths (literal mode kind opening len remainder)
+literal_balances widths mode kind opening len remainder some = literal_by_balances widths mode kind opening len remainder (body_at (record { kind = kind; opening = opening }) remainder) _ some
 
-opener_balances : (widths : List ℕ) (place : Mode) (kind : Kind) (opening : Opening) (len : ℕ) (remainder : Text) → 1 ≤ len → StepBalances widths (opener place kind opening len remainder)
-opener_balances widths place OfFString opening len remainder some = token_quiet widths _ (FStringStart opening) (omega arith) refl refl
-opener_balances widths place OfText opening len remainder some = literal_balances widths place OfText opening (len + more_quotes opening) (drop (more_quotes opening) remainder) (omega arith)
-opener_balances widths place OfBytes opening len remainder some = literal_balances widths place OfBytes opening (len + more_quotes opening) (drop (more_quotes opening) remainder) (omega arith)
+opener_balances : (widths : List ℕ) (mode : Mode) (kind : Kind) (opening : Opening) (len : ℕ) (remainder : Text) → 1 ≤ len → StepBalances widths (opener mode kind opening len remainder)
+opener_balances widths mode OfFString opening len remainder some = token_quiet widths _ (FStringStart opening) (omega arith) refl refl
+opener_balances widths mode OfText opening len remainder some = literal_balances widths mode OfText opening (len + more_quotes opening) (drop (more_quotes opening) remainder) (omega arith)
+opener_balances widths mode OfBytes opening len remainder some = literal_balances widths mode OfBytes opening (len + more_quotes opening) (drop (more_quotes opening) remainder) (omega arith)
 
-terminal_quiet : (place : Mode) (terminal : Terminal) → (is_dedent (terminal_token place terminal) ≡ false) × (is_indent (terminal_token place terminal) ≡ false)
+terminal_quiet : (mode : Mode) (terminal : Terminal) → (is_dedent (terminal_token mode terminal) ≡ false) × (is_indent (terminal_token mode terminal) ≡ false)
 terminal_quiet AtTop word.ClosingCurly = (refl, refl)
-terminal_quiet place terminal = (refl, refl)
+terminal_quiet mode terminal = (refl, refl)
 
 end_quiet : (len : ℕ) → 1 ≤ len → EndIsQuiet len (record { begin = 0; node = Newline; end = len } ∷ [])
 end_quiet len some = record { none = refl; neither = refl; inside = some }
@@ -201,10 +201,10 @@ word_step_balances widths s word.Skipped front remainder e some = quiet widths (
 word_step_balances widths s word.Comment front remainder e some = token_quiet widths (length front) _ some refl refl
 word_step_balances widths s word.Tabs front remainder e some = tt
 word_step_balances widths s word.LineEnd front remainder e some =
-    either (StepBalances widths) (counts s.place s.is_balanced) _ _
+    either (StepBalances widths) (counts s.mode s.is_balanced) _ _
     (subst (λ (levels : List ℕ). StepBalances widths (line_end (length front) levels remainder)) (sym e) (margin_step_balances widths (length front) (record { begin = 0; node = Newline; end = length front } ∷ []) (margin_of remainder) (end_quiet (length front) some) (margin_quiet remainder)))
     (quiet widths (length front) [] Other refl refl (omega arith))
-word_step_balances widths s (word.Opener kind is_raw quote) front remainder e some = opener_balances widths s.place kind (opening_of is_raw quote remainder) (length front) remainder some
+word_step_balances widths s (word.Opener kind is_raw quote) front remainder e some = opener_balances widths s.mode kind (opening_of is_raw quote remainder) (length front) remainder some
 word_step_balances widths s word.Reserved front remainder e some = tt
 word_step_balances widths s word.Identifier front remainder e some = token_quiet widths (length front) _ some refl refl
 word_step_balances widths s word.Decimal front remainder e some = either (StepBalances widths) (starts_zero front) _ _ tt (token_quiet widths (length front) _ some refl refl)
@@ -212,7 +212,7 @@ word_step_balances widths s word.Hexadecimal front remainder e some = token_quie
 word_step_balances widths s word.Octal front remainder e some = token_quiet widths (length front) _ some refl refl
 word_step_balances widths s word.Binary front remainder e some = token_quiet widths (length front) _ some refl refl
 word_step_balances widths s word.Float front remainder e some = token_quiet widths (length front) _ some refl refl
-word_step_balances widths s (word.Fixed terminal) front remainder e some = let both = terminal_quiet s.place terminal in token_quiet widths (length front) (terminal_token s.place terminal) some both.0 both.1
+word_step_balances widths s (word.Fixed terminal) front remainder e some = let both = terminal_quiet s.mode terminal in token_quiet widths (length front) (terminal_token s.mode terminal) some both.0 both.1
 
 -- Texts of f-strings
 
@@ -290,13 +290,13 @@ front_step_balances widths table s text (Some front) e f =
 in_code_balances : (widths : List ℕ) (table : Table) (s : Situation) (text : Text) → s.levels ≡ open_widths widths → StepBalances widths (in_code table s text)
 in_code_balances widths table s [] e = tt
 in_code_balances widths table s (b ∷ bs) e =
-    either (StepBalances widths) (takes_bang s.place s.before && is_bang (b ∷ bs)) _ _ (token_quiet widths 1 FStringBang (omega arith) refl refl) (front_step_balances widths table s (b ∷ bs) _ e refl)
+    either (StepBalances widths) (takes_bang s.mode s.before && is_bang (b ∷ bs)) _ _ (token_quiet widths 1 FStringBang (omega arith) refl refl) (front_step_balances widths table s (b ∷ bs) _ e refl)
 
-by_place_balances : (widths : List ℕ) (table : Table) (s : Situation) (place : Mode) (text : Text) → s.levels ≡ open_widths widths → StepBalances widths (by_place table s place text)
-by_place_balances widths table s Outside text e = in_code_balances widths table s text e
-by_place_balances widths table s (InText opening) text e = chunk_balances widths opening text
-by_place_balances widths table s AtTop text e = in_code_balances widths table s text e
-by_place_balances widths table s Deeper text e = in_code_balances widths table s text e
+by_mode_balances : (widths : List ℕ) (table : Table) (s : Situation) (mode : Mode) (text : Text) → s.levels ≡ open_widths widths → StepBalances widths (by_mode table s mode text)
+by_mode_balances widths table s Outside text e = in_code_balances widths table s text e
+by_mode_balances widths table s (InText opening) text e = chunk_balances widths opening text
+by_mode_balances widths table s AtTop text e = in_code_balances widths table s text e
+by_mode_balances widths table s Deeper text e = in_code_balances widths table s text e
 
 -- before the first margin no width is open
 abbrev pub StartsSo : Before → List ℕ → Type 0
@@ -307,9 +307,9 @@ by_before_balances : (widths : List ℕ) (table : Table) (s : Situation) (before
 unfolding open_widths
 by_before_balances widths table s Nothing text e none =
     subst (λ (ws : List ℕ). StepBalances ws (first_margin text)) (sym none) (margin_step_balances [] 0 [] (margin_of text) (record { none = refl; neither = refl; inside = omega arith }) (margin_quiet text))
-by_before_balances widths table s Layout text e none = by_place_balances widths table s s.place text e
-by_before_balances widths table s Gap text e none = by_place_balances widths table s s.place text e
-by_before_balances widths table s Other text e none = by_place_balances widths table s s.place text e
+by_before_balances widths table s Layout text e none = by_mode_balances widths table s s.mode text e
+by_before_balances widths table s Gap text e none = by_mode_balances widths table s s.mode text e
+by_before_balances widths table s Other text e none = by_mode_balances widths table s s.mode text e
 
 pub piece_balances : (table : Table) (history : History) (text : Text) (piece : Piece) → StartsSo history.before history.widths → next_step table history text ≡ Stands piece → Balances history.widths piece
 unfolding next_step situation step_at

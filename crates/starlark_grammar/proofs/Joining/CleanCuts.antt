@@ -16,7 +16,7 @@ use Rattle.starlark_grammar.specs.TextLaws.{CutsJoin}
 use Rattle.starlark_grammar.proofs.Lists.{drop-sum}
 use Rattle.starlark_grammar.proofs.Reading.Readings.{longest_onward, read_from_is, read_is, reading_fits, ends_at_end, started, piece_fits, outcome_only}
 use Rattle.starlark_grammar.proofs.Joining.Followed.{ends_line, ends_line_of}
-use Rattle.starlark_grammar.proofs.Joining.Settled.{Settled, settled, remainder, widths_settled, all_behind, longest_behind}
+use Rattle.starlark_grammar.proofs.Joining.Settled.{Settled, settled, remainder, widths_settled, all_after, longest_after}
 use Rattle.starlark_grammar.proofs.Joining.Joined.{Joined, join_reading, moved_both, all_moved, map_both}
 
 -- Lists of pieces
@@ -44,7 +44,7 @@ pub past_both : (history : History) (one other : List Piece) → after_all histo
 past_both history [] other = refl
 past_both history (piece ∷ one) other = past_both (after history piece) one other
 
--- a reading, and a longest one remainder it
+-- a reading, and a longest one after it
 pub longest_both : (table : Table) (history : History) (text : Text) (one other : List Piece) (last : Step) → IsReading table history text one → IsLongestReading table (after_all history one) (drop (pieces_len one) text) other last → IsLongestReading table history text (one ++ other) last
 longest_both table history text [] other last reads longest = longest
 longest_both table history text (piece ∷ one) other last reads longest =
@@ -74,7 +74,7 @@ pub record Cut (text : Text) (pieces : List Piece) : Type 0 where
   pub is_settled : Settled (after_all nothing pieces)
   pub lexemes : (outcome text).lexemes ≡ lexemes_along 0 pieces ++ record { begin = length text; node = Newline; end = length text } ∷ []
 
--- remainder a text without fault and without open widths only a `Newline` comes
+-- after a text without fault and without open widths only a `Newline` comes
 closed : (text : Text) (pieces : List Piece) (last : Step) → last ≡ Ends → pieces_len pieces ≡ length text → open_widths (after_all nothing pieces).widths ≡ []
     → (outcome_of text pieces last).lexemes ≡ lexemes_along 0 pieces ++ record { begin = length text; node = Newline; end = length text } ∷ []
 closed text pieces last e reach none =
@@ -162,7 +162,7 @@ module _ (text more : Text) (first : Piece) (pieces : List Piece) (here : Cut te
       longest_both language nothing (text ++ more) both.pieces' there.pieces there.last both.reads
       (subst (λ (t : Text). IsLongestReading language (after_all nothing both.pieces') t there.pieces there.last) (sym left)
       (subst (λ (past : History). IsLongestReading language past (drop first.len more) there.pieces there.last) (sym both.past)
-      (longest_behind language (after_all nothing pieces) (after nothing first) (drop first.len more) there.pieces there.last here.is_settled there.longest)))
+      (longest_after language (after_all nothing pieces) (after nothing first) (drop first.len more) there.pieces there.last here.is_settled there.longest)))
 
   joined_is : outcome (text ++ more) ≡ outcome_of (text ++ more) (both.pieces' ++ there.pieces) there.last
   unfolding outcome
@@ -184,7 +184,7 @@ module _ (text more : Text) (first : Piece) (pieces : List Piece) (here : Cut te
       ∙ sym (map_both (moved (length text)) (map (moved 0) first.lexemes) (lexemes_along (0 + first.len) there.pieces)))
 
   pub past : after_all nothing (both.pieces' ++ there.pieces) ≡ remainder (after_all nothing pieces) (after_all nothing (first ∷ there.pieces))
-  past = past_both nothing both.pieces' there.pieces ∙ ap (λ (h : History). after_all h there.pieces) both.past ∙ all_behind (after_all nothing pieces) (after nothing first) there.pieces
+  past = past_both nothing both.pieces' there.pieces ∙ ap (λ (h : History). after_all h there.pieces) both.past ∙ all_after (after_all nothing pieces) (after nothing first) there.pieces
 
   cut_lexemes : (other : List Lexeme) → lexemes_along 0 pieces ++ map (moved (length text)) other ≡ joined (length text) (outcome text).lexemes other
   cut_lexemes other = ap (λ ls. ls ++ map (moved (length text)) other)

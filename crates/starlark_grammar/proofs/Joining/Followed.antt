@@ -7,7 +7,7 @@ use Rattle.std.proofs.lemmas.Bool.{and_parts, and_right, eqb-true}
 use Rattle.starlark_grammar.specs.Words.{Text, class_in, language}
 use Rattle.starlark_grammar.specs.Front.{longest_front, language_front}
 use Rattle.starlark_grammar.proofs.Words.Fronts.{front_none}
-use Rattle.starlark_grammar.proofs.Lines.{feed_last, feed_ends}
+use Rattle.starlark_grammar.proofs.WordNewlines.{feed_last, feed_ends}
 
 -- the last byte is an LF
 abbrev pub ends_line : Text → Bool
@@ -21,7 +21,7 @@ ends_line_made [] = refl
 ends_line_made (b ∷ []) = refl
 ends_line_made (b ∷ c ∷ front) = ends_line_made (c ∷ front)
 
--- … and what is left of one remainder its first byte, where anything is.
+-- … and what is left of one after its first byte, where anything is.
 pub ends_line_rest : (b : ℕ) (bs : Text) → 1 ≤ length bs → ends_line (b ∷ bs) ≡ true → ends_line bs ≡ true
 ends_line_rest b [] some h = absurd (omega arith)
 ends_line_rest b (c ∷ bs) some h = h
@@ -58,7 +58,7 @@ feed_inside : (b : ℕ) (bs : Text) (c : ℕ) (word : Text) → ends_line (b ∷
 feed_inside b [] c word h = rw h refl
 feed_inside b (d ∷ bs) c word h = and_right (not (b == 10)) (feed_last ((d ∷ bs) ++ c ∷ word)) (feed_inside d bs c word h)
 
--- no word of the language goes on remainder an LF
+-- no word of the language goes on after an LF
 pub words_end : (text : Text) (c : ℕ) (word : Text) → ends_line text ≡ true → class_in language (text ++ c ∷ word) ≡ None
 words_end [] c word h = cc
 words_end (b ∷ bs) c word h = feed_ends ((b ∷ bs) ++ c ∷ word) (feed_inside b bs c word h)

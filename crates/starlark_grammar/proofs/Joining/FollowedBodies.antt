@@ -15,9 +15,9 @@ use Rattle.starlark_grammar.specs.declared.class.Quote.TheVariants.{Single as Si
 use Rattle.starlark_grammar.specs.declared.class.LiteralKind.TheVariants.{Text as OfText, Bytes as OfBytes, FString as OfFString}
 use Rattle.starlark_grammar.specs.Tokens.{Opening}
 use Rattle.starlark_grammar.specs.Items.{Literal, Stop, Closing, Line, Ended, OpeningBrace, ClosingBrace, BadEscape, Found, Goes, Stops, goes, closing_quotes, broken, is_character, numbered, hexadecimal, octal, escaped_newline, simple_escapes, simple, is_of_bytes, escape, drops_backslash, raw_pair, brace, is_brace, found_at, Body, body_onward, body_from, body_at}
-use Rattle.starlark_grammar.specs.Characters.{first_character}
+use Rattle.starlark_grammar.specs.FrontCharacter.{first_character}
 use Rattle.starlark_grammar.proofs.Literals.Bodies.{found_fits, FoundFits}
-use Rattle.starlark_grammar.proofs.Lines.{in_line}
+use Rattle.starlark_grammar.proofs.WordNewlines.{in_line}
 use Rattle.starlark_grammar.proofs.Joining.Followed.{ends_line, ends_line_rest}
 
 -- Fronts

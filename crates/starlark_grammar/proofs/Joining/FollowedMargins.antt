@@ -1,4 +1,4 @@
--- Margins of a text of whole lines, and what more text remainder it makes of them.
+-- Margins of a text of whole lines, and what more text after it makes of them.
 use Rattle.std.proofs.Common.{◌≡◌, ℕ, zero, suc, ◌+◌, ◌<◌, Bool, true, false, cond, List, [], ◌∷◌, ◌++◌, length, take, drop, refl, ap, ◌∙◌, sym, arith, map, one-add, append-nil}
 use Rattle.std.specs.Prelude.{if◌then◌else◌, sum_by, take_while}
 use Rattle.std.specs.List.{list_all, onto_first}
@@ -90,11 +90,11 @@ while_less test (l ∷ ls) h some = go (test l) refl (while_less test ls)
         rw (e, one-add) (omega (arith, less, sum_by-cons (λ (line : Text). length line) l ls, sum_by-cons (λ (line : Text). length line) l (take_while test ls)))
     go false e more = rw e (omega (arith, line_sum l parts.0, sum_by-cons (λ (line : Text). length line) l ls))
 
-pub whole_behind : (n : ℕ) (text : Text) → has_whole_lines text ≡ true → has_whole_lines (drop n text) ≡ true
-whole_behind zero text h = h
-whole_behind (suc n) [] h = refl
-whole_behind (suc n) (b ∷ []) h = whole_behind n [] refl
-whole_behind (suc n) (b ∷ c ∷ bs) h = whole_behind n (c ∷ bs) h
+pub whole_after : (n : ℕ) (text : Text) → has_whole_lines text ≡ true → has_whole_lines (drop n text) ≡ true
+whole_after zero text h = h
+whole_after (suc n) [] h = refl
+whole_after (suc n) (b ∷ []) h = whole_after n [] refl
+whole_after (suc n) (b ∷ c ∷ bs) h = whole_after n (c ∷ bs) h
 
 -- the blanks of a line that isn't blank to its end
 blanks_followed : (b : ℕ) (bs more : Text) → has_whole_lines (b ∷ bs) ≡ true → blanks_len ((b ∷ bs) ++ more) ≡ blanks_len (b ∷ bs)
@@ -128,13 +128,13 @@ comments_both at (line ∷ xs) ys =
     let next : at + length line + lines_sum xs ≡ at + lines_sum (line ∷ xs) = omega (arith, sum_by-cons (λ (line : Text). length line) line xs) in
     ap (λ ls. comment_of at line ∷ ls) (comments_both (at + length line) xs ys ∙ ap (λ n. comments_from (at + length line) xs ++ comments_from n ys) next)
 
--- a margin remainder so many bytes of comment-only lines
-abbrev pub margin_behind : ℕ → List Lexeme → Margin → Margin
-margin_behind len comments margin = record { comments = comments ++ map (moved len) margin.comments; at = len + margin.at; blanks = margin.blanks; remainder = margin.remainder }
+-- a margin after so many bytes of comment-only lines
+abbrev pub margin_after : ℕ → List Lexeme → Margin → Margin
+margin_after len comments margin = record { comments = comments ++ map (moved len) margin.comments; at = len + margin.at; blanks = margin.blanks; remainder = margin.remainder }
 
--- How the margin of a text of whole lines goes on with more text remainder it.
+-- How the margin of a text of whole lines goes on with more text after it.
 pub data Followed (text more : Text) : Type 0 where
-  Whole : margin_of text ≡ record { comments = (margin_of text).comments; at = length text; blanks = []; remainder = [] } → margin_of (text ++ more) ≡ margin_behind (length text) (margin_of text).comments (margin_of more) → Followed text more
+  Whole : margin_of text ≡ record { comments = (margin_of text).comments; at = length text; blanks = []; remainder = [] } → margin_of (text ++ more) ≡ margin_after (length text) (margin_of text).comments (margin_of more) → Followed text more
   Within : 0 < length (margin_of text).remainder → margin_len (margin_of text) < length text → margin_of (text ++ more) ≡ record { comments = (margin_of text).comments; at = (margin_of text).at; blanks = (margin_of text).blanks; remainder = (margin_of text).remainder ++ more } → Followed text more
 
 from_followed : (passed : List Text) (at b : ℕ) (bs more : Text) → has_whole_lines (b ∷ bs) ≡ true
@@ -178,7 +178,7 @@ module _ (text more : Text) (whole : has_whole_lines text ≡ true) where
       let inside : at < length text = omega (arith, while_less is_comment_only (lines text) h (some_lines text), lines_len text) in
       let left : drop at (text ++ more) ≡ drop at text ++ more = drop-append-le at text more (omega arith) in
       let some : 0 < length (drop at text) = omega (arith, inside, length-drop at text) in
-      let rest = go (drop at text) (comment_lines text) at (whole_behind at text whole) some in
+      let rest = go (drop at text) (comment_lines text) at (whole_after at text whole) some in
       Within rest.0 (omega (arith, rest.1, inside, length-drop at text)) (rw (there, left) rest.2)
     where
       go : (rest : Text) (passed : List Text) (at : ℕ) → has_whole_lines rest ≡ true → 0 < length rest

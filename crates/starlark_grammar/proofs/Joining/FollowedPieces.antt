@@ -16,12 +16,12 @@ use Rattle.starlark_grammar.specs.Tokens.{Opening, FStringBang, Lexeme, Spanned,
 use Rattle.starlark_grammar.specs.Items.{Stop, Closing, Line, Ended, OpeningBrace, ClosingBrace, BadEscape, Body, body_at, quote_byte}
 use Rattle.starlark_grammar.specs.Depths.{Mode, Outside, InText, AtTop, Deeper}
 use Rattle.starlark_grammar.specs.Margins.{Margin, margin_of, is_content, has_tab, width_of, fits}
-use Rattle.starlark_grammar.specs.Pieces.{Before, Nothing, Layout, Gap, Other, Piece, Step, Stands, Fails, Situation, piece, token, margin_step, line_end, opening_of, more_quotes, escape_fault, literal_by, literal, opener, chunk_by, chunk, counts, word_step, front_step, takes_bang, is_bang, in_code, by_place, by_before, step_at}
+use Rattle.starlark_grammar.specs.Pieces.{Before, Nothing, Layout, Gap, Other, Piece, Step, Stands, Fails, Situation, piece, token, margin_step, line_end, opening_of, more_quotes, escape_fault, literal_by, literal, opener, chunk_by, chunk, counts, word_step, front_step, takes_bang, is_bang, in_code, by_mode, by_before, step_at}
 use Rattle.starlark_grammar.specs.Reading.{History, situation, next_step}
 use Rattle.starlark_grammar.specs.Cuts.{is_layout}
 use Rattle.starlark_grammar.proofs.Words.Fronts.{front_sound}
 use Rattle.starlark_grammar.proofs.Reading.Steps.{is_nothing}
-use Rattle.starlark_grammar.proofs.Lines.{in_line, line_fits, language_lines}
+use Rattle.starlark_grammar.proofs.WordNewlines.{in_line, line_fits, language_lines}
 use Rattle.starlark_grammar.proofs.Joining.Followed.{ends_line, ends_line_drop, longest_followed}
 use Rattle.starlark_grammar.proofs.Joining.FollowedBodies.{is_closed, body_followed, starts_followed, starts_inside}
 
@@ -49,27 +49,27 @@ escape_fails : (begin : ℕ) (text : Text) (piece : Piece) → escape_fault begi
 escape_fails begin [] piece e = cc
 escape_fails begin (b ∷ bs) piece e = cc
 
-literal_by_followed : (place : Mode) (kind : Kind) (opening : Opening) (len : ℕ) (remainder other : Text) (body : Body) (stop : Stop) (piece : Piece) → literal_by place kind opening len remainder body stop ≡ Stands piece → (is_closed stop ≡ true) × (literal_by place kind opening len other body stop ≡ Stands piece)
-literal_by_followed place kind opening len remainder other body Closing piece e = (refl, e)
-literal_by_followed place kind opening len remainder other body OpeningBrace piece e = cc
-literal_by_followed place kind opening len remainder other body ClosingBrace piece e = cc
-literal_by_followed place kind opening len remainder other body (BadEscape read last) piece e = absurd (escape_fails _ _ piece e)
-literal_by_followed place kind opening len remainder other body Line piece e = cc
-literal_by_followed place kind opening len remainder other body Ended piece e = cc
+literal_by_followed : (mode : Mode) (kind : Kind) (opening : Opening) (len : ℕ) (remainder other : Text) (body : Body) (stop : Stop) (piece : Piece) → literal_by mode kind opening len remainder body stop ≡ Stands piece → (is_closed stop ≡ true) × (literal_by mode kind opening len other body stop ≡ Stands piece)
+literal_by_followed mode kind opening len remainder other body Closing piece e = (refl, e)
+literal_by_followed mode kind opening len remainder other body OpeningBrace piece e = cc
+literal_by_followed mode kind opening len remainder other body ClosingBrace piece e = cc
+literal_by_followed mode kind opening len remainder other body (BadEscape read last) piece e = absurd (escape_fails _ _ piece e)
+literal_by_followed mode kind opening len remainder other body Line piece e = cc
+literal_by_followed mode kind opening len remainder other body Ended piece e = cc
 
-pub literal_followed : (place : Mode) (kind : Kind) (opening : Opening) (len : ℕ) (remainder more : Text) (piece : Piece) → ends_line remainder ≡ true → literal place kind opening len remainder ≡ Stands piece → literal place kind opening len (remainder ++ more) ≡ Stands piece
-literal_followed place kind opening len remainder more piece h e =
-    let stands = literal_by_followed place kind opening len remainder (remainder ++ more) (body_at (record { kind = kind; opening = opening }) remainder) _ piece e in
-    ap (λ (body : Body). literal_by place kind opening len (remainder ++ more) body body.stop) (body_followed (record { kind = kind; opening = opening }) remainder more h stands.0) ∙ stands.1
+pub literal_followed : (mode : Mode) (kind : Kind) (opening : Opening) (len : ℕ) (remainder more : Text) (piece : Piece) → ends_line remainder ≡ true → literal mode kind opening len remainder ≡ Stands piece → literal mode kind opening len (remainder ++ more) ≡ Stands piece
+literal_followed mode kind opening len remainder more piece h e =
+    let stands = literal_by_followed mode kind opening len remainder (remainder ++ more) (body_at (record { kind = kind; opening = opening }) remainder) _ piece e in
+    ap (λ (body : Body). literal_by mode kind opening len (remainder ++ more) body body.stop) (body_followed (record { kind = kind; opening = opening }) remainder more h stands.0) ∙ stands.1
 
-literal_behind : (place : Mode) (kind : Kind) (opening : Opening) (len quotes : ℕ) (remainder more : Text) (piece : Piece) → ends_line remainder ≡ true → quotes < length remainder → literal place kind opening len (drop quotes remainder) ≡ Stands piece → literal place kind opening len (drop quotes (remainder ++ more)) ≡ Stands piece
-literal_behind place kind opening len quotes remainder more piece h inside e =
-    subst (λ (t : Text). literal place kind opening len t ≡ Stands piece) (sym (drop-append-le quotes remainder more (omega arith))) (literal_followed place kind opening len (drop quotes remainder) more piece (ends_line_drop quotes remainder inside h) e)
+literal_after : (mode : Mode) (kind : Kind) (opening : Opening) (len quotes : ℕ) (remainder more : Text) (piece : Piece) → ends_line remainder ≡ true → quotes < length remainder → literal mode kind opening len (drop quotes remainder) ≡ Stands piece → literal mode kind opening len (drop quotes (remainder ++ more)) ≡ Stands piece
+literal_after mode kind opening len quotes remainder more piece h inside e =
+    subst (λ (t : Text). literal mode kind opening len t ≡ Stands piece) (sym (drop-append-le quotes remainder more (omega arith))) (literal_followed mode kind opening len (drop quotes remainder) more piece (ends_line_drop quotes remainder inside h) e)
 
-opener_followed : (place : Mode) (kind : Kind) (opening : Opening) (len : ℕ) (remainder more : Text) (piece : Piece) → ends_line remainder ≡ true → more_quotes opening < length remainder → opener place kind opening len remainder ≡ Stands piece → opener place kind opening len (remainder ++ more) ≡ Stands piece
-opener_followed place OfFString opening len remainder more piece h inside e = e
-opener_followed place OfText opening len remainder more piece h inside e = literal_behind place OfText opening (len + more_quotes opening) (more_quotes opening) remainder more piece h inside e
-opener_followed place OfBytes opening len remainder more piece h inside e = literal_behind place OfBytes opening (len + more_quotes opening) (more_quotes opening) remainder more piece h inside e
+opener_followed : (mode : Mode) (kind : Kind) (opening : Opening) (len : ℕ) (remainder more : Text) (piece : Piece) → ends_line remainder ≡ true → more_quotes opening < length remainder → opener mode kind opening len remainder ≡ Stands piece → opener mode kind opening len (remainder ++ more) ≡ Stands piece
+opener_followed mode OfFString opening len remainder more piece h inside e = e
+opener_followed mode OfText opening len remainder more piece h inside e = literal_after mode OfText opening (len + more_quotes opening) (more_quotes opening) remainder more piece h inside e
+opener_followed mode OfBytes opening len remainder more piece h inside e = literal_after mode OfBytes opening (len + more_quotes opening) (more_quotes opening) remainder more piece h inside e
 
 pub quotes_in_line : (quote : Quote) → in_line (quote_byte quote ∷ quote_byte quote ∷ []) ≡ true
 quotes_in_line SingleQuote = refl
@@ -110,7 +110,7 @@ pub record CountedLineEnd (s : Situation) (text more : Text) (one other : Step) 
   pub len : ℕ
   pub some : 1 ≤ len
   pub inside : len ≤ length text
-  pub counted : counts s.place s.is_balanced ≡ true
+  pub counted : counts s.mode s.is_balanced ≡ true
   pub known : class_in language (take len text) ≡ Some word.LineEnd
   pub here : one ≡ line_end len s.levels (drop len text)
   pub followed : other ≡ line_end len s.levels (drop len text ++ more)
@@ -119,27 +119,27 @@ pub record CountedLineEnd (s : Situation) (text more : Text) (one other : Step) 
 abbrev WordFollowed : Situation → Class → Text → Text → Text → Piece → Type 0
 WordFollowed s class front remainder more piece =
     (word_step s class front (remainder ++ more) ≡ Stands piece)
-    ⊎ ((class ≡ word.LineEnd) × (counts s.place s.is_balanced ≡ true) × (word_step s class front remainder ≡ line_end (length front) s.levels remainder)
+    ⊎ ((class ≡ word.LineEnd) × (counts s.mode s.is_balanced ≡ true) × (word_step s class front remainder ≡ line_end (length front) s.levels remainder)
     × (word_step s class front (remainder ++ more) ≡ line_end (length front) s.levels (remainder ++ more)))
 
 word_followed : (s : Situation) (class : Class) (front remainder more : Text) (piece : Piece) → (in_line front ≡ true → ends_line remainder ≡ true) → line_fits class front ≡ true → word_step s class front remainder ≡ Stands piece → WordFollowed s class front remainder more piece
 word_followed s word.Skipped front remainder more piece ends fits e = inl e
 word_followed s word.Comment front remainder more piece ends fits e = inl e
 word_followed s word.Tabs front remainder more piece ends fits e = inl e
-word_followed s word.LineEnd front remainder more piece ends fits e = go (counts s.place s.is_balanced) refl e
+word_followed s word.LineEnd front remainder more piece ends fits e = go (counts s.mode s.is_balanced) refl e
   where
     step : Bool → Text → Step
     step counted remainder = if counted then line_end (length front) s.levels remainder else Stands (record { len = length front; lexemes = []; width = None; sort = Other })
 
-    go : (counted : Bool) → counts s.place s.is_balanced ≡ counted → step counted remainder ≡ Stands piece
+    go : (counted : Bool) → counts s.mode s.is_balanced ≡ counted → step counted remainder ≡ Stands piece
         → (step counted (remainder ++ more) ≡ Stands piece)
-        ⊎ ((word.LineEnd ≡ word.LineEnd) × (counts s.place s.is_balanced ≡ true) × (step counted remainder ≡ line_end (length front) s.levels remainder) × (step counted (remainder ++ more) ≡ line_end (length front) s.levels (remainder ++ more)))
+        ⊎ ((word.LineEnd ≡ word.LineEnd) × (counts s.mode s.is_balanced ≡ true) × (step counted remainder ≡ line_end (length front) s.levels remainder) × (step counted (remainder ++ more) ≡ line_end (length front) s.levels (remainder ++ more)))
     go true f e = inr (refl, f, refl, refl)
     go false f e = inl e
 word_followed s (word.Opener kind is_raw quote) front remainder more piece ends fits e =
     let h = ends fits in
-    inl (ap (λ (opening : Opening). opener s.place kind opening (length front) (remainder ++ more)) (opening_followed is_raw quote remainder more h)
-    ∙ opener_followed s.place kind (opening_of is_raw quote remainder) (length front) remainder more piece h (opening_inside is_raw quote remainder h) e)
+    inl (ap (λ (opening : Opening). opener s.mode kind opening (length front) (remainder ++ more)) (opening_followed is_raw quote remainder more h)
+    ∙ opener_followed s.mode kind (opening_of is_raw quote remainder) (length front) remainder more piece h (opening_inside is_raw quote remainder h) e)
 word_followed s word.Reserved front remainder more piece ends fits e = inl e
 word_followed s word.Identifier front remainder more piece ends fits e = inl e
 word_followed s word.Decimal front remainder more piece ends fits e = inl e
@@ -193,10 +193,10 @@ bang_followed b (c ∷ bs) more h = refl
 pub code_followed : (s : Situation) (text more : Text) (piece : Piece) → ends_line text ≡ true → in_code language s text ≡ Stands piece
     → (in_code language s (text ++ more) ≡ Stands piece) ⊎ CountedLineEnd s text more (in_code language s text) (in_code language s (text ++ more))
 code_followed s [] more piece h e = cc
-code_followed s (b ∷ bs) more piece h e = go (takes_bang s.place s.before && is_bang (b ∷ bs)) same (longest_front (class_in language) (b ∷ bs)) refl found e
+code_followed s (b ∷ bs) more piece h e = go (takes_bang s.mode s.before && is_bang (b ∷ bs)) same (longest_front (class_in language) (b ∷ bs)) refl found e
   where
-    same : (takes_bang s.place s.before && is_bang (b ∷ (bs ++ more))) ≡ (takes_bang s.place s.before && is_bang (b ∷ bs))
-    same = ap (λ bang. takes_bang s.place s.before && bang) (bang_followed b bs more h)
+    same : (takes_bang s.mode s.before && is_bang (b ∷ (bs ++ more))) ≡ (takes_bang s.mode s.before && is_bang (b ∷ bs))
+    same = ap (λ bang. takes_bang s.mode s.before && bang) (bang_followed b bs more h)
 
     found : longest_front (class_in language) (b ∷ (bs ++ more)) ≡ longest_front (class_in language) (b ∷ bs)
     found = longest_followed (b ∷ bs) more h
@@ -209,10 +209,10 @@ code_followed s (b ∷ bs) more piece h e = go (takes_bang s.place s.before && i
     once true front known e = inl e
     once false front known e = front_followed s (b ∷ bs) more front piece h known e
 
-    go : (bang : Bool) → (takes_bang s.place s.before && is_bang (b ∷ (bs ++ more))) ≡ bang → (front : Option (Class × ℕ)) → longest_front (class_in language) (b ∷ bs) ≡ front → longest_front (class_in language) (b ∷ (bs ++ more)) ≡ front
+    go : (bang : Bool) → (takes_bang s.mode s.before && is_bang (b ∷ (bs ++ more))) ≡ bang → (front : Option (Class × ℕ)) → longest_front (class_in language) (b ∷ bs) ≡ front → longest_front (class_in language) (b ∷ (bs ++ more)) ≡ front
         → step bang (b ∷ bs) front ≡ Stands piece
-        → (step (takes_bang s.place s.before && is_bang (b ∷ (bs ++ more))) (b ∷ (bs ++ more)) (longest_front (class_in language) (b ∷ (bs ++ more))) ≡ Stands piece)
-        ⊎ CountedLineEnd s (b ∷ bs) more (step bang (b ∷ bs) front) (step (takes_bang s.place s.before && is_bang (b ∷ (bs ++ more))) (b ∷ (bs ++ more)) (longest_front (class_in language) (b ∷ (bs ++ more))))
+        → (step (takes_bang s.mode s.before && is_bang (b ∷ (bs ++ more))) (b ∷ (bs ++ more)) (longest_front (class_in language) (b ∷ (bs ++ more))) ≡ Stands piece)
+        ⊎ CountedLineEnd s (b ∷ bs) more (step bang (b ∷ bs) front) (step (takes_bang s.mode s.before && is_bang (b ∷ (bs ++ more))) (b ∷ (bs ++ more)) (longest_front (class_in language) (b ∷ (bs ++ more))))
     go bang again front known found e = rw (again, found) (once bang front known e)
 
 -- So does what stands at a place that isn't the text's begin.
@@ -221,8 +221,8 @@ pub step_followed : (s : Situation) (text more : Text) (piece : Piece) → is_no
 unfolding step_at
 step_followed s text more piece some h e = before s.before some e
   where
-    at : (place : Mode) → by_place language s place text ≡ Stands piece
-        → (by_place language s place (text ++ more) ≡ Stands piece) ⊎ CountedLineEnd s text more (by_place language s place text) (by_place language s place (text ++ more))
+    at : (mode : Mode) → by_mode language s mode text ≡ Stands piece
+        → (by_mode language s mode (text ++ more) ≡ Stands piece) ⊎ CountedLineEnd s text more (by_mode language s mode text) (by_mode language s mode (text ++ more))
     at Outside e = code_followed s text more piece h e
     at (InText opening) e = inl (chunk_followed opening text more piece h e)
     at AtTop e = code_followed s text more piece h e
@@ -231,11 +231,11 @@ step_followed s text more piece some h e = before s.before some e
     before : (before : Before) → is_nothing before ≡ false → by_before language s before text ≡ Stands piece
         → (by_before language s before (text ++ more) ≡ Stands piece) ⊎ CountedLineEnd s text more (by_before language s before text) (by_before language s before (text ++ more))
     before Nothing some e = cc
-    before Layout some e = at s.place e
-    before Gap some e = at s.place e
-    before Other some e = at s.place e
+    before Layout some e = at s.mode e
+    before Gap some e = at s.mode e
+    before Other some e = at s.mode e
 
--- A margin that stands leaves layout remainder, …
+-- A margin that stands leaves layout after, …
 pub margin_layout : (len : ℕ) (before : List Lexeme) (levels : List ℕ) (margin : Margin) (piece : Piece) → margin_step len before levels margin ≡ Stands piece → piece.sort ≡ Layout
 unfolding margin_step
 margin_layout len before levels margin piece e = go (not (is_content margin.remainder)) (has_tab margin) (fits (width_of margin) levels) _ _ _ _ refl refl e
@@ -259,7 +259,7 @@ other_followed s text more piece some h sort e = go (step_followed s text more p
         let layout : piece.sort ≡ Layout = margin_layout counted.len _ s.levels (margin_of (drop counted.len text)) piece (sym counted.here ∙ e) in
         let wrong : true ≡ false = sym (ap is_layout layout) ∙ sort in cc
 
--- The same of what stands remainder a history that isn't empty.
+-- The same of what stands after a history that isn't empty.
 pub next_followed : (history : History) (text more : Text) (piece : Piece) → is_nothing history.before ≡ false → ends_line text ≡ true → next_step language history text ≡ Stands piece
     → (next_step language history (text ++ more) ≡ Stands piece) ⊎ CountedLineEnd (situation history) text more (next_step language history text) (next_step language history (text ++ more))
 unfolding next_step situation

@@ -15,7 +15,7 @@ use Rattle.starlark_grammar.specs.Tokens.{Token, Newline, Int, StartsZero, FStri
 use Rattle.starlark_grammar.specs.Items.{Stop, Closing, Line, Ended, OpeningBrace, ClosingBrace, BadEscape, Body, body_at}
 use Rattle.starlark_grammar.specs.Depths.{Mode, Outside, InText, AtTop, Deeper}
 use Rattle.starlark_grammar.specs.Margins.{Margin, margin_of, margin_len, is_content, has_tab, width_of, fits, indentation, open_widths}
-use Rattle.starlark_grammar.specs.Pieces.{more_quotes, fault, token, Before, Nothing, Layout, Gap, Other, Piece, Step, Stands, Fails, Ends, Situation, margin_step, first_margin, line_end, counts, is_bang, takes_bang, escape_fault, literal_by, opener, chunk_by, chunk, starts_zero, word_step, front_step, in_code, by_place, by_before, step_at}
+use Rattle.starlark_grammar.specs.Pieces.{more_quotes, fault, token, Before, Nothing, Layout, Gap, Other, Piece, Step, Stands, Fails, Ends, Situation, margin_step, first_margin, line_end, counts, is_bang, takes_bang, escape_fault, literal_by, opener, chunk_by, chunk, starts_zero, word_step, front_step, in_code, by_mode, by_before, step_at}
 use Rattle.starlark_grammar.specs.Reading.{tokens_onto, History, nothing, after, after_all, situation, next_step, pieces_len, lexemes_along}
 use Rattle.starlark_grammar.specs.Longest.{IsReading}
 use Rattle.starlark_grammar.specs.Cuts.{is_layout}
@@ -24,7 +24,7 @@ use Rattle.starlark_grammar.proofs.Reading.Readings.{none_next, started, piece_f
 use Rattle.starlark_grammar.proofs.Reading.Steps.{is_nothing}
 use Rattle.starlark_grammar.proofs.Joining.Followed.{ends_line, ends_line_drop, longest_followed}
 use Rattle.starlark_grammar.proofs.Joining.FollowedPieces.{CountedLineEnd, step_followed}
-use Rattle.starlark_grammar.proofs.Joining.FollowedMargins.{whole_behind, Followed, Whole, Within, margin_behind, followed, has_whole_lines}
+use Rattle.starlark_grammar.proofs.Joining.FollowedMargins.{whole_after, Followed, Whole, Within, margin_after, followed, has_whole_lines}
 use Rattle.starlark_grammar.proofs.Joining.Settled.{Settled, remainder, onto_append}
 
 -- Margins and line ends
@@ -63,9 +63,9 @@ map_both f (x ∷ xs) ys = ap (λ zs. f x ∷ zs) (map_both f xs ys)
 abbrev pub joined_piece : ℕ → List Lexeme → Piece → Piece
 joined_piece len lexemes piece = record { len = len + piece.len; lexemes = lexemes ++ map (moved len) piece.lexemes; width = piece.width; sort = piece.sort }
 
-indentation_behind : (n : ℕ) (comments : List Lexeme) (margin : Margin) → indentation [] (margin_behind n comments margin) ≡ map (moved n) (indentation [] margin)
+indentation_after : (n : ℕ) (comments : List Lexeme) (margin : Margin) → indentation [] (margin_after n comments margin) ≡ map (moved n) (indentation [] margin)
 unfolding indentation
-indentation_behind n comments margin = go (nat_lt 0 (width_of margin))
+indentation_after n comments margin = go (nat_lt 0 (width_of margin))
   where
     end : n + margin.at + length margin.blanks ≡ n + (margin.at + length margin.blanks)
     end = omega arith
@@ -78,18 +78,18 @@ indentation_behind n comments margin = go (nat_lt 0 (width_of margin))
     go true = ap indents end
     go false = refl
 
--- A margin without fault, and the same remainder a line end and more comment-only lines.
-step_behind : (len : ℕ) (lexemes : List Lexeme) (n : ℕ) (comments : List Lexeme) (margin : Margin) (first : Piece) → margin_step 0 [] [] margin ≡ Stands first
-    → margin_step len lexemes [] (margin_behind n comments margin) ≡ Stands (joined_piece (len + n) (lexemes ++ map (moved len) comments) first)
+-- A margin without fault, and the same after a line end and more comment-only lines.
+step_after : (len : ℕ) (lexemes : List Lexeme) (n : ℕ) (comments : List Lexeme) (margin : Margin) (first : Piece) → margin_step 0 [] [] margin ≡ Stands first
+    → margin_step len lexemes [] (margin_after n comments margin) ≡ Stands (joined_piece (len + n) (lexemes ++ map (moved len) comments) first)
 unfolding margin_step
-step_behind len lexemes n comments margin first e =
+step_after len lexemes n comments margin first e =
     go (not (is_content margin.remainder)) (has_tab margin) (fits (width_of margin) []) refl e
   where
     laid : List Lexeme → Option ℕ → Piece
     laid indents width = record { len = 0 + margin_len margin; lexemes = map (moved 0) (margin.comments ++ indents); width = width; sort = Layout }
 
     made : List Lexeme → Option ℕ → Piece
-    made indents width = record { len = len + margin_len (margin_behind n comments margin); lexemes = lexemes ++ map (moved len) ((comments ++ map (moved n) margin.comments) ++ indents); width = width; sort = Layout }
+    made indents width = record { len = len + margin_len (margin_after n comments margin); lexemes = lexemes ++ map (moved len) ((comments ++ map (moved n) margin.comments) ++ indents); width = width; sort = Layout }
 
     same : (indents : List Lexeme) (width : Option ℕ) → made (map (moved n) indents) width ≡ joined_piece (len + n) (lexemes ++ map (moved len) comments) (laid indents width)
     same indents width =
@@ -106,10 +106,10 @@ step_behind len lexemes n comments margin first e =
 
     go : (blank tab fitting : Bool) → fits (width_of margin) [] ≡ fitting
         → (if blank then Stands (laid [] None) else (if tab then Fails (record { begin = 0; node = InvalidTab; end = 0 }) else (if fitting then Stands (laid (indentation [] margin) (Some (width_of margin))) else Fails (record { begin = 0; node = Indentation; end = 0 + margin_len margin })))) ≡ Stands first
-        → (if blank then Stands (made [] None) else (if tab then Fails (record { begin = 0; node = InvalidTab; end = 0 }) else (if fitting then Stands (made (indentation [] (margin_behind n comments margin)) (Some (width_of margin))) else Fails (record { begin = 0; node = Indentation; end = len + margin_len (margin_behind n comments margin) })))) ≡ Stands (joined_piece (len + n) (lexemes ++ map (moved len) comments) first)
+        → (if blank then Stands (made [] None) else (if tab then Fails (record { begin = 0; node = InvalidTab; end = 0 }) else (if fitting then Stands (made (indentation [] (margin_after n comments margin)) (Some (width_of margin))) else Fails (record { begin = 0; node = Indentation; end = len + margin_len (margin_after n comments margin) })))) ≡ Stands (joined_piece (len + n) (lexemes ++ map (moved len) comments) first)
     go true tab fitting f e = stands (laid [] None) (made [] None) e (same [] None)
     go false true fitting f e = cc
-    go false false true f e = stands (laid (indentation [] margin) (Some (width_of margin))) _ e (ap (λ ls. made ls (Some (width_of margin))) (indentation_behind n comments margin) ∙ same (indentation [] margin) (Some (width_of margin)))
+    go false false true f e = stands (laid (indentation [] margin) (Some (width_of margin))) _ e (ap (λ ls. made ls (Some (width_of margin))) (indentation_after n comments margin) ∙ same (indentation [] margin) (Some (width_of margin)))
     go false false false f e = cc
 
 -- Which steps are layout
@@ -123,21 +123,21 @@ plain_escape : (begin : ℕ) (text : Text) → NoLayout (escape_fault begin text
 plain_escape begin [] = tt
 plain_escape begin (b ∷ bs) = tt
 
-plain_literal : (place : Mode) (kind : Kind) (opening : Opening) (len : ℕ) (remainder : Text) (body : Body) (stop : Stop) → NoLayout (literal_by place kind opening len remainder body stop)
-plain_literal place kind opening len remainder body Closing = refl
-plain_literal place kind opening len remainder body (BadEscape read last) = plain_escape _ _
-plain_literal place kind opening len remainder body Line = tt
-plain_literal place kind opening len remainder body Ended = tt
-plain_literal place kind opening len remainder body OpeningBrace = tt
-plain_literal place kind opening len remainder body ClosingBrace = tt
+plain_literal : (mode : Mode) (kind : Kind) (opening : Opening) (len : ℕ) (remainder : Text) (body : Body) (stop : Stop) → NoLayout (literal_by mode kind opening len remainder body stop)
+plain_literal mode kind opening len remainder body Closing = refl
+plain_literal mode kind opening len remainder body (BadEscape read last) = plain_escape _ _
+plain_literal mode kind opening len remainder body Line = tt
+plain_literal mode kind opening len remainder body Ended = tt
+plain_literal mode kind opening len remainder body OpeningBrace = tt
+plain_literal mode kind opening len remainder body ClosingBrace = tt
 
-plain_body : (place : Mode) (kind : Kind) (opening : Opening) (len : ℕ) (remainder : Text) (body : Body) → NoLayout (literal_by place kind opening len remainder body body.stop)
-plain_body place kind opening len remainder body = plain_literal place kind opening len remainder body body.stop
+plain_body : (mode : Mode) (kind : Kind) (opening : Opening) (len : ℕ) (remainder : Text) (body : Body) → NoLayout (literal_by mode kind opening len remainder body body.stop)
+plain_body mode kind opening len remainder body = plain_literal mode kind opening len remainder body body.stop
 
-plain_opener : (place : Mode) (kind : Kind) (opening : Opening) (len : ℕ) (remainder : Text) → NoLayout (opener place kind opening len remainder)
-plain_opener place OfFString opening len remainder = refl
-plain_opener place OfText opening len remainder = plain_body place OfText opening (len + more_quotes opening) (drop (more_quotes opening) remainder) (body_at (record { kind = OfText; opening = opening }) (drop (more_quotes opening) remainder))
-plain_opener place OfBytes opening len remainder = plain_body place OfBytes opening (len + more_quotes opening) (drop (more_quotes opening) remainder) (body_at (record { kind = OfBytes; opening = opening }) (drop (more_quotes opening) remainder))
+plain_opener : (mode : Mode) (kind : Kind) (opening : Opening) (len : ℕ) (remainder : Text) → NoLayout (opener mode kind opening len remainder)
+plain_opener mode OfFString opening len remainder = refl
+plain_opener mode OfText opening len remainder = plain_body mode OfText opening (len + more_quotes opening) (drop (more_quotes opening) remainder) (body_at (record { kind = OfText; opening = opening }) (drop (more_quotes opening) remainder))
+plain_opener mode OfBytes opening len remainder = plain_body mode OfBytes opening (len + more_quotes opening) (drop (more_quotes opening) remainder) (body_at (record { kind = OfBytes; opening = opening }) (drop (more_quotes opening) remainder))
 
 plain_chunk : (opening : Opening) (text : Text) → NoLayout (chunk opening text)
 unfolding chunk
@@ -162,7 +162,7 @@ plain_if false one other h k = k
 pub record CountedEnd (s : Situation) (text : Text) (piece : Piece) : Type 0 where
   pub len : ℕ
   pub front : longest_front (class_in language) text ≡ Some (word.LineEnd, len)
-  pub counted : counts s.place s.is_balanced ≡ true
+  pub counted : counts s.mode s.is_balanced ≡ true
   pub stands : line_end (length (take len text)) s.levels (drop len text) ≡ Stands piece
 
 layout_not : (step : Step) (piece : Piece) → NoLayout step → step ≡ Stands piece → is_layout piece.sort ≡ true → ⊥
@@ -175,13 +175,13 @@ module _ (s : Situation) (text : Text) (piece : Piece) (laid : is_layout piece.s
   by_class word.Skipped len front e = absurd (layout_not _ piece refl e laid)
   by_class word.Comment len front e = absurd (layout_not _ piece refl e laid)
   by_class word.Tabs len front e = absurd (layout_not _ piece tt e laid)
-  by_class word.LineEnd len front e = go (counts s.place s.is_balanced) refl e
+  by_class word.LineEnd len front e = go (counts s.mode s.is_balanced) refl e
     where
-      go : (counted : Bool) → counts s.place s.is_balanced ≡ counted
+      go : (counted : Bool) → counts s.mode s.is_balanced ≡ counted
           → (if counted then line_end (length (take len text)) s.levels (drop len text) else Stands (record { len = length (take len text); lexemes = []; width = None; sort = Other })) ≡ Stands piece → CountedEnd s text piece
       go true f e = record { len = len; front = front; counted = f; stands = e }
       go false f e = absurd (layout_not _ piece refl e laid)
-  by_class (word.Opener kind is_raw quote) len front e = absurd (layout_not _ piece (plain_opener s.place kind _ _ _) e laid)
+  by_class (word.Opener kind is_raw quote) len front e = absurd (layout_not _ piece (plain_opener s.mode kind _ _ _) e laid)
   by_class word.Reserved len front e = absurd (layout_not _ piece tt e laid)
   by_class word.Identifier len front e = absurd (layout_not _ piece refl e laid)
   by_class word.Decimal len front e = absurd (layout_not _ piece (plain_if (starts_zero (take len text)) (fault 0 (StartsZero (take len text)) (length (take len text))) (token (length (take len text)) (Int (integer_of 10 (take len text)))) tt refl) e laid)
@@ -204,13 +204,13 @@ module _ (s : Situation) (text : Text) (piece : Piece) (laid : is_layout piece.s
 
       go : (t : Text) → text ≡ t → in_code language s t ≡ Stands piece → CountedEnd s text piece
       go [] same e = cc
-      go (b ∷ bs) same e = bang b bs (takes_bang s.place s.before && is_bang (b ∷ bs)) same e
+      go (b ∷ bs) same e = bang b bs (takes_bang s.mode s.before && is_bang (b ∷ bs)) same e
 
-  by_place_end : (place : Mode) → by_place language s place text ≡ Stands piece → CountedEnd s text piece
-  by_place_end Outside e = in_code_end e
-  by_place_end (InText opening) e = absurd (layout_not _ piece (plain_chunk opening text) e laid)
-  by_place_end AtTop e = in_code_end e
-  by_place_end Deeper e = in_code_end e
+  by_mode_end : (mode : Mode) → by_mode language s mode text ≡ Stands piece → CountedEnd s text piece
+  by_mode_end Outside e = in_code_end e
+  by_mode_end (InText opening) e = absurd (layout_not _ piece (plain_chunk opening text) e laid)
+  by_mode_end AtTop e = in_code_end e
+  by_mode_end Deeper e = in_code_end e
 
   pub counted_end : is_nothing s.before ≡ false → step_at language s text ≡ Stands piece → CountedEnd s text piece
   unfolding step_at
@@ -218,29 +218,29 @@ module _ (s : Situation) (text : Text) (piece : Piece) (laid : is_layout piece.s
     where
       go : (before : Before) → is_nothing before ≡ false → by_before language s before text ≡ Stands piece → CountedEnd s text piece
       go Nothing h e = cc
-      go Layout h e = by_place_end s.place e
-      go Gap h e = by_place_end s.place e
-      go Other h e = by_place_end s.place e
+      go Layout h e = by_mode_end s.mode e
+      go Gap h e = by_mode_end s.mode e
+      go Other h e = by_mode_end s.mode e
 
-pub outside : (place : Mode) (balanced : Bool) → counts place balanced ≡ true → place ≡ Outside
+pub outside : (mode : Mode) (balanced : Bool) → counts mode balanced ≡ true → mode ≡ Outside
 outside Outside balanced h = refl
 outside (InText opening) balanced h = cc
 outside AtTop balanced h = cc
 outside Deeper balanced h = cc
 
 -- what stands where a line end counts
-pub counted_step : (s : Situation) (b : ℕ) (bs : Text) (len : ℕ) → is_nothing s.before ≡ false → counts s.place s.is_balanced ≡ true → longest_front (class_in language) (b ∷ bs) ≡ Some (word.LineEnd, len)
+pub counted_step : (s : Situation) (b : ℕ) (bs : Text) (len : ℕ) → is_nothing s.before ≡ false → counts s.mode s.is_balanced ≡ true → longest_front (class_in language) (b ∷ bs) ≡ Some (word.LineEnd, len)
     → step_at language s (b ∷ bs) ≡ line_end (length (take len (b ∷ bs))) s.levels (drop len (b ∷ bs))
 unfolding step_at
-counted_step s b bs len started counted front = before_is s.before started ∙ ap (λ (place : Mode). by_place language s place (b ∷ bs)) place ∙ rw (place, front) (rw (counted') refl)
+counted_step s b bs len started counted front = before_is s.before started ∙ ap (λ (mode : Mode). by_mode language s mode (b ∷ bs)) mode ∙ rw (mode, front) (rw (counted') refl)
   where
-    place : s.place ≡ Outside
-    place = outside s.place s.is_balanced counted
+    mode : s.mode ≡ Outside
+    mode = outside s.mode s.is_balanced counted
 
     counted' : s.is_balanced ≡ true
-    counted' = rw place at counted
+    counted' = rw mode at counted
 
-    before_is : (before : Before) → is_nothing before ≡ false → by_before language s before (b ∷ bs) ≡ by_place language s s.place (b ∷ bs)
+    before_is : (before : Before) → is_nothing before ≡ false → by_before language s before (b ∷ bs) ≡ by_mode language s s.mode (b ∷ bs)
     before_is Nothing h = cc
     before_is Layout h = refl
     before_is Gap h = refl
@@ -268,7 +268,7 @@ pub blank_step : (len : ℕ) (lexemes : List Lexeme) (levels : List ℕ) (commen
 unfolding margin_step
 blank_step len lexemes levels comments at = refl
 
--- The last margin of a text of whole lines, with a text remainder it whose first margin stands.
+-- The last margin of a text of whole lines, with a text after it whose first margin stands.
 joined_margin : (len : ℕ) (lexemes : List Lexeme) (text more : Text) (piece first : Piece) → has_whole_lines text ≡ true → margin_step len lexemes [] (margin_of text) ≡ Stands piece → piece.len ≡ len + length text → first_margin more ≡ Stands first
     → (margin_step len lexemes [] (margin_of (text ++ more)) ≡ Stands (joined_piece (len + length text) piece.lexemes first)) × (piece.width ≡ None)
 joined_margin len lexemes text more piece first whole stands reach begins = go (followed text more whole)
@@ -284,7 +284,7 @@ joined_margin len lexemes text more piece first whole stands reach begins = go (
         let is_last : Stands last ≡ Stands piece = sym (last_step e) ∙ stands in
         let same : last ≡ piece = cc in
         let lists : lexemes ++ map (moved len) (margin_of text).comments ≡ piece.lexemes = ap (λ ls. lexemes ++ map (moved len) ls) (sym (append-nil (margin_of text).comments)) ∙ ap (λ (p : Piece). p.lexemes) same in (
-          ap (margin_step len lexemes []) f ∙ step_behind len lexemes (length text) (margin_of text).comments (margin_of more) first begins
+          ap (margin_step len lexemes []) f ∙ step_after len lexemes (length text) (margin_of text).comments (margin_of more) first begins
               ∙ ap (λ ls. Stands (joined_piece (len + length text) ls first)) lists,
           sym (ap (λ (p : Piece). p.width) same),
         )
@@ -312,7 +312,7 @@ last_joined s text more piece first ends levels laid reach stands begins = go s.
             let taken : take n (text ++ more) ≡ take n text = take-append-le n text more inside in
             let left : drop n (text ++ more) ≡ drop n text ++ more = drop-append-le n text more inside in
             let total : length (take n text) + length (drop n text) ≡ length text = omega (arith, length-take n text, length-drop n text, inside) in
-            let found = joined_margin (length (take n text)) (record { begin = 0; node = Newline; end = length (take n text) } ∷ []) (drop n text) more piece first (whole_behind n text (whole_from_ends text ends)) (rw levels at end.stands) (omega (arith, reach, total)) begins in
+            let found = joined_margin (length (take n text)) (record { begin = 0; node = Newline; end = length (take n text) } ∷ []) (drop n text) more piece first (whole_after n text (whole_from_ends text ends)) (rw levels at end.stands) (omega (arith, reach, total)) begins in
             (step ∙ rw (taken, left, levels) (found.0 ∙ ap (λ n. Stands (joined_piece n piece.lexemes first)) total), found.1)
 
     go : (before : Before) → s.before ≡ before → by_before language s before text ≡ Stands piece → Claim before
@@ -344,7 +344,7 @@ stands_followed s text more piece ends less stands = go s.before refl stands
         by : (step_at language s (text ++ more) ≡ Stands piece) ⊎ CountedLineEnd s text more (step_at language s text) (step_at language s (text ++ more)) → step_at language s (text ++ more) ≡ Stands piece
         by (inl same) = same
         by (inr end) =
-            end.followed ∙ margin_stays end.len (record { begin = 0; node = Newline; end = end.len } ∷ []) s.levels (drop end.len text) more piece (whole_behind end.len text (whole_from_ends text ends)) (sym end.here ∙ stands) (omega (arith, less, length-drop end.len text, end.inside))
+            end.followed ∙ margin_stays end.len (record { begin = 0; node = Newline; end = end.len } ∷ []) s.levels (drop end.len text) more piece (whole_after end.len text (whole_from_ends text ends)) (sym end.here ∙ stands) (omega (arith, less, length-drop end.len text, end.inside))
 
     go : (before : Before) → s.before ≡ before → by_before language s before text ≡ Stands piece → by_before language s before (text ++ more) ≡ Stands piece
     go Nothing same e = margin_stays 0 [] [] text more piece (whole_from_ends text ends) e (omega (arith, less))
@@ -358,7 +358,7 @@ pub next_stays : (history : History) (text more : Text) (piece : Piece) → ends
 unfolding next_step situation
 next_stays history text more piece ends less stands = stands_followed (situation history) text more piece ends less stands
 
--- The reading of a settled text with a text remainder it whose first margin stands.
+-- The reading of a settled text with a text after it whose first margin stands.
 pub record Joined (history settled : History) (text more : Text) (pieces : List Piece) (first : Piece) : Type 0 where
   pub pieces' : List Piece
   pub some : ¬ (pieces' ≡ [])
@@ -396,7 +396,7 @@ last_width s text piece ends laid reach stands = go s.before refl stands
         counted : CountedEnd s text piece → piece.width ≡ None
         counted end =
             let inside = (longest_front_is (class_in language) text word.LineEnd end.len end.front).inside in
-            margin_width (length (take end.len text)) (record { begin = 0; node = Newline; end = length (take end.len text) } ∷ []) s.levels (drop end.len text) piece (whole_behind end.len text (whole_from_ends text ends)) end.stands (omega (arith, reach, length-take end.len text, length-drop end.len text, inside))
+            margin_width (length (take end.len text)) (record { begin = 0; node = Newline; end = length (take end.len text) } ∷ []) s.levels (drop end.len text) piece (whole_after end.len text (whole_from_ends text ends)) end.stands (omega (arith, reach, length-take end.len text, length-drop end.len text, inside))
 
     go : (before : Before) → s.before ≡ before → by_before language s before text ≡ Stands piece → piece.width ≡ None
     go Nothing same e = margin_width 0 [] [] text piece (whole_from_ends text ends) e (omega (arith, reach))
@@ -433,7 +433,7 @@ join_last history text more piece first ends stands reach settled begins =
     no_cons : (p : Piece) (ps : List Piece) → p ∷ ps ≡ [] → ⊥
     no_cons p ps e = cc
 
--- a piece remainder which another stands ends before the text does
+-- a piece after which another stands ends before the text does
 pub inside : (history : History) (text : Text) (piece next : Piece) → next_step language history text ≡ Stands piece → next_step language (after history piece) (drop piece.len text) ≡ Stands next → piece.len < length text
 inside history text piece next stands remainder = go (drop piece.len text) refl remainder
   where
@@ -444,7 +444,7 @@ inside history text piece next stands remainder = go (drop piece.len text) refl 
 total_at : (at n : ℕ) (text : Text) → n < length text → at + n + length (drop n text) ≡ at + length text
 total_at at n text less = omega (arith, length-drop n text)
 
--- Of a settled text all pieces but the last stay, and the last goes on with the first margin of the text remainder.
+-- Of a settled text all pieces but the last stay, and the last goes on with the first margin of the text after.
 pub join_reading : (history : History) (text more : Text) (pieces : List Piece) (first : Piece) → ends_line text ≡ true → ¬ (pieces ≡ []) → IsReading language history text pieces → pieces_len pieces ≡ length text → Settled (after_all history pieces) → first_margin more ≡ Stands first
     → Joined history (after_all history pieces) text more pieces first
 join_reading history text more [] first ends some reads reach settled begins = absurd (some refl)

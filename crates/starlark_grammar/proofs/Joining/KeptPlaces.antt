@@ -16,7 +16,7 @@ use Rattle.starlark_grammar.proofs.Reading.Readings.{read_is, reading_fits, read
 use Rattle.starlark_grammar.proofs.Reading.Steps.{Each, lines_len}
 use Rattle.starlark_grammar.proofs.Joining.CleanCuts.{along_both, pieces_both}
 use Rattle.starlark_grammar.proofs.Joining.Followed.{ends_line_of}
-use Rattle.starlark_grammar.proofs.Joining.FollowedMargins.{lines_followed, lines_sum, while_all, whole_behind}
+use Rattle.starlark_grammar.proofs.Joining.FollowedMargins.{lines_followed, lines_sum, while_all, whole_after}
 use Rattle.starlark_grammar.proofs.Joining.Joined.{whole_from_ends}
 use Rattle.starlark_grammar.proofs.Joining.LaidCuts.{AfterComments, First, IsFlat, IsLaid, LaysOut, clean_laid, MarginAt, comments_count, first_laid, laid_lexemes, line_count, line_laid, line_of, split_last}
 use Rattle.starlark_grammar.proofs.Joining.LineCuts.{next_reads, reads_more}
@@ -59,7 +59,7 @@ margin_least n line levels text piece stands =
     (either (Each (HasAtLeast (length line + length (margin_of text).comments)) (λ fault. ⊤)) (fits (width_of (margin_of text)) levels) _ _ (at_least n line (margin_of text).comments (indentation levels (margin_of text))) tt))) in
     omega (arith, least, margin_count text)
 
--- A place remainder so many comment-only lines of a margin, which begins remainder some pieces and a line end of so many bytes, with
+-- A place after so many comment-only lines of a margin, which begins after some pieces and a line end of so many bytes, with
 -- the lexemes of the pieces and one or none of the line end before it.
 pub record HasPassed (text : Text) (at : ℕ) (pieces : List Piece) (n line : ℕ) : Type 0 where
   pub passed : ℕ
@@ -84,15 +84,15 @@ module _ (text : Text) (at : ℕ) (laid : IsLaid text at) where
 
   front_lines : comment_lines margin_text ≡ lines lines_before ++ take_while is_comment_only (lines (drop at text))
   front_lines =
-      let whole = whole_behind laid.n _ (whole_behind (pieces_len laid.pieces) _ (whole_from_ends (take at text) (ends_line_of (take at text) laid.ends))) in
+      let whole = whole_after laid.n _ (whole_after (pieces_len laid.pieces) _ (whole_from_ends (take at text) (ends_line_of (take at text) laid.ends))) in
       ap comment_lines parts ∙ ap (take_while is_comment_only) (lines_followed lines_before (drop at text) whole) ∙ while_all is_comment_only (lines lines_before) (lines (drop at text)) laid.comments
 
   all_lines : length (lines lines_before) ≤ length (comment_lines margin_text)
   all_lines = omega (arith, ap length front_lines, length-append (lines lines_before) (take_while is_comment_only (lines (drop at text))))
 
-  -- it lies remainder so many of its margin's comment-only lines
-  laid_behind : HasPassed text at laid.pieces laid.n (line_count laid.margin)
-  laid_behind =
+  -- it lies after so many of its margin's comment-only lines
+  laid_after : HasPassed text at laid.pieces laid.n (line_count laid.margin)
+  laid_after =
       let front : take (length (lines lines_before)) (comment_lines margin_text) ≡ lines lines_before =
       ap (take (length (lines lines_before))) front_lines ∙ take-append_seam (lines lines_before) (take_while is_comment_only (lines (drop at text))) in
       record {
@@ -142,7 +142,7 @@ last_same (x ∷ one) (y ∷ other) p q e =
     let rest : one ++ p ∷ [] ≡ other ++ q ∷ [] = cc in
     rw (first, last_same one other p q rest) refl
 
--- pieces and one more, where others and one more go on remainder them
+-- pieces and one more, where others and one more go on after them
 no_more : (one other more : List Piece) (p q : Piece) → one ++ p ∷ [] ≡ (other ++ q ∷ []) ++ more → (one ≡ other) ⊎ (length (lexemes_along 0 other) + length q.lexemes ≤ length (lexemes_along 0 one))
 no_more one other [] p q e = inl (last_same one other p q (e ∙ append-nil (other ++ q ∷ [])))
 no_more one other (x ∷ more) p q e =
@@ -182,7 +182,7 @@ laid_in text at laid pieces piece reach reads stands more few =
     go (inl remainder) = by_less (no_more pieces laid.pieces remainder.0 piece margin.0 remainder.1)
     go (inr remainder) = by_more (no_more laid.pieces pieces remainder.0 margin.0 piece remainder.1)
 
--- A place in the margin remainder some pieces, before which nothing is open.
+-- A place in the margin after some pieces, before which nothing is open.
 pub record IsInMargin (text : Text) (at : ℕ) (pieces : List Piece) : Type 0 where
   pub n : ℕ
   pub margin : MarginAt text pieces n
@@ -197,7 +197,7 @@ cut_in text at pieces piece clean reach reads stands more few =
     let inside : at ≤ length text = omega (arith, reach, (reading_fits language nothing text (read language text).pieces (read_is language text).reads)) in
     let laid = clean_laid text at inside clean in
     subst (IsInMargin text at) (laid_in text at laid pieces piece reach reads stands more few)
-    (record { n = laid.n; margin = laid.margin; flat = laid.flat; lines_passed = laid_behind text at laid })
+    (record { n = laid.n; margin = laid.margin; flat = laid.flat; lines_passed = laid_after text at laid })
 
 -- One lexeme at least stands before a clean cut.
 pub cut_some : (text : Text) (at : ℕ) → at ≤ length text → is_clean_cut (take at text) ≡ true → 0 < length (without_closing (outcome (take at text)).lexemes)

@@ -1,4 +1,4 @@
--- Where a text may be cut inside of its layout: remainder a line end that counts and whole comment-only lines remainder it.
+-- Where a text may be cut inside of its layout: after a line end that counts and whole comment-only lines after it.
 use Rattle.std.proofs.Common.{◌≡◌, ℕ, ◌+◌, ◌≤◌, ◌<◌, Bool, true, false, List, [], ◌∷◌, ◌++◌, length, take, drop, map, refl, ap, ◌∙◌, sym, subst, Option, Some, None, arith, append-nil, length-append}
 use Rattle.std.proofs.Common.{drop_of_length-le, eq-eqb}
 use Rattle.std.proofs.Math.Seq.{drop-length}
@@ -25,12 +25,12 @@ use Rattle.starlark_grammar.proofs.Joining.CleanCuts.{Cut, along_both, but_last,
 use Rattle.starlark_grammar.proofs.Joining.Laws.{clean_by}
 use Rattle.starlark_grammar.proofs.Joining.Tabs.{first_step}
 use Rattle.starlark_grammar.proofs.Joining.Followed.{longest_followed, ends_line, ends_line_drop, ends_line_of}
-use Rattle.starlark_grammar.proofs.Joining.FollowedMargins.{Followed, Whole, Within, has_whole_lines, lines_sum, some_line, some_lines, while_all, while_less, whole_behind}
+use Rattle.starlark_grammar.proofs.Joining.FollowedMargins.{Followed, Whole, Within, has_whole_lines, lines_sum, some_line, some_lines, while_all, while_less, whole_after}
 use Rattle.starlark_grammar.proofs.Joining.Joined.{next_stays, blank_step, counted_end, counted_step, margin_step_len, outside, whole_from_ends}
 use Rattle.starlark_grammar.proofs.Joining.Settled.{Settled, outside_none}
 use Rattle.starlark_grammar.proofs.Joining.ShortenedPieces.{next_shortened}
 
--- the pieces of a text up to a place are those of each front that ends with an LF remainder them
+-- the pieces of a text up to a place are those of each front that ends with an LF after them
 pub reading_shortened : (history : History) (text more : Text) (pieces : List Piece) → ends_line text ≡ true → IsReading language history (text ++ more) pieces → pieces_len pieces < length text → IsReading language history text pieces
 reading_shortened history text more [] h reads inside = tt
 reading_shortened history text more (piece ∷ pieces) h reads inside =
@@ -64,7 +64,7 @@ unfolding open_fstring
 comments_flat n at [] tokens h = h
 comments_flat n at (line ∷ ls) tokens h = comments_flat n (at + length line) ls _ (ap (option_map _) h.0, h.1)
 
--- A margin stands at a place, remainder so many bytes: a line end that counts, or nothing at the text's begin.
+-- A margin stands at a place, after so many bytes: a line end that counts, or nothing at the text's begin.
 pub record LaysOut (history : History) (rest : Text) (n : ℕ) (line : List Lexeme) : Type 0 where
   pub inside : n ≤ length rest
   pub step : next_step language history rest ≡ margin_step n line (open_widths history.widths) (margin_of (drop n rest))
@@ -101,9 +101,9 @@ onto_both : (tokens : List Token) (xs ys : List Lexeme) → tokens_onto tokens (
 onto_both tokens [] ys = refl
 onto_both tokens (x ∷ xs) ys = onto_both (x.node ∷ tokens) xs ys
 
-flat_behind : (history : History) (rest remainder : Text) (n : ℕ) (line : List Lexeme) → LaysOut history rest n line → IsFlat history → IsFlat (after history (comments_piece n line remainder))
+flat_after : (history : History) (rest remainder : Text) (n : ℕ) (line : List Lexeme) → LaysOut history rest n line → IsFlat history → IsFlat (after history (comments_piece n line remainder))
 unfolding after is_balanced
-flat_behind history rest remainder n line laid flat =
+flat_after history rest remainder n line laid flat =
     let whole : map (moved n) (comments_from 0 (lines remainder) ++ []) ≡ map (moved n) (comments_from 0 (lines remainder)) = ap (map (moved n)) (append-nil (comments_from 0 (lines remainder))) in
     let both : tokens_onto history.tokens (line ++ map (moved n) (comments_from 0 (lines remainder) ++ [])) ≡ tokens_onto (tokens_onto history.tokens line) (map (moved n) (comments_from 0 (lines remainder))) =
     ap (λ ls. tokens_onto history.tokens (line ++ ls)) whole ∙ onto_both history.tokens line (map (moved n) (comments_from 0 (lines remainder))) in
@@ -127,7 +127,7 @@ pub comments_count : (at : ℕ) (ls : List Text) → length (comments_from at ls
 comments_count at [] = refl
 comments_count at (line ∷ ls) = omega (arith, comments_count (at + length line) ls)
 
--- Where nothing is open and only comment-only lines stand remainder the last line end, these are a text's last piece, …
+-- Where nothing is open and only comment-only lines stand after the last line end, these are a text's last piece, …
 module _ (text : Text) (pieces : List Piece) (n : ℕ) (line : List Lexeme) (ends : ends_with nat_eq text (codes "\n") ≡ true) (reads : IsReading language nothing text pieces) (flat : IsFlat (after_all nothing pieces))
     (laid : LaysOut (after_all nothing pieces) (drop (pieces_len pieces) text) n line) (h : list_all is_comment_only (lines (drop n (drop (pieces_len pieces) text))) ≡ true) where
   abbrev before_lines : History
@@ -140,7 +140,7 @@ module _ (text : Text) (pieces : List Piece) (n : ℕ) (line : List Lexeme) (end
   lines_piece = comments_piece n line (drop n lines_text)
 
   flat_now : IsFlat (after before_lines lines_piece)
-  flat_now = flat_behind before_lines lines_text (drop n lines_text) n line laid flat
+  flat_now = flat_after before_lines lines_text (drop n lines_text) n line laid flat
 
   settled_now : is_settled (after before_lines lines_piece) ≡ true
   unfolding after
@@ -225,7 +225,7 @@ ends_line_end history rest last ends begun laid reach stands =
     let sound = front_sound (class_in language) rest word.LineEnd end.len end.front in
     let place = outside (mode_after history.tokens) (is_balanced history.tokens) end.counted in
     let len : length (take end.len rest) ≡ end.len = length-take-le end.len rest sound.1 in
-    let found = margin_whole (length (take end.len rest)) (line_of (length (take end.len rest))) (open_widths history.widths) (drop end.len rest) last (whole_behind end.len rest (whole_from_ends rest ends)) end.stands (omega (arith, len, reach, length-drop end.len rest)) in
+    let found = margin_whole (length (take end.len rest)) (line_of (length (take end.len rest))) (open_widths history.widths) (drop end.len rest) last (whole_after end.len rest (whole_from_ends rest ends)) end.stands (omega (arith, len, reach, length-drop end.len rest)) in
     record {
       n = end.len;
       front = end.front;
@@ -237,13 +237,13 @@ ends_line_end history rest last ends begun laid reach stands =
       balanced = subst (λ (m : Mode). counts m (is_balanced history.tokens) ≡ true) place end.counted;
     }
 
--- A margin begins somewhere in a text: at its begin, or remainder a line end of so many bytes that counts.
+-- A margin begins somewhere in a text: at its begin, or after a line end of so many bytes that counts.
 pub data MarginAt (text : Text) (pieces : List Piece) (n : ℕ) : Type 0 where
   First : pieces ≡ [] → n ≡ 0 → MarginAt text pieces n
   AfterComments : is_nothing (after_all nothing pieces).before ≡ false → counts (mode_after (after_all nothing pieces).tokens) (is_balanced (after_all nothing pieces).tokens) ≡ true
       → longest_front (class_in language) (drop (pieces_len pieces) text) ≡ Some (word.LineEnd, n) → MarginAt text pieces n
 
--- A place remainder whole comment-only lines of a margin, before which no width is open.
+-- A place after whole comment-only lines of a margin, before which no width is open.
 pub record IsLaid (text : Text) (at : ℕ) : Type 0 where
   pub pieces : List Piece
   pub n : ℕ
@@ -262,13 +262,13 @@ line_count (First none zero_len) = 0
 line_count (AfterComments begun counted found) = 1
 
 -- The text in front of such a place, as it is read.
-record Front (text : Text) (at : ℕ) (laid : IsLaid text at) : Type 0 where
+record LaidFront (text : Text) (at : ℕ) (laid : IsLaid text at) : Type 0 where
   line : List Lexeme
   count : length line ≡ line_count laid.margin
   reads : IsReading language nothing (take at text) laid.pieces
   lays : LaysOut (after_all nothing laid.pieces) (drop (pieces_len laid.pieces) (take at text)) laid.n line
 
-front_of : (text : Text) (at : ℕ) (laid : IsLaid text at) → Front text at laid
+front_of : (text : Text) (at : ℕ) (laid : IsLaid text at) → LaidFront text at laid
 front_of text at laid =
     let found = go laid.margin in
     record { line = found.0; count = found.1; reads = reads; lays = found.2 }
@@ -355,7 +355,7 @@ pub ends_some : (text : Text) → ends_line text ≡ true → 0 < length text
 ends_some [] h = cc
 ends_some (b ∷ bs) h = omega arith
 
--- by the pieces of the front: a margin at the text's begin, or one remainder other pieces
+-- by the pieces of the front: a margin at the text's begin, or one after other pieces
 laid_by : (text : Text) (at : ℕ) (init : List Piece) (last : Piece) → at ≤ length text → ends_with nat_eq (take at text) (codes "\n") ≡ true → IsReading language nothing (take at text) init
     → next_step language (after_all nothing init) (drop (pieces_len init) (take at text)) ≡ Stands last → Settled (after (after_all nothing init) last) → pieces_len init + last.len ≡ at → IsLaid text at
 unfolding after open_fstring is_balanced open_widths

@@ -15,12 +15,12 @@ use Rattle.starlark_grammar.specs.Longest.{IsLongestReading}
 use Rattle.starlark_grammar.specs.Cuts.{is_layout, is_outside, is_settled, is_faultless, is_clean_cut, is_clean_cut_in, is_kept_cut, without_closing}
 use Rattle.starlark_grammar.specs.TextLaws.{LaterFaultsJoin, FailsLater, FaultsJoin, CutsOfJoined, TabsAfterCuts, KeptCutsKeep, HasFirstMargin}
 use Rattle.starlark_grammar.proofs.Reading.Readings.{one_longest, longest_onward, read_is}
-use Rattle.starlark_grammar.proofs.Joining.Settled.{Settled, remainder, situation_behind, map_none}
+use Rattle.starlark_grammar.proofs.Joining.Settled.{Settled, remainder, situation_after, map_none}
 use Rattle.starlark_grammar.proofs.Joining.CleanCuts.{cut, begun, longest, past, cuts_join}
-use Rattle.starlark_grammar.proofs.Joining.Tabs.{tab, HasTab, tab_of, margin_tab, first_step, first_margin_is, tab_longest, outcome_by, behind_tab}
+use Rattle.starlark_grammar.proofs.Joining.Tabs.{tab, HasTab, tab_of, margin_tab, first_step, first_margin_is, tab_longest, outcome_by, after_tab}
 
-pub tabs_behind_cuts : TabsAfterCuts
-tabs_behind_cuts first second fault h fails = (behind_tab first second h (tab_of (margin_of second) fault (sym (first_step second) ∙ fails))).is
+pub tabs_after_cuts : TabsAfterCuts
+tabs_after_cuts first second fault h fails = (after_tab first second h (tab_of (margin_of second) fault (sym (first_step second) ∙ fails))).is
 
 -- a text whose first margin has a tab
 tab_first : (text : Text) → HasTab (margin_of text) → IsLongestReading language nothing text [] (Fails tab)
@@ -48,7 +48,7 @@ faults_join first second h = go (first_margin_is second)
         let same : (outcome (first ++ second)).fault ≡ option_map (moved (length first)) (outcome second).fault = ap (λ (o : Outcome). o.fault) (cuts_join first second h margin) in
         (λ e. map_none (moved (length first)) (outcome second).fault (sym same ∙ e), λ e. same ∙ ap (option_map (moved (length first))) e)
     go (inr has) =
-        let found = behind_tab first second h has in
+        let found = after_tab first second h has in
         (λ e. absurd (has_fault (first ++ second) found.front found.longest e), λ e. absurd (has_fault second [] (tab_first second has) e))
 
 -- Clean cuts
@@ -62,13 +62,13 @@ clean_by text pieces last longest =
     ap (λ (ps : List Piece). is_faultless (read language text).last && is_settled (after_all nothing ps) && ends_with nat_eq text (codes "\n")) same.0
     ∙ ap (λ (step : Step). is_faultless step && is_settled (after_all nothing pieces) && ends_with nat_eq text (codes "\n")) same.1
 
-settled_behind : (earlier history : History) → Settled earlier → is_settled (remainder earlier history) ≡ is_settled history
+settled_after : (earlier history : History) → Settled earlier → is_settled (remainder earlier history) ≡ is_settled history
 unfolding is_settled situation
-settled_behind earlier history h =
-    ap (λ (s : Situation). is_layout s.before && is_outside s.place && s.is_balanced && length s.levels == 0) (situation_behind earlier history h)
+settled_after earlier history h =
+    ap (λ (s : Situation). is_layout s.before && is_outside s.mode && s.is_balanced && length s.levels == 0) (situation_after earlier history h)
 
-pub ends_behind : (first second : Text) → 0 < length second → ends_with nat_eq (first ++ second) (codes "\n") ≡ ends_with nat_eq second (codes "\n")
-ends_behind first second some =
+pub ends_after : (first second : Text) → 0 < length second → ends_with nat_eq (first ++ second) (codes "\n") ≡ ends_with nat_eq second (codes "\n")
+ends_after first second some =
     let at : length (first ++ second) - 1 ≡ length first + (length second - 1) = omega (arith, length-append first second) in
     ap (λ n. pointwise nat_eq (codes "\n") (drop n (first ++ second))) at ∙ ap (pointwise nat_eq (codes "\n")) (drop-append-add first second (length second - 1))
 
@@ -82,11 +82,11 @@ cuts_of_joined first second h some = go (first_margin_is second)
         let pieces = (read language first).pieces in
         clean_by (first ++ second) _ there.last (longest first second margin.0 pieces here there margin.1)
         ∙ ap (λ (history : History). is_faultless there.last && is_settled history && ends_with nat_eq (first ++ second) (codes "\n")) (past first second margin.0 pieces here there margin.1)
-        ∙ ap (λ (settled : Bool). is_faultless there.last && settled && ends_with nat_eq (first ++ second) (codes "\n")) (settled_behind (after_all nothing pieces) (after_all nothing (margin.0 ∷ there.pieces)) here.is_settled)
-        ∙ ap (λ (ends : Bool). is_faultless there.last && is_settled (after_all nothing (margin.0 ∷ there.pieces)) && ends) (ends_behind first second some)
+        ∙ ap (λ (settled : Bool). is_faultless there.last && settled && ends_with nat_eq (first ++ second) (codes "\n")) (settled_after (after_all nothing pieces) (after_all nothing (margin.0 ∷ there.pieces)) here.is_settled)
+        ∙ ap (λ (ends : Bool). is_faultless there.last && is_settled (after_all nothing (margin.0 ∷ there.pieces)) && ends) (ends_after first second some)
         ∙ sym (clean_by second (margin.0 ∷ there.pieces) there.last (longest_onward language nothing second margin.0 there.pieces there.last margin.1 there.longest))
     go (inr has) =
-        let found = behind_tab first second h has in
+        let found = after_tab first second h has in
         clean_by (first ++ second) found.front (Fails tab) found.longest ∙ sym (clean_by second [] (Fails tab) (tab_first second has))
 
 -- Kept cuts
@@ -107,7 +107,7 @@ kept_cuts_keep text at h = go (first_margin_is (drop at text))
       ap (λ (t : Text). (outcome t).lexemes) (sym whole) ∙ ap (λ (o : Outcome). o.lexemes) (cuts_join (take at text) (drop at text) parts.1 margin),
     )
     go (inr has) =
-        let found = behind_tab (take at text) (drop at text) parts.1 has in
+        let found = after_tab (take at text) (drop at text) parts.1 has in
         let same = one_longest language nothing text (read language text).pieces found.front (read language text).last (Fails tab) (read_is language text)
         (subst (λ (t : Text). IsLongestReading language nothing t found.front (Fails tab)) whole found.longest) in
         let reach : at ≤ pieces_len (read language text).pieces = leb-true at (pieces_len (read language text).pieces) parts.0 in

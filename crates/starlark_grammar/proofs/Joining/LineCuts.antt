@@ -1,4 +1,4 @@
--- Line ends and comment-only lines, and cuts remainder them.
+-- Line ends and comment-only lines, and cuts after them.
 use Rattle.std.proofs.Common.{◌≡◌, ℕ, ◌+◌, ◌-◌, ◌≤◌, ◌<◌, Bool, true, false, List, [], ◌∷◌, ◌++◌, length, take, drop, map, refl, ap, ◌∙◌, sym, subst, Some, arith, append-nil, le-leb, length-append, inl, inr, ◌⊎◌}
 use Rattle.std.specs.Prelude.{if◌then◌else◌, codes, nat_eq, nat_le, not, ◌&&◌}
 use Rattle.std.specs.List.{ends_with, list_all, onto_first}
@@ -21,7 +21,7 @@ use Rattle.starlark_grammar.specs.Laws.{Begins}
 use Rattle.starlark_grammar.specs.TextLaws.{HasFirstMargin}
 use Rattle.starlark_grammar.proofs.Words.Classes.{language_all_fit, none_found, row_fits}
 use Rattle.starlark_grammar.proofs.Words.Fronts.{front_sound}
-use Rattle.starlark_grammar.proofs.Order.Lexemes.{is_line}
+use Rattle.starlark_grammar.proofs.Order.OrderedLexemes.{is_line}
 use Rattle.starlark_grammar.proofs.Reading.Readings.{read_is, readings_agree}
 use Rattle.starlark_grammar.proofs.Joining.CleanCuts.{cut, cuts_join, pieces_both}
 use Rattle.starlark_grammar.proofs.Joining.Laws.{cuts_of_joined}
@@ -128,9 +128,9 @@ module _ (line : Text) (comment : is_comment_only line ≡ true) (one : is_line 
       go [] some reads = absurd (some refl)
       go (piece ∷ pieces) some reads = (piece, reads.0)
 
-  -- and remainder a clean cut
-  pub line_behind : (first : Text) → is_clean_cut first ≡ true → (is_clean_cut (first ++ line) ≡ true) × (length (without_closing (outcome (first ++ line)).lexemes) ≡ length (without_closing (outcome first).lexemes) + 1)
-  line_behind first clean =
+  -- and after a clean cut
+  pub line_after : (first : Text) → is_clean_cut first ≡ true → (is_clean_cut (first ++ line) ≡ true) × (length (without_closing (outcome (first ++ line)).lexemes) ≡ length (without_closing (outcome first).lexemes) + 1)
+  line_after first clean =
       let whole : (outcome (first ++ line)).lexemes ≡ without_closing (outcome first).lexemes ++ map (moved (length first)) (outcome line).lexemes = ap (λ (o : Outcome). o.lexemes) (cuts_join first line clean line_margin) in
       let all = ap length whole ∙ length-append (without_closing (outcome first).lexemes) (map (moved (length first)) (outcome line).lexemes) in
       let some = ap length (cut line line_clean).lexemes ∙ length-append (lexemes_along 0 (read language line).pieces) (record { begin = length line; node = Newline; end = length line } ∷ []) in (
@@ -169,7 +169,7 @@ reads_more history text [] piece reads stands = (stands, tt)
 reads_more history text (first ∷ pieces) piece reads stands =
     (reads.0, reads_more (after history first) (drop first.len text) pieces piece reads.1 (ap (next_step language (after_all (after history first) pieces)) (sym (drop_first first pieces text)) ∙ stands))
 
--- the piece remainder some
+-- the piece after some
 pub next_reads : (history : History) (text : Text) (front : List Piece) (piece : Piece) (more : List Piece) → IsReading language history text (front ++ piece ∷ more) → next_step language (after_all history front) (drop (pieces_len front) text) ≡ Stands piece
 next_reads history text [] piece more reads = reads.0
 next_reads history text (first ∷ front) piece more reads =

@@ -1,4 +1,4 @@
--- What was read before a settled place makes no difference remainder it.
+-- What was read before a settled place makes no difference after it.
 use Rattle.std.proofs.Common.{◌≡◌, ℕ, zero, suc, ◌+◌, Bool, true, false, List, [], ◌∷◌, ◌++◌, length, drop, cond, subst, refl, ap, ◌∙◌, sym, Option, Some, None, arith, append_assoc, nat_lt}
 use Rattle.std.specs.Prelude.{◌==◌, ◌&&◌, if◌then◌else◌, count_by, option_map, option_to_list}
 use Rattle.std.specs.List.{list_all}
@@ -99,38 +99,38 @@ settled history h =
     let three = and_parts (is_layout history.before) _ two.0 in
     record { layout = three.0; none_open = outside_none _ three.1; balanced = two.1; no_width = no_widths _ one.1 }
 
-pub situation_behind : (earlier history : History) → Settled earlier → situation (remainder earlier history) ≡ situation history
+pub situation_after : (earlier history : History) → Settled earlier → situation (remainder earlier history) ≡ situation history
 unfolding situation mode_after
-situation_behind earlier history h =
+situation_after earlier history h =
     rw (open_settled earlier.tokens h.none_open 0 history.tokens, balanced_settled history.tokens earlier.tokens h.balanced, widths_settled earlier.widths history.widths h.no_width) refl
 
 pub onto_append : (tokens earlier : List Token) (lexemes : List Lexeme) → tokens_onto (tokens ++ earlier) lexemes ≡ tokens_onto tokens lexemes ++ earlier
 onto_append tokens earlier [] = refl
 onto_append tokens earlier (lexeme ∷ lexemes) = onto_append (lexeme.node ∷ tokens) earlier lexemes
 
-pub after_behind : (earlier history : History) (piece : Piece) → after (remainder earlier history) piece ≡ remainder earlier (after history piece)
+pub after_onto : (earlier history : History) (piece : Piece) → after (remainder earlier history) piece ≡ remainder earlier (after history piece)
 unfolding after
-after_behind earlier history piece = rw (onto_append history.tokens earlier.tokens piece.lexemes, append_assoc earlier.widths history.widths (option_to_list piece.width)) refl
+after_onto earlier history piece = rw (onto_append history.tokens earlier.tokens piece.lexemes, append_assoc earlier.widths history.widths (option_to_list piece.width)) refl
 
-pub next_behind : (table : Table) (earlier history : History) (text : Text) → Settled earlier → next_step table (remainder earlier history) text ≡ next_step table history text
+pub next_after : (table : Table) (earlier history : History) (text : Text) → Settled earlier → next_step table (remainder earlier history) text ≡ next_step table history text
 unfolding next_step
-next_behind table earlier history text h = rw (situation_behind earlier history h) refl
+next_after table earlier history text h = rw (situation_after earlier history h) refl
 
 -- AfterComments a settled place a text is read as it is by itself.
-pub reading_behind : (table : Table) (earlier history : History) (text : Text) (pieces : List Piece) → Settled earlier → IsReading table history text pieces → IsReading table (remainder earlier history) text pieces
-reading_behind table earlier history text [] h reads = tt
-reading_behind table earlier history text (piece ∷ pieces) h reads = (
-  next_behind table earlier history text h ∙ reads.0,
-  subst (λ (past : History). IsReading table past (drop piece.len text) pieces) (sym (after_behind earlier history piece)) (reading_behind table earlier (after history piece) (drop piece.len text) pieces h reads.1),
+pub reading_after : (table : Table) (earlier history : History) (text : Text) (pieces : List Piece) → Settled earlier → IsReading table history text pieces → IsReading table (remainder earlier history) text pieces
+reading_after table earlier history text [] h reads = tt
+reading_after table earlier history text (piece ∷ pieces) h reads = (
+  next_after table earlier history text h ∙ reads.0,
+  subst (λ (past : History). IsReading table past (drop piece.len text) pieces) (sym (after_onto earlier history piece)) (reading_after table earlier (after history piece) (drop piece.len text) pieces h reads.1),
 )
 
-pub all_behind : (earlier history : History) (pieces : List Piece) → after_all (remainder earlier history) pieces ≡ remainder earlier (after_all history pieces)
-all_behind earlier history [] = refl
-all_behind earlier history (piece ∷ pieces) = ap (λ (past : History). after_all past pieces) (after_behind earlier history piece) ∙ all_behind earlier (after history piece) pieces
+pub all_after : (earlier history : History) (pieces : List Piece) → after_all (remainder earlier history) pieces ≡ remainder earlier (after_all history pieces)
+all_after earlier history [] = refl
+all_after earlier history (piece ∷ pieces) = ap (λ (past : History). after_all past pieces) (after_onto earlier history piece) ∙ all_after earlier (after history piece) pieces
 
-pub longest_behind : (table : Table) (earlier history : History) (text : Text) (pieces : List Piece) (last : Step) → Settled earlier → IsLongestReading table history text pieces last → IsLongestReading table (remainder earlier history) text pieces last
-longest_behind table earlier history text pieces last h longest = record {
-  reads = reading_behind table earlier history text pieces h longest.reads;
-  stands_last = ap (λ (past : History). next_step table past (drop (pieces_len pieces) text)) (all_behind earlier history pieces) ∙ next_behind table earlier (after_all history pieces) (drop (pieces_len pieces) text) h ∙ longest.stands_last;
+pub longest_after : (table : Table) (earlier history : History) (text : Text) (pieces : List Piece) (last : Step) → Settled earlier → IsLongestReading table history text pieces last → IsLongestReading table (remainder earlier history) text pieces last
+longest_after table earlier history text pieces last h longest = record {
+  reads = reading_after table earlier history text pieces h longest.reads;
+  stands_last = ap (λ (past : History). next_step table past (drop (pieces_len pieces) text)) (all_after earlier history pieces) ∙ next_after table earlier (after_all history pieces) (drop (pieces_len pieces) text) h ∙ longest.stands_last;
   no_piece = longest.no_piece;
 }

@@ -1,4 +1,4 @@
--- Items and bodies of literals that stand in a text stand in it too where it ends sooner, with an LF remainder them.
+-- Items and bodies of literals that stand in a text stand in it too where it ends sooner, with an LF after them.
 use Rattle.std.proofs.Common.{◌≡◌, ℕ, zero, suc, ◌+◌, ◌-◌, ◌<◌, Bool, true, false, cond, [], ◌∷◌, ◌++◌, length, take, drop, refl, ap, ◌∙◌, sym, subst, Option, Some, None, arith, length-append}
 use Rattle.std.specs.Prelude.{◌&&◌, ◌==◌, if◌then◌else◌, nat_eq, nat_lt, encode_utf8, not}
 use Rattle.std.specs.Char.{is_ascii_hexdigit}
@@ -14,7 +14,7 @@ use Rattle.starlark_grammar.specs.declared.class.Quote.{Quote}
 use Rattle.starlark_grammar.specs.declared.class.LiteralKind.{LiteralKind as Kind}
 use Rattle.starlark_grammar.specs.declared.class.LiteralKind.TheVariants.{Text as OfText, Bytes as OfBytes, FString as OfFString}
 use Rattle.starlark_grammar.specs.Items.{Literal, Line, Ended, Item, Found, Goes, Stops, goes, closing_quotes, broken, is_character, numbered, hexadecimal, octal, escaped_newline, simple_escapes, simple, is_of_bytes, escape, drops_backslash, raw_pair, brace, is_brace, found_at, Body, body_len, body_onward, body_from, body_at}
-use Rattle.starlark_grammar.specs.Characters.{first_character}
+use Rattle.starlark_grammar.specs.FrontCharacter.{first_character}
 use Rattle.starlark_grammar.proofs.Literals.Bodies.{found_fits, FoundFits}
 use Rattle.starlark_grammar.proofs.Joining.Followed.{ends_line, ends_line_rest}
 use Rattle.starlark_grammar.proofs.Joining.FollowedBodies.{both, both_equal, closing_in_line, is_closed, starts_followed}
@@ -115,7 +115,7 @@ raw_pair_shortened kind quote [] more some = absurd (omega (arith, some))
 raw_pair_shortened kind quote (b ∷ bs) more some = λ inside.
     ap (λ (character : Text). goes (1 + length character) (if drops_backslash kind quote b then character else byte "\\" ∷ character)) (character_shortened (b ∷ bs) more (omega (arith, inside)))
 
--- remainder a byte that is no LF a text that ends with one goes on
+-- after a byte that is no LF a text that ends with one goes on
 goes_on : (b : ℕ) (bs : Text) → ends_line (b ∷ bs) ≡ true → (b ≡ 10 → ⊥) → 0 < length bs
 goes_on b [] h other = absurd (other (eqb-true b 10 h))
 goes_on b (c ∷ cs) h other = omega arith

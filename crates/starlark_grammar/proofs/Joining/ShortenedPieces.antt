@@ -1,4 +1,4 @@
--- A piece that stands in a text stands in it too where the text ends sooner, with an LF remainder the piece.
+-- A piece that stands in a text stands in it too where the text ends sooner, with an LF after the piece.
 use Rattle.std.proofs.Common.{◌≡◌, ℕ, ◌+◌, ◌≤◌, ◌<◌, Bool, true, false, List, [], ◌∷◌, ◌++◌, length, take, drop, refl, ap, ◌∙◌, sym, subst, Option, Some, None, arith}
 use Rattle.std.specs.Prelude.{◌&&◌, if◌then◌else◌}
 use Rattle.std.proofs.lemmas.List.{length-take-le, length-drop, take-append-le, drop-append-le}
@@ -12,13 +12,13 @@ use Rattle.starlark_grammar.specs.Tokens.{Opening, FStringBang, Lexeme, Newline}
 use Rattle.starlark_grammar.specs.Items.{Stop, Closing, Line, Ended, OpeningBrace, ClosingBrace, BadEscape, Body, body_at, body_len, closing_quotes}
 use Rattle.starlark_grammar.specs.Depths.{Mode, Outside, InText, AtTop, Deeper}
 use Rattle.starlark_grammar.specs.Margins.{margin_of, margin_len}
-use Rattle.starlark_grammar.specs.Pieces.{Before, Nothing, Layout, Gap, Other, Piece, Step, Stands, Situation, token, margin_step, line_end, opening_of, more_quotes, escape_fault, literal_by, literal, opener, chunk_by, chunk, counts, word_step, front_step, takes_bang, is_bang, in_code, by_place, by_before, step_at}
+use Rattle.starlark_grammar.specs.Pieces.{Before, Nothing, Layout, Gap, Other, Piece, Step, Stands, Situation, token, margin_step, line_end, opening_of, more_quotes, escape_fault, literal_by, literal, opener, chunk_by, chunk, counts, word_step, front_step, takes_bang, is_bang, in_code, by_mode, by_before, step_at}
 use Rattle.starlark_grammar.specs.Reading.{History, situation, next_step}
 use Rattle.starlark_grammar.proofs.Words.Fronts.{front_sound}
-use Rattle.starlark_grammar.proofs.Lines.{in_line, line_fits, language_lines}
+use Rattle.starlark_grammar.proofs.WordNewlines.{in_line, line_fits, language_lines}
 use Rattle.starlark_grammar.proofs.Joining.Followed.{ends_line, ends_line_drop, longest_followed}
 use Rattle.starlark_grammar.proofs.Joining.FollowedBodies.{is_closed}
-use Rattle.starlark_grammar.proofs.Joining.FollowedMargins.{Followed, Whole, Within, followed, has_whole_lines, whole_behind}
+use Rattle.starlark_grammar.proofs.Joining.FollowedMargins.{Followed, Whole, Within, followed, has_whole_lines, whole_after}
 use Rattle.starlark_grammar.proofs.Joining.FollowedPieces.{bang_followed, opening_followed, opening_inside, word_inside}
 use Rattle.starlark_grammar.proofs.Joining.Joined.{margin_step_len, step_within, whole_from_ends}
 use Rattle.starlark_grammar.proofs.Joining.ShortenedBodies.{body_shortened}
@@ -53,34 +53,34 @@ escape_fails : (begin : ℕ) (text : Text) (piece : Piece) → escape_fault begi
 escape_fails begin [] piece e = cc
 escape_fails begin (b ∷ bs) piece e = cc
 
-literal_by_shortened : (place : Mode) (kind : Kind) (opening : Opening) (len : ℕ) (remainder other : Text) (body : Body) (stop : Stop) (piece : Piece) → literal_by place kind opening len remainder body stop ≡ Stands piece
-    → (is_closed stop ≡ true) × (len + body_len body ≤ piece.len) × (literal_by place kind opening len other body stop ≡ Stands piece)
-literal_by_shortened place kind opening len remainder other body Closing piece e = let total : len + body_len body + length (closing_quotes opening) ≡ piece.len = ap len_of e in (refl, omega (arith, total), e)
+literal_by_shortened : (mode : Mode) (kind : Kind) (opening : Opening) (len : ℕ) (remainder other : Text) (body : Body) (stop : Stop) (piece : Piece) → literal_by mode kind opening len remainder body stop ≡ Stands piece
+    → (is_closed stop ≡ true) × (len + body_len body ≤ piece.len) × (literal_by mode kind opening len other body stop ≡ Stands piece)
+literal_by_shortened mode kind opening len remainder other body Closing piece e = let total : len + body_len body + length (closing_quotes opening) ≡ piece.len = ap len_of e in (refl, omega (arith, total), e)
   where
     len_of : Step → ℕ
     len_of (Stands piece) = piece.len
     len_of step = 0
-literal_by_shortened place kind opening len remainder other body OpeningBrace piece e = cc
-literal_by_shortened place kind opening len remainder other body ClosingBrace piece e = cc
-literal_by_shortened place kind opening len remainder other body (BadEscape read last) piece e = absurd (escape_fails _ _ piece e)
-literal_by_shortened place kind opening len remainder other body Line piece e = cc
-literal_by_shortened place kind opening len remainder other body Ended piece e = cc
+literal_by_shortened mode kind opening len remainder other body OpeningBrace piece e = cc
+literal_by_shortened mode kind opening len remainder other body ClosingBrace piece e = cc
+literal_by_shortened mode kind opening len remainder other body (BadEscape read last) piece e = absurd (escape_fails _ _ piece e)
+literal_by_shortened mode kind opening len remainder other body Line piece e = cc
+literal_by_shortened mode kind opening len remainder other body Ended piece e = cc
 
-literal_shortened : (place : Mode) (kind : Kind) (opening : Opening) (len : ℕ) (remainder more : Text) (piece : Piece) → ends_line remainder ≡ true → literal place kind opening len (remainder ++ more) ≡ Stands piece → piece.len < len + length remainder → literal place kind opening len remainder ≡ Stands piece
-literal_shortened place kind opening len remainder more piece h e inside =
-    let stands = literal_by_shortened place kind opening len (remainder ++ more) remainder (body_at (record { kind = kind; opening = opening }) (remainder ++ more)) _ piece e in
-    ap (λ (body : Body). literal_by place kind opening len remainder body body.stop) (body_shortened (record { kind = kind; opening = opening }) remainder more h stands.0 (omega (arith, stands.1, inside))) ∙ stands.2
+literal_shortened : (mode : Mode) (kind : Kind) (opening : Opening) (len : ℕ) (remainder more : Text) (piece : Piece) → ends_line remainder ≡ true → literal mode kind opening len (remainder ++ more) ≡ Stands piece → piece.len < len + length remainder → literal mode kind opening len remainder ≡ Stands piece
+literal_shortened mode kind opening len remainder more piece h e inside =
+    let stands = literal_by_shortened mode kind opening len (remainder ++ more) remainder (body_at (record { kind = kind; opening = opening }) (remainder ++ more)) _ piece e in
+    ap (λ (body : Body). literal_by mode kind opening len remainder body body.stop) (body_shortened (record { kind = kind; opening = opening }) remainder more h stands.0 (omega (arith, stands.1, inside))) ∙ stands.2
 
-literal_behind : (place : Mode) (kind : Kind) (opening : Opening) (len quotes : ℕ) (remainder more : Text) (piece : Piece) → ends_line remainder ≡ true → quotes < length remainder → literal place kind opening (len + quotes) (drop quotes (remainder ++ more)) ≡ Stands piece
-    → piece.len < len + length remainder → literal place kind opening (len + quotes) (drop quotes remainder) ≡ Stands piece
-literal_behind place kind opening len quotes remainder more piece h some e inside =
-    literal_shortened place kind opening (len + quotes) (drop quotes remainder) more piece (ends_line_drop quotes remainder some h)
-    (subst (λ (t : Text). literal place kind opening (len + quotes) t ≡ Stands piece) (drop-append-le quotes remainder more (omega (arith, some))) e) (omega (arith, inside, some, length-drop quotes remainder))
+literal_after : (mode : Mode) (kind : Kind) (opening : Opening) (len quotes : ℕ) (remainder more : Text) (piece : Piece) → ends_line remainder ≡ true → quotes < length remainder → literal mode kind opening (len + quotes) (drop quotes (remainder ++ more)) ≡ Stands piece
+    → piece.len < len + length remainder → literal mode kind opening (len + quotes) (drop quotes remainder) ≡ Stands piece
+literal_after mode kind opening len quotes remainder more piece h some e inside =
+    literal_shortened mode kind opening (len + quotes) (drop quotes remainder) more piece (ends_line_drop quotes remainder some h)
+    (subst (λ (t : Text). literal mode kind opening (len + quotes) t ≡ Stands piece) (drop-append-le quotes remainder more (omega (arith, some))) e) (omega (arith, inside, some, length-drop quotes remainder))
 
-opener_shortened : (place : Mode) (kind : Kind) (opening : Opening) (len : ℕ) (remainder more : Text) (piece : Piece) → ends_line remainder ≡ true → more_quotes opening < length remainder → opener place kind opening len (remainder ++ more) ≡ Stands piece → piece.len < len + length remainder → opener place kind opening len remainder ≡ Stands piece
-opener_shortened place OfFString opening len remainder more piece h some e inside = e
-opener_shortened place OfText opening len remainder more piece h some e inside = literal_behind place OfText opening len (more_quotes opening) remainder more piece h some e inside
-opener_shortened place OfBytes opening len remainder more piece h some e inside = literal_behind place OfBytes opening len (more_quotes opening) remainder more piece h some e inside
+opener_shortened : (mode : Mode) (kind : Kind) (opening : Opening) (len : ℕ) (remainder more : Text) (piece : Piece) → ends_line remainder ≡ true → more_quotes opening < length remainder → opener mode kind opening len (remainder ++ more) ≡ Stands piece → piece.len < len + length remainder → opener mode kind opening len remainder ≡ Stands piece
+opener_shortened mode OfFString opening len remainder more piece h some e inside = e
+opener_shortened mode OfText opening len remainder more piece h some e inside = literal_after mode OfText opening len (more_quotes opening) remainder more piece h some e inside
+opener_shortened mode OfBytes opening len remainder more piece h some e inside = literal_after mode OfBytes opening len (more_quotes opening) remainder more piece h some e inside
 
 -- Margins
 
@@ -102,7 +102,7 @@ word_shortened : (s : Situation) (class : Class) (front remainder more : Text) (
 word_shortened s word.Skipped front remainder more piece ends whole fits e inside = e
 word_shortened s word.Comment front remainder more piece ends whole fits e inside = e
 word_shortened s word.Tabs front remainder more piece ends whole fits e inside = e
-word_shortened s word.LineEnd front remainder more piece ends whole fits e inside = go (counts s.place s.is_balanced) e
+word_shortened s word.LineEnd front remainder more piece ends whole fits e inside = go (counts s.mode s.is_balanced) e
   where
     step : Bool → Text → Step
     step counted remainder = if counted then line_end (length front) s.levels remainder else Stands (record { len = length front; lexemes = []; width = None; sort = Other })
@@ -112,8 +112,8 @@ word_shortened s word.LineEnd front remainder more piece ends whole fits e insid
     go false e = e
 word_shortened s (word.Opener kind is_raw quote) front remainder more piece ends whole fits e inside =
     let h = ends fits in
-    opener_shortened s.place kind (opening_of is_raw quote remainder) (length front) remainder more piece h (opening_inside is_raw quote remainder h)
-    (sym (ap (λ (opening : Opening). opener s.place kind opening (length front) (remainder ++ more)) (opening_followed is_raw quote remainder more h)) ∙ e) inside
+    opener_shortened s.mode kind (opening_of is_raw quote remainder) (length front) remainder more piece h (opening_inside is_raw quote remainder h)
+    (sym (ap (λ (opening : Opening). opener s.mode kind opening (length front) (remainder ++ more)) (opening_followed is_raw quote remainder more h)) ∙ e) inside
 word_shortened s word.Reserved front remainder more piece ends whole fits e inside = e
 word_shortened s word.Identifier front remainder more piece ends whole fits e inside = e
 word_shortened s word.Decimal front remainder more piece ends whole fits e inside = e
@@ -126,7 +126,7 @@ word_shortened s (word.Fixed terminal) front remainder more piece ends whole fit
 front_shortened : (s : Situation) (text more : Text) (found : Option (Class × ℕ)) (piece : Piece) → ends_line text ≡ true → longest_front (class_in language) text ≡ found → front_step s (text ++ more) found ≡ Stands piece → piece.len < length text → front_step s text found ≡ Stands piece
 front_shortened s text more None piece h found e inside = cc
 front_shortened s text more (Some front) piece h found e inside =
-    word_shortened s front.0 (take front.1 text) (drop front.1 text) more piece ends (whole_behind front.1 text (whole_from_ends text h)) (language_lines (take front.1 text) front.0 sound.2) (sym again ∙ e)
+    word_shortened s front.0 (take front.1 text) (drop front.1 text) more piece ends (whole_after front.1 text (whole_from_ends text h)) (language_lines (take front.1 text) front.0 sound.2) (sym again ∙ e)
     (omega (arith, inside, length-take-le front.1 text sound.1, length-drop front.1 text, sound.1))
   where
     sound : (1 ≤ front.1) × (front.1 ≤ length text) × (class_in language (take front.1 text) ≡ Some front.0)
@@ -142,10 +142,10 @@ front_shortened s text more (Some front) piece h found e inside =
 
 code_shortened : (s : Situation) (text more : Text) (piece : Piece) → ends_line text ≡ true → in_code language s (text ++ more) ≡ Stands piece → piece.len < length text → in_code language s text ≡ Stands piece
 code_shortened s [] more piece h e inside = absurd (omega (arith, inside))
-code_shortened s (b ∷ bs) more piece h e inside = go (takes_bang s.place s.before && is_bang (b ∷ bs)) same (longest_front (class_in language) (b ∷ bs)) refl found e
+code_shortened s (b ∷ bs) more piece h e inside = go (takes_bang s.mode s.before && is_bang (b ∷ bs)) same (longest_front (class_in language) (b ∷ bs)) refl found e
   where
-    same : (takes_bang s.place s.before && is_bang (b ∷ (bs ++ more))) ≡ (takes_bang s.place s.before && is_bang (b ∷ bs))
-    same = ap (λ bang. takes_bang s.place s.before && bang) (bang_followed b bs more h)
+    same : (takes_bang s.mode s.before && is_bang (b ∷ (bs ++ more))) ≡ (takes_bang s.mode s.before && is_bang (b ∷ bs))
+    same = ap (λ bang. takes_bang s.mode s.before && bang) (bang_followed b bs more h)
 
     found : longest_front (class_in language) (b ∷ (bs ++ more)) ≡ longest_front (class_in language) (b ∷ bs)
     found = longest_followed (b ∷ bs) more h
@@ -157,8 +157,8 @@ code_shortened s (b ∷ bs) more piece h e inside = go (takes_bang s.place s.bef
     once true front known e = e
     once false front known e = front_shortened s (b ∷ bs) more front piece h known e inside
 
-    go : (bang : Bool) → (takes_bang s.place s.before && is_bang (b ∷ (bs ++ more))) ≡ bang → (front : Option (Class × ℕ)) → longest_front (class_in language) (b ∷ bs) ≡ front → longest_front (class_in language) (b ∷ (bs ++ more)) ≡ front
-        → step (takes_bang s.place s.before && is_bang (b ∷ (bs ++ more))) (b ∷ (bs ++ more)) (longest_front (class_in language) (b ∷ (bs ++ more))) ≡ Stands piece
+    go : (bang : Bool) → (takes_bang s.mode s.before && is_bang (b ∷ (bs ++ more))) ≡ bang → (front : Option (Class × ℕ)) → longest_front (class_in language) (b ∷ bs) ≡ front → longest_front (class_in language) (b ∷ (bs ++ more)) ≡ front
+        → step (takes_bang s.mode s.before && is_bang (b ∷ (bs ++ more))) (b ∷ (bs ++ more)) (longest_front (class_in language) (b ∷ (bs ++ more))) ≡ Stands piece
         → step bang (b ∷ bs) front ≡ Stands piece
     go bang again front known found e = once bang front known (rw (again, found) at e)
 
@@ -167,7 +167,7 @@ step_shortened : (s : Situation) (text more : Text) (piece : Piece) → ends_lin
 unfolding step_at
 step_shortened s text more piece h e inside = before s.before e
   where
-    at : (place : Mode) → by_place language s place (text ++ more) ≡ Stands piece → by_place language s place text ≡ Stands piece
+    at : (mode : Mode) → by_mode language s mode (text ++ more) ≡ Stands piece → by_mode language s mode text ≡ Stands piece
     at Outside e = code_shortened s text more piece h e inside
     at (InText opening) e = chunk_shortened opening text more piece h e inside
     at AtTop e = code_shortened s text more piece h e inside
@@ -175,9 +175,9 @@ step_shortened s text more piece h e inside = before s.before e
 
     before : (before : Before) → by_before language s before (text ++ more) ≡ Stands piece → by_before language s before text ≡ Stands piece
     before Nothing e = margin_shortened 0 [] [] text more piece (whole_from_ends text h) e (omega (arith, inside))
-    before Layout e = at s.place e
-    before Gap e = at s.place e
-    before Other e = at s.place e
+    before Layout e = at s.mode e
+    before Gap e = at s.mode e
+    before Other e = at s.mode e
 
 pub next_shortened : (history : History) (text more : Text) (piece : Piece) → ends_line text ≡ true → next_step language history (text ++ more) ≡ Stands piece → piece.len < length text → next_step language history text ≡ Stands piece
 unfolding next_step situation

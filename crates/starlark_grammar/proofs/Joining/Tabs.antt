@@ -1,4 +1,4 @@
--- What a clean cut and a text remainder it come to where a tab stands in that text's first margin.
+-- What a clean cut and a text after it come to where a tab stands in that text's first margin.
 use Rattle.std.proofs.Common.{◌≡◌, ℕ, ◌+◌, ◌≤◌, ◌<◌, Bool, true, false, not, List, [], ◌∷◌, ◌++◌, length, take, drop, map, refl, ap, ◌∙◌, sym, subst, Some, None, arith, append-nil, ◌⊎◌, inl, inr}
 use Rattle.std.specs.Prelude.{◌||◌, ◌==◌, if◌then◌else◌}
 use Rattle.std.specs.List.{list_all}
@@ -20,7 +20,7 @@ use Rattle.starlark_grammar.proofs.Words.Fronts.{longest_front_is}
 use Rattle.starlark_grammar.proofs.Reading.Readings.{outcome_only, started, piece_fits}
 use Rattle.starlark_grammar.proofs.Reading.Steps.{is_nothing}
 use Rattle.starlark_grammar.proofs.Joining.Followed.{ends_line, ends_line_drop, longest_followed}
-use Rattle.starlark_grammar.proofs.Joining.FollowedMargins.{whole_behind, Followed, Whole, Within, margin_behind, followed, has_whole_lines}
+use Rattle.starlark_grammar.proofs.Joining.FollowedMargins.{whole_after, Followed, Whole, Within, margin_after, followed, has_whole_lines}
 use Rattle.starlark_grammar.proofs.Joining.Settled.{Settled}
 use Rattle.starlark_grammar.proofs.Joining.Joined.{whole_from_ends, CountedEnd, counted_end, counted_step, margin_step_len, blank_step, next_stays, inside, all_moved}
 use Rattle.starlark_grammar.proofs.Joining.CleanCuts.{Cut, cut, along_both, pieces_both, but_last}
@@ -121,7 +121,7 @@ last_found (first ∷ before) lexeme remainder is none = rw (last_found before l
 
 -- The last piece
 
--- the last margin of a text of whole lines, with a tab in the margin remainder it
+-- the last margin of a text of whole lines, with a tab in the margin after it
 record TabMargin (len : ℕ) (lexemes : List Lexeme) (levels : List ℕ) (text more : Text) (piece : Piece) : Type 0 where
   fails : margin_step len lexemes levels (margin_of (text ++ more)) ≡ Fails tab
   found : piece.lexemes ≡ lexemes ++ map (moved len) (margin_of text).comments
@@ -139,20 +139,20 @@ tab_margin len lexemes levels text more piece whole stands reach has = go (follo
         let is_last : Stands last ≡ Stands piece = sym (ap (margin_step len lexemes levels) e ∙ blank_step len lexemes levels (margin_of text).comments (length text)) ∙ stands in
         let same : last ≡ piece = cc in
         record {
-          fails = ap (margin_step len lexemes levels) f ∙ margin_tab len lexemes levels (margin_behind (length text) (margin_of text).comments (margin_of more)) (record { content = has.content; is = has.is });
+          fails = ap (margin_step len lexemes levels) f ∙ margin_tab len lexemes levels (margin_after (length text) (margin_of text).comments (margin_of more)) (record { content = has.content; is = has.is });
           found = sym (ap (λ (p : Piece). p.lexemes) same) ∙ ap (λ ls. lexemes ++ map (moved len) ls) (append-nil (margin_of text).comments);
           comments = ap (λ (m : Margin). m.comments) f;
         }
     go (Within some less f) = absurd (omega (arith, less, reach, margin_step_len len lexemes levels (margin_of text) piece stands))
 
--- a line end and comments remainder it
+-- a line end and comments after it
 record LineEnds (piece : Piece) : Type 0 where
   len : ℕ
   comments : List Lexeme
   lexemes : piece.lexemes ≡ record { begin = 0; node = Newline; end = len } ∷ comments
   none : no_newline comments ≡ true
 
--- a line end that counts, at the end of a text, with a tab remainder it
+-- a line end that counts, at the end of a text, with a tab after it
 line_tabbed : (s : Situation) (text more : Text) (piece : Piece) → is_nothing s.before ≡ false → ends_line text ≡ true → is_layout piece.sort ≡ true → piece.len ≡ length text → step_at language s text ≡ Stands piece → HasTab (margin_of more)
     → (step_at language s (text ++ more) ≡ Fails tab) × LineEnds piece
 line_tabbed s text more piece later ends laid reach stands has = counted (counted_end s text piece laid later stands) text refl
@@ -171,7 +171,7 @@ line_tabbed s text more piece later ends laid reach stands has = counted (counte
         let left : drop n (text ++ more) ≡ drop n text ++ more = drop-append-le n text more inside in
         let total : length (take n text) + length (drop n text) ≡ length text = omega (arith, length-take n text, length-drop n text, inside) in
         let line : Lexeme = record { begin = 0; node = Newline; end = length (take n text) } in
-        let found = tab_margin (length (take n text)) (line ∷ []) s.levels (drop n text) more piece (whole_behind n text (whole_from_ends text ends)) end.stands (omega (arith, reach, total)) has in (
+        let found = tab_margin (length (take n text)) (line ∷ []) s.levels (drop n text) more piece (whole_after n text (whole_from_ends text ends)) end.stands (omega (arith, reach, total)) has in (
           step ∙ rw (taken, left) found.fails,
           record {
             len = length (take n text);
@@ -183,7 +183,7 @@ line_tabbed s text more piece later ends laid reach stands has = counted (counte
 
 -- Readings
 
--- the reading of a settled text with a tab remainder it: all but the last piece, which is a line end
+-- the reading of a settled text with a tab after it: all but the last piece, which is a line end
 record Tabbed (history : History) (text more : Text) (pieces : List Piece) : Type 0 where
   front : List Piece
   last : Piece
@@ -239,7 +239,7 @@ tabbed_reading history text more (piece ∷ next ∷ pieces) later ends some rea
 
 -- Outcomes
 
--- The reading of a clean cut and a tab remainder it, and what that comes to.
+-- The reading of a clean cut and a tab after it, and what that comes to.
 pub record BehindTab (text more : Text) : Type 0 where
   pub front : List Piece
   pub longest : IsLongestReading language nothing (text ++ more) front (Fails tab)
@@ -323,5 +323,5 @@ module _ (text more : Text) (has : HasTab (margin_of more)) where
       no_cons : (p : Piece) (ps : List Piece) → p ∷ ps ≡ [] → ⊥
       no_cons p ps e = cc
 
-pub behind_tab : (text more : Text) → is_clean_cut text ≡ true → HasTab (margin_of more) → BehindTab text more
-behind_tab text more h has = by_pieces text more has _ (cut text h)
+pub after_tab : (text more : Text) → is_clean_cut text ≡ true → HasTab (margin_of more) → BehindTab text more
+after_tab text more h has = by_pieces text more has _ (cut text h)

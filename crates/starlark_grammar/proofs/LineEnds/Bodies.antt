@@ -17,11 +17,11 @@ use Rattle.starlark_grammar.specs.declared.class.LiteralKind.{LiteralKind as Kin
 use Rattle.starlark_grammar.specs.declared.class.Quote.TheVariants.{Single as SingleQuote, Double as DoubleQuote}
 use Rattle.starlark_grammar.specs.declared.class.LiteralKind.TheVariants.{Text as OfText, Bytes as OfBytes, FString as OfFString}
 use Rattle.starlark_grammar.specs.Items.{Literal, Item, Stop, Line, OpeningBrace, ClosingBrace, Found, Goes, Stops, goes, closing_quotes, broken, is_character, numbered, hexadecimal, octal, simple_escapes, simple, is_of_bytes, escape, drops_backslash, raw_pair, brace, is_brace, found_at, Body, body_len, body_value, body_onward, body_from, body_at}
-use Rattle.starlark_grammar.specs.Characters.{first_character}
+use Rattle.starlark_grammar.specs.FrontCharacter.{first_character}
 use Rattle.starlark_grammar.specs.Margins.{is_lf}
 use Rattle.starlark_grammar.specs.LineEnds.{holds_escaped_newline}
 use Rattle.starlark_grammar.proofs.Lists.{drop-sum, drop-remainder}
-use Rattle.starlark_grammar.proofs.Lines.{in_line}
+use Rattle.starlark_grammar.proofs.WordNewlines.{in_line}
 use Rattle.starlark_grammar.proofs.Literals.Bodies.{FoundFits, found_fits}
 use Rattle.starlark_grammar.proofs.Order.Edges.{starts_split, digits_run, hex_plain, octal_plain}
 use Rattle.starlark_grammar.proofs.Words.Bytes.{is_plain}
@@ -114,7 +114,7 @@ rest_crlf (suc n) (b ∷ bs) h =
       apart = rest.apart;
     }
 
--- remainder ASCII bytes
+-- after ASCII bytes
 pub apart_plain : (n : ℕ) (text : Text) → is_plain (take n text) ≡ true → apart 0 text ≡ true → apart 0 (drop n text) ≡ true
 apart_plain zero text h k = k
 apart_plain (suc n) [] h k = refl
@@ -170,7 +170,7 @@ hex_line b h = grind (arith, nat_tests)
 octal_line : (b : ℕ) → is_octal_digit b ≡ true → is_in_line b ≡ true
 octal_line b h = grind (arith, nat_tests)
 
--- digits remainder a backslash and a letter
+-- digits after a backslash and a letter
 hexadecimal_crlf : (x wanted : ℕ) (is_byte : Bool) (bs : Text) → is_lf x ≡ false → apart 0 bs ≡ true → FoundCrlf (92 ∷ x ∷ bs) (hexadecimal wanted is_byte bs) (hexadecimal wanted is_byte (crlf bs))
 hexadecimal_crlf x wanted is_byte bs plain more = go (prefix_len is_ascii_hexdigit (take wanted bs)) refl
   where
@@ -218,7 +218,7 @@ octal_crlf is_byte bs more = go (prefix_len is_octal_digit (take 3 bs)) refl
         let same : octal is_byte (crlf bs) ≡ by n (crlf bs) = ap (λ k. by k (crlf bs)) (run_crlf is_octal_digit 3 bs refl refl ∙ e) in
         numbered_crlf (92 ∷ bs) (1 + n) is_byte (digits_value 8 (take n bs)) _ left rest (same ∙ ap (λ (t : Text). numbered (1 + n) is_byte (digits_value 8 t)) front.0)
 
--- a character remainder so many bytes
+-- a character after so many bytes
 character_crlf : (b : ℕ) (bs : Text) → is_lf b ≡ false → apart 0 (b ∷ bs) ≡ true
     → (first_character (b ∷ crlf bs) ≡ first_character (b ∷ bs)) × (drop (length (first_character (b ∷ bs))) (b ∷ crlf bs) ≡ crlf (drop (length (first_character (b ∷ bs))) (b ∷ bs))) × (apart 0 (drop (length (first_character (b ∷ bs))) (b ∷ bs)) ≡ true)
 character_crlf b bs plain h = let rest = rest_crlf (continuation_len b) bs h in (ap (λ (t : Text). b ∷ t) rest.same, rest.left, rest.apart)
@@ -384,7 +384,7 @@ found_raw literal cs raw = (if drops_backslash literal.kind literal.opening.quot
 
 -- Bodies
 
--- the body remainder an item
+-- the body after an item
 from_is : (literal : Literal) (passed : ℕ) (text : Text) → body_from literal passed text ≡ body_at literal (drop passed text)
 unfolding body_from body_at
 from_is literal zero text = refl
@@ -406,7 +406,7 @@ body_item literal b bs item e some =
 some_item : (literal : Literal) (text : Text) (item : Item) → found_at literal text ≡ Goes item → 1 ≤ item.len
 some_item literal text item e = (subst (FoundFits literal.opening text) e (found_fits literal text)).0
 
--- A body that is closed has the same stop and value in the form, and the form of what is left remainder it.
+-- A body that is closed has the same stop and value in the form, and the form of what is left after it.
 pub record BodyCrlf (literal : Literal) (text : Text) (body : Body) : Type 0 where
   pub stop : (body_at literal (crlf text)).stop ≡ body.stop
   pub value : body_value (body_at literal (crlf text)) ≡ body_value body
@@ -494,7 +494,7 @@ body_from_crlf literal zero (b ∷ bs) h more raw closed = by (is_lf b) refl (λ
     Again : Type 0
     Again = (passed : ℕ) → apart 0 (drop passed bs) ≡ true → RawApart literal (drop passed bs) (body_from literal passed bs) → is_closed (body_from literal passed bs).stop ≡ true → BodyCrlf literal (drop passed bs) (body_from literal passed bs)
 
-    -- what is left remainder an item
+    -- what is left after an item
     remainder : (item : Item) → 1 ≤ item.len → RawApart literal (b ∷ bs) (with_item item (body_from literal (item.len - 1) bs)) → RawApart literal (drop (item.len - 1) bs) (body_from literal (item.len - 1) bs)
     remainder item some none is_raw =
         let all = none is_raw in

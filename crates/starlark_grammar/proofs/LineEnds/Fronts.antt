@@ -14,7 +14,7 @@ use Rattle.starlark_grammar.specs.declared.class.Class.TheVariants.{Skipped, Com
 use Rattle.starlark_grammar.specs.Front.{longer, longest_front}
 use Rattle.starlark_grammar.specs.Margins.{is_lf}
 use Rattle.starlark_grammar.proofs.Words.Tables.{class_in-language}
-use Rattle.starlark_grammar.proofs.Lines.{in_line, same_in_line, run_in_line, comment_in_line, identifier_in_line, digit_in_line, based_in_line, hexadecimal_in_line, octal_in_line, binary_in_line, float_in_line, pointed_in_line}
+use Rattle.starlark_grammar.proofs.WordNewlines.{in_line, same_in_line, run_in_line, comment_in_line, identifier_in_line, digit_in_line, based_in_line, hexadecimal_in_line, octal_in_line, binary_in_line, float_in_line, pointed_in_line}
 use Rattle.starlark_grammar.proofs.LineEnds.Texts.{crlf, no_return, crlf_line, stripped, stripped_plain, stripped_crlf}
 
 -- Words that aren't in a line: line ends, and those that are escaped

@@ -193,7 +193,7 @@ while_no_return (l ∷ ls) h = by (is_comment_only l) (while_no_return ls parts.
     by true more = rw one-add (rw (parts.0) more)
     by false more = refl
 
--- what is left remainder comment-only lines
+-- what is left after comment-only lines
 
 abbrev flat : List Text → Text
 flat [] = []
@@ -221,8 +221,8 @@ flat_len : (ls : List Text) → length (flat ls) ≡ sum_by (λ (line : Text). l
 flat_len [] = refl
 flat_len (l ∷ ls) = omega (arith, length-append l (flat ls), flat_len ls, sum_by-cons (λ (line : Text). length line) l ls)
 
-behind_comments : (text : Text) → drop (sum_by (λ (line : Text). length line) (map crlf (comment_lines text))) (crlf text) ≡ crlf (drop (sum_by (λ (line : Text). length line) (comment_lines text)) text)
-behind_comments text =
+after_comments : (text : Text) → drop (sum_by (λ (line : Text). length line) (map crlf (comment_lines text))) (crlf text) ≡ crlf (drop (sum_by (λ (line : Text). length line) (comment_lines text)) text)
+after_comments text =
     let first : List Text = comment_lines text in
     let rest : List Text = drop (prefix_len is_comment_only (lines text)) (lines text) in
     let whole : text ≡ flat (comment_lines text) ++ flat (drop (prefix_len is_comment_only (lines text)) (lines text)) =
@@ -238,7 +238,7 @@ behind_comments text =
 
 -- Margins
 
--- How the form of a text goes on remainder a margin: by the form of what is left, or from an LF on, whose CR is one of the blanks.
+-- How the form of a text goes on after a margin: by the form of what is left, or from an LF on, whose CR is one of the blanks.
 pub data Left (text other : Text) (content : Bool) : Type 0 where
   Whole : other ≡ crlf text → Left text other content
   AfterComments : (rest : Text) → text ≡ 10 ∷ rest → other ≡ 10 ∷ crlf rest → content ≡ false → Left text other content
@@ -257,7 +257,7 @@ margin_is text = refl
 margin_form : (text : Text) → margin_of (crlf text) ≡ margin_from (map crlf (comment_lines text)) (lines_sum (map crlf (comment_lines text))) (crlf (drop (lines_sum (comment_lines text)) text))
 margin_form text =
     margin_is (crlf text) ∙ ap (λ (ls : List Text). margin_from ls (lines_sum ls) (drop (lines_sum ls) (crlf text))) (comment_lines_crlf text)
-    ∙ ap (margin_from (map crlf (comment_lines text)) (lines_sum (map crlf (comment_lines text)))) (behind_comments text)
+    ∙ ap (margin_from (map crlf (comment_lines text)) (lines_sum (map crlf (comment_lines text)))) (after_comments text)
 
 -- a margin and that of the form
 record MarginCrlf (text : Text) (margin form : Margin) : Type 0 where
@@ -296,7 +296,7 @@ margin_crlf : (text : Text) → no_return text ≡ true → MarginCrlf text (mar
 margin_crlf text h =
     subst (λ (m : Margin). MarginCrlf text m (margin_of (crlf text))) (sym (margin_is text))
     (subst (MarginCrlf text (margin_from (comment_lines text) (lines_sum (comment_lines text)) (drop (lines_sum (comment_lines text)) text))) (sym (margin_form text))
-    (from_crlf text (drop (lines_sum (comment_lines text)) text) (comment_lines text) h refl (behind_comments text) (while_no_return (lines text) (lines_no_return text h)) (while_only (lines text))))
+    (from_crlf text (drop (lines_sum (comment_lines text)) text) (comment_lines text) h refl (after_comments text) (while_no_return (lines text) (lines_no_return text h)) (while_only (lines text))))
 
 -- pieces with the same tokens, width and sort
 pub record PieceCrlf (piece form : Piece) : Type 0 where

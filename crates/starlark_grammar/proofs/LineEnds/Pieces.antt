@@ -22,33 +22,33 @@ use Rattle.starlark_grammar.specs.LineEnds.{holds_escaped_newline}
 use Rattle.starlark_grammar.specs.Pieces.{Before, Layout, Gap, Other, Piece, Step, Stands, Situation, fault, token, margin_step, opening_of, more_quotes, literal_token, escape_fault, literal_by, literal, opener, chunk_text, chunk_by, chunk, starts_zero, counts, word_step}
 use Rattle.starlark_grammar.proofs.Lists.{drop-sum}
 use Rattle.starlark_grammar.proofs.Words.Bytes.{is_plain}
-use Rattle.starlark_grammar.proofs.Lines.{in_line, line_fits}
+use Rattle.starlark_grammar.proofs.WordNewlines.{in_line, line_fits}
 use Rattle.starlark_grammar.proofs.Order.Edges.{StopAt, starts_split, stop_at}
 use Rattle.starlark_grammar.proofs.Joining.FollowedBodies.{is_closed, closing_in_line}
 use Rattle.starlark_grammar.proofs.Joining.FollowedPieces.{quotes_in_line}
 use Rattle.starlark_grammar.proofs.Joining.Joined.{outside}
-use Rattle.starlark_grammar.proofs.LineEnds.Texts.{crlf, no_return, no_return_drop, crlf_line, starts_crlf, behind_crlf}
+use Rattle.starlark_grammar.proofs.LineEnds.Texts.{crlf, no_return, no_return_drop, crlf_line, starts_crlf, after_crlf}
 use Rattle.starlark_grammar.proofs.LineEnds.Bodies.{apart, apart_plain, BodyCrlf, RawApart, holds_drop, body_crlf}
 use Rattle.starlark_grammar.proofs.LineEnds.Margins.{nodes, nodes_both, neutral, Left, Whole, AfterComments, PieceCrlf, margin_stands}
 
--- How the form of a text goes on remainder a piece: by the form of what is left, or from an LF on, remainder a line end that counts.
-pub data LeftAt (place : Mode) (piece : Piece) (text other : Text) : Type 0 where
-  AtWhole : other ≡ crlf text → LeftAt place piece text other
-  AtFeed : (rest : Text) → text ≡ 10 ∷ rest → other ≡ 10 ∷ crlf rest → place ≡ Outside → neutral piece.lexemes ≡ true → piece.sort ≡ Layout → LeftAt place piece text other
+-- How the form of a text goes on after a piece: by the form of what is left, or from an LF on, after a line end that counts.
+pub data LeftAt (mode : Mode) (piece : Piece) (text other : Text) : Type 0 where
+  AtWhole : other ≡ crlf text → LeftAt mode piece text other
+  AtFeed : (rest : Text) → text ≡ 10 ∷ rest → other ≡ 10 ∷ crlf rest → mode ≡ Outside → neutral piece.lexemes ≡ true → piece.sort ≡ Layout → LeftAt mode piece text other
 
 -- A piece that stands stands in the form too, with the same tokens.
-pub record StandsCrlf (place : Mode) (text other : Text) (step : Step) (piece : Piece) : Type 0 where
+pub record StandsCrlf (mode : Mode) (text other : Text) (step : Step) (piece : Piece) : Type 0 where
   pub form : Piece
   pub stands : step ≡ Stands form
   pub like : PieceCrlf piece form
-  pub left : LeftAt place piece (drop piece.len text) (drop form.len other)
+  pub left : LeftAt mode piece (drop piece.len text) (drop form.len other)
 
 pub alike : (piece : Piece) → PieceCrlf piece piece
 alike piece = record { same = refl; width = refl; sort = refl }
 
 -- a piece that is a word in a line
-lone_word : (place : Mode) (front remainder : Text) (one other : Step) (piece : Piece) → in_line front ≡ true → one ≡ Stands piece → other ≡ one → piece.len ≡ length front → StandsCrlf place (front ++ remainder) (crlf front ++ crlf remainder) other piece
-lone_word place front remainder one other piece line e same len = record {
+lone_word : (mode : Mode) (front remainder : Text) (one other : Step) (piece : Piece) → in_line front ≡ true → one ≡ Stands piece → other ≡ one → piece.len ≡ length front → StandsCrlf mode (front ++ remainder) (crlf front ++ crlf remainder) other piece
+lone_word mode front remainder one other piece line e same len = record {
   form = piece;
   stands = same ∙ e;
   like = alike piece;
@@ -64,10 +64,10 @@ plain_len : (len : ℕ) (sort : Before) (piece : Piece) → Stands (record { len
 plain_len len sort piece e = cc
 
 -- a piece that gives nothing
-empty_word : (place : Mode) (front made remainder : Text) (sort : Before) (piece : Piece) → Stands (record { len = length front; lexemes = []; width = None; sort = sort }) ≡ Stands piece
-    → StandsCrlf place (front ++ remainder) (made ++ crlf remainder) (Stands (record { len = length made; lexemes = []; width = None; sort = sort })) piece
-empty_word place front made remainder sort piece e =
-    subst (StandsCrlf place (front ++ remainder) (made ++ crlf remainder) (Stands (record { len = length made; lexemes = []; width = None; sort = sort }))) (plain_len (length front) sort piece e) (record {
+empty_word : (mode : Mode) (front made remainder : Text) (sort : Before) (piece : Piece) → Stands (record { len = length front; lexemes = []; width = None; sort = sort }) ≡ Stands piece
+    → StandsCrlf mode (front ++ remainder) (made ++ crlf remainder) (Stands (record { len = length made; lexemes = []; width = None; sort = sort })) piece
+empty_word mode front made remainder sort piece e =
+    subst (StandsCrlf mode (front ++ remainder) (made ++ crlf remainder) (Stands (record { len = length made; lexemes = []; width = None; sort = sort }))) (plain_len (length front) sort piece e) (record {
       form = record { len = length made; lexemes = []; width = None; sort = sort };
       stands = refl;
       like = record { same = refl; width = refl; sort = refl };
@@ -97,12 +97,12 @@ holds_front (b ∷ one) other h = by (b == byte "\\") (starts_with nat_eq one (c
 take_more : (n m : ℕ) (text : Text) → (rest : Text) × (take (n + m) text ≡ take n text ++ rest)
 take_more n m text = (take m (drop n text), take-add n m text)
 
--- what closes a body, and the form of what is left remainder it
+-- what closes a body, and the form of what is left after it
 closed_left : (opening : Opening) (text other : Text) (len form : ℕ) → drop form other ≡ crlf (drop len text) → starts_with nat_eq (drop len text) (closing_quotes opening) ≡ true
     → drop (form + length (closing_quotes opening)) other ≡ crlf (drop (len + length (closing_quotes opening)) text)
 closed_left opening text other len form left starts =
     drop-sum form (length (closing_quotes opening)) other ∙ ap (drop (length (closing_quotes opening))) left
-    ∙ behind_crlf (drop len text) (closing_quotes opening) (closing_in_line opening) starts
+    ∙ after_crlf (drop len text) (closing_quotes opening) (closing_in_line opening) starts
     ∙ ap crlf (sym (drop-sum len (length (closing_quotes opening)) text))
 
 starts_made : (needle rest : Text) → starts_with nat_eq (needle ++ rest) needle ≡ true
@@ -122,14 +122,14 @@ escape_fails begin [] piece e = cc
 escape_fails begin (b ∷ bs) piece e = cc
 
 -- a literal that stands is closed
-literal_closed : (place : Mode) (kind : Kind) (opening : Opening) (len : ℕ) (remainder : Text) (body : Body) (stop : Stop) (piece : Piece) → literal_by place kind opening len remainder body stop ≡ Stands piece
+literal_closed : (mode : Mode) (kind : Kind) (opening : Opening) (len : ℕ) (remainder : Text) (body : Body) (stop : Stop) (piece : Piece) → literal_by mode kind opening len remainder body stop ≡ Stands piece
     → (stop ≡ Closing) × (token (len + body_len body + length (closing_quotes opening)) (literal_token kind (body_value body)) ≡ Stands piece)
-literal_closed place kind opening len remainder body Closing piece e = (refl, e)
-literal_closed place kind opening len remainder body (BadEscape read last) piece e = absurd (escape_fails _ _ piece e)
-literal_closed place kind opening len remainder body Line piece e = cc
-literal_closed place kind opening len remainder body Ended piece e = cc
-literal_closed place kind opening len remainder body OpeningBrace piece e = cc
-literal_closed place kind opening len remainder body ClosingBrace piece e = cc
+literal_closed mode kind opening len remainder body Closing piece e = (refl, e)
+literal_closed mode kind opening len remainder body (BadEscape read last) piece e = absurd (escape_fails _ _ piece e)
+literal_closed mode kind opening len remainder body Line piece e = cc
+literal_closed mode kind opening len remainder body Ended piece e = cc
+literal_closed mode kind opening len remainder body OpeningBrace piece e = cc
+literal_closed mode kind opening len remainder body ClosingBrace piece e = cc
 
 -- the token of a length, and the same of another
 token_like : (len other : ℕ) (node : Token) (piece : Piece) → token len node ≡ Stands piece → PieceCrlf piece (record { len = other; lexemes = record { begin = 0; node = node; end = other } ∷ []; width = None; sort = Other })
@@ -137,29 +137,29 @@ token_like len other node piece e =
     let same : record { len = len; lexemes = record { begin = 0; node = node; end = len } ∷ []; width = None; sort = Other } ≡ piece = cc in
     subst (λ (p : Piece). PieceCrlf p (record { len = other; lexemes = record { begin = 0; node = node; end = other } ∷ []; width = None; sort = Other })) same (record { same = refl; width = refl; sort = refl })
 
-literal_crlf : (place : Mode) (kind : Kind) (opening : Opening) (len form : ℕ) (text whole other : Text) (piece : Piece) → no_return text ≡ true → apart 0 text ≡ true
+literal_crlf : (mode : Mode) (kind : Kind) (opening : Opening) (len form : ℕ) (text whole other : Text) (piece : Piece) → no_return text ≡ true → apart 0 text ≡ true
     → drop len whole ≡ text → drop form other ≡ crlf text → (opening.is_raw ≡ true → holds_escaped_newline (take piece.len whole) ≡ false)
-    → literal place kind opening len text ≡ Stands piece → StandsCrlf place whole other (literal place kind opening form (crlf text)) piece
-literal_crlf place kind opening len form text whole other piece h more here there raw e =
+    → literal mode kind opening len text ≡ Stands piece → StandsCrlf mode whole other (literal mode kind opening form (crlf text)) piece
+literal_crlf mode kind opening len form text whole other piece h more here there raw e =
     let is : Literal = record { kind = kind; opening = opening } in
-    let closed = literal_closed place kind opening len text (body_at (record { kind = kind; opening = opening }) text) (body_at (record { kind = kind; opening = opening }) text).stop piece e in
+    let closed = literal_closed mode kind opening len text (body_at (record { kind = kind; opening = opening }) text) (body_at (record { kind = kind; opening = opening }) text).stop piece e in
     let size = token_len (len + body_len (body_at (record { kind = kind; opening = opening }) text) + length (closing_quotes opening)) (literal_token kind (body_value (body_at (record { kind = kind; opening = opening }) text))) piece closed.1 in
     let found = body_crlf (record { kind = kind; opening = opening }) text h more (apart_body size) (ap is_closed closed.0) in
     let total : ℕ = form + body_len (body_at (record { kind = kind; opening = opening }) (crlf text)) + length (closing_quotes opening) in
-    let step : literal place kind opening form (crlf text) ≡ token total (literal_token kind (body_value (body_at (record { kind = kind; opening = opening }) text))) =
-    ap (literal_by place kind opening form (crlf text) (body_at (record { kind = kind; opening = opening }) (crlf text))) (found.stop ∙ closed.0) ∙ ap (λ (v : Text). token total (literal_token kind v)) found.value in
+    let step : literal mode kind opening form (crlf text) ≡ token total (literal_token kind (body_value (body_at (record { kind = kind; opening = opening }) text))) =
+    ap (literal_by mode kind opening form (crlf text) (body_at (record { kind = kind; opening = opening }) (crlf text))) (found.stop ∙ closed.0) ∙ ap (λ (v : Text). token total (literal_token kind v)) found.value in
     record {
       form = record { len = total; lexemes = record { begin = 0; node = literal_token kind (body_value (body_at (record { kind = kind; opening = opening }) text)); end = total } ∷ []; width = None; sort = Other };
       stands = step;
       like = token_like _ total _ piece closed.1;
       left = AtWhole (closed_left opening whole other (len + body_len (body_at (record { kind = kind; opening = opening }) text)) (form + body_len (body_at (record { kind = kind; opening = opening }) (crlf text)))
-          (drop-sum form (body_len (body_at (record { kind = kind; opening = opening }) (crlf text))) other ∙ ap (drop (body_len (body_at (record { kind = kind; opening = opening }) (crlf text)))) there ∙ found.left ∙ ap crlf (sym (behind_body)))
-          (subst (λ (t : Text). starts_with nat_eq t (closing_quotes opening) ≡ true) (sym behind_body) (closing_starts (record { kind = kind; opening = opening }) text closed.0))
+          (drop-sum form (body_len (body_at (record { kind = kind; opening = opening }) (crlf text))) other ∙ ap (drop (body_len (body_at (record { kind = kind; opening = opening }) (crlf text)))) there ∙ found.left ∙ ap crlf (sym (after_body)))
+          (subst (λ (t : Text). starts_with nat_eq t (closing_quotes opening) ≡ true) (sym after_body) (closing_starts (record { kind = kind; opening = opening }) text closed.0))
           ∙ ap (λ n. crlf (drop n whole)) (sym size));
     }
   where
-    behind_body : drop (len + body_len (body_at (record { kind = kind; opening = opening }) text)) whole ≡ drop (body_len (body_at (record { kind = kind; opening = opening }) text)) text
-    behind_body = drop-sum len (body_len (body_at (record { kind = kind; opening = opening }) text)) whole ∙ ap (drop (body_len (body_at (record { kind = kind; opening = opening }) text))) here
+    after_body : drop (len + body_len (body_at (record { kind = kind; opening = opening }) text)) whole ≡ drop (body_len (body_at (record { kind = kind; opening = opening }) text)) text
+    after_body = drop-sum len (body_len (body_at (record { kind = kind; opening = opening }) text)) whole ∙ ap (drop (body_len (body_at (record { kind = kind; opening = opening }) text))) here
 
     apart_body : piece.len ≡ len + body_len (body_at (record { kind = kind; opening = opening }) text) + length (closing_quotes opening) → RawApart (record { kind = kind; opening = opening }) text (body_at (record { kind = kind; opening = opening }) text)
     apart_body size is_raw =
@@ -180,7 +180,7 @@ opening_crlf : (is_raw : Bool) (quote : Quote) (remainder : Text) → opening_of
 opening_crlf is_raw quote remainder =
     ap (λ (triple : Bool). let opening : Opening = record { is_raw = is_raw; quote = quote; is_triple = triple } in opening) (starts_crlf remainder (quote_byte quote ∷ quote_byte quote ∷ []) (quotes_in_line quote))
 
--- remainder the quotes of an opening
+-- after the quotes of an opening
 quotes_left : (is_raw : Bool) (quote : Quote) (remainder : Text) → apart 0 remainder ≡ true
     → (drop (more_quotes (opening_of is_raw quote remainder)) (crlf remainder) ≡ crlf (drop (more_quotes (opening_of is_raw quote remainder)) remainder)) × (apart 0 (drop (more_quotes (opening_of is_raw quote remainder)) remainder) ≡ true)
 quotes_left is_raw quote remainder more = by (starts_with nat_eq remainder (quote_byte quote ∷ quote_byte quote ∷ [])) refl
@@ -192,7 +192,7 @@ quotes_left is_raw quote remainder more = by (starts_with nat_eq remainder (quot
     by : (starts : Bool) → starts_with nat_eq remainder (quote_byte quote ∷ quote_byte quote ∷ []) ≡ starts
         → (drop (if starts then 2 else 0) (crlf remainder) ≡ crlf (drop (if starts then 2 else 0) remainder)) × (apart 0 (drop (if starts then 2 else 0) remainder) ≡ true)
     by true e = (
-      behind_crlf remainder (quote_byte quote ∷ quote_byte quote ∷ []) (quotes_in_line quote) e,
+      after_crlf remainder (quote_byte quote ∷ quote_byte quote ∷ []) (quotes_in_line quote) e,
       apart_plain 2 remainder (subst (λ (t : Text). is_plain (take 2 t) ≡ true) (sym (starts_split remainder (quote_byte quote ∷ quote_byte quote ∷ []) e)) (plain quote)) more,
     )
     by false e = (refl, more)
@@ -202,7 +202,7 @@ abbrev pub is_raw_kind : Kind → Bool → Bool
 is_raw_kind OfFString is_raw = false
 is_raw_kind kind is_raw = is_raw
 
-module _ (place : Mode) (is_raw : Bool) (quote : Quote) (front remainder : Text) (piece : Piece) (line : in_line front ≡ true) (h : no_return remainder ≡ true) (more : apart 0 remainder ≡ true) where
+module _ (mode : Mode) (is_raw : Bool) (quote : Quote) (front remainder : Text) (piece : Piece) (line : in_line front ≡ true) (h : no_return remainder ≡ true) (more : apart 0 remainder ≡ true) where
   opening : Opening
   opening = opening_of is_raw quote remainder
 
@@ -219,7 +219,7 @@ module _ (place : Mode) (is_raw : Bool) (quote : Quote) (front remainder : Text)
   there = ap (λ (t : Text). drop (length front + more_quotes (opening_of is_raw quote remainder)) (t ++ crlf remainder)) (crlf_line front line) ∙ drop-append-add front (crlf remainder) (more_quotes (opening_of is_raw quote remainder)) ∙ (quotes_left is_raw quote remainder more).0
 
   fstring_crlf : token (length front + more_quotes (opening_of is_raw quote remainder)) (FStringStart (opening_of is_raw quote remainder)) ≡ Stands piece
-      → StandsCrlf place (front ++ remainder) (crlf front ++ crlf remainder) (token (length (crlf front) + more_quotes (opening_of is_raw quote (crlf remainder))) (FStringStart (opening_of is_raw quote (crlf remainder)))) piece
+      → StandsCrlf mode (front ++ remainder) (crlf front ++ crlf remainder) (token (length (crlf front) + more_quotes (opening_of is_raw quote (crlf remainder))) (FStringStart (opening_of is_raw quote (crlf remainder)))) piece
   fstring_crlf e =
       let len = token_len (length front + more_quotes (opening_of is_raw quote remainder)) (FStringStart (opening_of is_raw quote remainder)) piece e in
       record {
@@ -231,21 +231,21 @@ module _ (place : Mode) (is_raw : Bool) (quote : Quote) (front remainder : Text)
       }
 
   text_crlf : (kind : Kind) → (is_raw ≡ true → holds_escaped_newline (take piece.len (front ++ remainder)) ≡ false)
-      → literal place kind (opening_of is_raw quote remainder) (length front + more_quotes (opening_of is_raw quote remainder)) (drop (more_quotes (opening_of is_raw quote remainder)) remainder) ≡ Stands piece
-      → StandsCrlf place (front ++ remainder) (crlf front ++ crlf remainder) (literal place kind (opening_of is_raw quote (crlf remainder)) (length (crlf front) + more_quotes (opening_of is_raw quote (crlf remainder))) (drop (more_quotes (opening_of is_raw quote (crlf remainder))) (crlf remainder))) piece
+      → literal mode kind (opening_of is_raw quote remainder) (length front + more_quotes (opening_of is_raw quote remainder)) (drop (more_quotes (opening_of is_raw quote remainder)) remainder) ≡ Stands piece
+      → StandsCrlf mode (front ++ remainder) (crlf front ++ crlf remainder) (literal mode kind (opening_of is_raw quote (crlf remainder)) (length (crlf front) + more_quotes (opening_of is_raw quote (crlf remainder))) (drop (more_quotes (opening_of is_raw quote (crlf remainder))) (crlf remainder))) piece
   text_crlf kind raw e =
       let quotes = more_quotes (opening_of is_raw quote remainder) in
-      let found = literal_crlf place kind (opening_of is_raw quote remainder) (length front + more_quotes (opening_of is_raw quote remainder)) (length front + more_quotes (opening_of is_raw quote remainder)) (drop (more_quotes (opening_of is_raw quote remainder)) remainder) (front ++ remainder) (crlf front ++ crlf remainder) piece
+      let found = literal_crlf mode kind (opening_of is_raw quote remainder) (length front + more_quotes (opening_of is_raw quote remainder)) (length front + more_quotes (opening_of is_raw quote remainder)) (drop (more_quotes (opening_of is_raw quote remainder)) remainder) (front ++ remainder) (crlf front ++ crlf remainder) piece
       (no_return_drop (more_quotes (opening_of is_raw quote remainder)) remainder h) (quotes_left is_raw quote remainder more).1 here there raw e in
-      let step : literal place kind (opening_of is_raw quote (crlf remainder)) (length (crlf front) + more_quotes (opening_of is_raw quote (crlf remainder))) (drop (more_quotes (opening_of is_raw quote (crlf remainder))) (crlf remainder))
-      ≡ literal place kind (opening_of is_raw quote remainder) (length front + more_quotes (opening_of is_raw quote remainder)) (crlf (drop (more_quotes (opening_of is_raw quote remainder)) remainder)) =
-      ap (λ (t : Text). literal place kind (opening_of is_raw quote (crlf remainder)) (length t + more_quotes (opening_of is_raw quote (crlf remainder))) (drop (more_quotes (opening_of is_raw quote (crlf remainder))) (crlf remainder))) (crlf_line front line)
-      ∙ ap (λ (o : Opening). literal place kind o (length front + more_quotes o) (drop (more_quotes o) (crlf remainder))) (opening_crlf is_raw quote remainder)
-      ∙ ap (literal place kind (opening_of is_raw quote remainder) (length front + more_quotes (opening_of is_raw quote remainder))) (quotes_left is_raw quote remainder more).0 in
+      let step : literal mode kind (opening_of is_raw quote (crlf remainder)) (length (crlf front) + more_quotes (opening_of is_raw quote (crlf remainder))) (drop (more_quotes (opening_of is_raw quote (crlf remainder))) (crlf remainder))
+      ≡ literal mode kind (opening_of is_raw quote remainder) (length front + more_quotes (opening_of is_raw quote remainder)) (crlf (drop (more_quotes (opening_of is_raw quote remainder)) remainder)) =
+      ap (λ (t : Text). literal mode kind (opening_of is_raw quote (crlf remainder)) (length t + more_quotes (opening_of is_raw quote (crlf remainder))) (drop (more_quotes (opening_of is_raw quote (crlf remainder))) (crlf remainder))) (crlf_line front line)
+      ∙ ap (λ (o : Opening). literal mode kind o (length front + more_quotes o) (drop (more_quotes o) (crlf remainder))) (opening_crlf is_raw quote remainder)
+      ∙ ap (literal mode kind (opening_of is_raw quote remainder) (length front + more_quotes (opening_of is_raw quote remainder))) (quotes_left is_raw quote remainder more).0 in
       record { form = found.form; stands = step ∙ found.stands; like = found.like; left = found.left }
 
-  opener_crlf : (kind : Kind) → (is_raw_kind kind is_raw ≡ true → holds_escaped_newline (take piece.len (front ++ remainder)) ≡ false) → opener place kind (opening_of is_raw quote remainder) (length front) remainder ≡ Stands piece
-      → StandsCrlf place (front ++ remainder) (crlf front ++ crlf remainder) (opener place kind (opening_of is_raw quote (crlf remainder)) (length (crlf front)) (crlf remainder)) piece
+  opener_crlf : (kind : Kind) → (is_raw_kind kind is_raw ≡ true → holds_escaped_newline (take piece.len (front ++ remainder)) ≡ false) → opener mode kind (opening_of is_raw quote remainder) (length front) remainder ≡ Stands piece
+      → StandsCrlf mode (front ++ remainder) (crlf front ++ crlf remainder) (opener mode kind (opening_of is_raw quote (crlf remainder)) (length (crlf front)) (crlf remainder)) piece
   opener_crlf OfFString raw e = fstring_crlf e
   opener_crlf OfText raw e = text_crlf OfText raw e
   opener_crlf OfBytes raw e = text_crlf OfBytes raw e
@@ -261,16 +261,16 @@ decimal_len front true piece e = cc
 decimal_len front false piece e = token_len (length front) (Int (integer_of 10 front)) piece e
 
 pub line_end_crlf : (s : Situation) (front made remainder : Text) (piece : Piece) → no_return remainder ≡ true → word_step s word.LineEnd front remainder ≡ Stands piece
-    → StandsCrlf s.place (front ++ remainder) (made ++ crlf remainder) (word_step s word.LineEnd made (crlf remainder)) piece
-line_end_crlf s front made remainder piece h e = by (counts s.place s.is_balanced) refl e
+    → StandsCrlf s.mode (front ++ remainder) (made ++ crlf remainder) (word_step s word.LineEnd made (crlf remainder)) piece
+line_end_crlf s front made remainder piece h e = by (counts s.mode s.is_balanced) refl e
   where
     line : ℕ → List Lexeme
     line len = record { begin = 0; node = Newline; end = len } ∷ []
 
-    by : (counted : Bool) → counts s.place s.is_balanced ≡ counted
+    by : (counted : Bool) → counts s.mode s.is_balanced ≡ counted
         → (if counted then margin_step (length front) (line (length front)) s.levels (margin_of remainder) else Stands (record { len = length front; lexemes = []; width = None; sort = Other })) ≡ Stands piece
-        → StandsCrlf s.place (front ++ remainder) (made ++ crlf remainder) (if counted then margin_step (length made) (line (length made)) s.levels (margin_of (crlf remainder)) else Stands (record { len = length made; lexemes = []; width = None; sort = Other })) piece
-    by false f e = empty_word s.place front made remainder Other piece e
+        → StandsCrlf s.mode (front ++ remainder) (made ++ crlf remainder) (if counted then margin_step (length made) (line (length made)) s.levels (margin_of (crlf remainder)) else Stands (record { len = length made; lexemes = []; width = None; sort = Other })) piece
+    by false f e = empty_word s.mode front made remainder Other piece e
     by true f e =
         let found = margin_stands (length front) (length made) (line (length front)) (line (length made)) s.levels remainder piece h refl e refl in
         let here : drop piece.len (front ++ remainder) ≡ drop (margin_len (margin_of remainder)) remainder = ap (λ n. drop n (front ++ remainder)) found.len_is ∙ drop-append-add front remainder (margin_len (margin_of remainder)) in
@@ -279,30 +279,30 @@ line_end_crlf s front made remainder piece h e = by (counts s.place s.is_balance
           form = found.form;
           stands = found.stands;
           like = found.like;
-          left = subst (λ (t : Text). LeftAt s.place piece t (drop found.form.len (made ++ crlf remainder))) (sym here) (subst (LeftAt s.place piece (drop (margin_len (margin_of remainder)) remainder)) (sym there)
-              (at (outside s.place s.is_balanced f) found.sort found.outside found.left));
+          left = subst (λ (t : Text). LeftAt s.mode piece t (drop found.form.len (made ++ crlf remainder))) (sym here) (subst (LeftAt s.mode piece (drop (margin_len (margin_of remainder)) remainder)) (sym there)
+              (at (outside s.mode s.is_balanced f) found.sort found.outside found.left));
         }
       where
-        at : {text other : Text} {content : Bool} → s.place ≡ Outside → piece.sort ≡ Layout → (content ≡ false → neutral piece.lexemes ≡ true) → Left text other content → LeftAt s.place piece text other
-        at place sort calm (Whole e) = AtWhole e
-        at place sort calm (AfterComments rest e f none) = AtFeed rest e f place (calm none) sort
+        at : {text other : Text} {content : Bool} → s.mode ≡ Outside → piece.sort ≡ Layout → (content ≡ false → neutral piece.lexemes ≡ true) → Left text other content → LeftAt s.mode piece text other
+        at mode sort calm (Whole e) = AtWhole e
+        at mode sort calm (AfterComments rest e f none) = AtFeed rest e f mode (calm none) sort
 
 pub word_crlf : (s : Situation) (class : Class) (front remainder : Text) (piece : Piece) → line_fits class front ≡ true → no_return remainder ≡ true → apart 0 remainder ≡ true → (is_raw_class class ≡ true → holds_escaped_newline (take piece.len (front ++ remainder)) ≡ false)
-    → word_step s class front remainder ≡ Stands piece → StandsCrlf s.place (front ++ remainder) (crlf front ++ crlf remainder) (word_step s class (crlf front) (crlf remainder)) piece
-word_crlf s word.Skipped front remainder piece fits h more raw e = empty_word s.place front (crlf front) remainder Gap piece e
+    → word_step s class front remainder ≡ Stands piece → StandsCrlf s.mode (front ++ remainder) (crlf front ++ crlf remainder) (word_step s class (crlf front) (crlf remainder)) piece
+word_crlf s word.Skipped front remainder piece fits h more raw e = empty_word s.mode front (crlf front) remainder Gap piece e
 word_crlf s word.LineEnd front remainder piece fits h more raw e = line_end_crlf s front (crlf front) remainder piece h e
 word_crlf s word.Tabs front remainder piece fits h more raw e = cc
 word_crlf s word.Reserved front remainder piece fits h more raw e = cc
-word_crlf s (word.Opener kind is_raw quote) front remainder piece fits h more raw e = opener_crlf s.place is_raw quote front remainder piece fits h more kind raw e
+word_crlf s (word.Opener kind is_raw quote) front remainder piece fits h more raw e = opener_crlf s.mode is_raw quote front remainder piece fits h more kind raw e
 word_crlf s word.Decimal front remainder piece fits h more raw e =
-    lone_word s.place front remainder _ _ piece fits e (ap (λ (t : Text). word_step s word.Decimal t remainder) (crlf_line front fits)) (decimal_len front (starts_zero front) piece e)
-word_crlf s word.Comment front remainder piece fits h more raw e = lone_word s.place front remainder _ _ piece fits e (ap (λ (t : Text). word_step s word.Comment t remainder) (crlf_line front fits)) (token_len (length front) _ piece e)
-word_crlf s word.Identifier front remainder piece fits h more raw e = lone_word s.place front remainder _ _ piece fits e (ap (λ (t : Text). word_step s word.Identifier t remainder) (crlf_line front fits)) (token_len (length front) _ piece e)
-word_crlf s word.Hexadecimal front remainder piece fits h more raw e = lone_word s.place front remainder _ _ piece fits e (ap (λ (t : Text). word_step s word.Hexadecimal t remainder) (crlf_line front fits)) (token_len (length front) _ piece e)
-word_crlf s word.Octal front remainder piece fits h more raw e = lone_word s.place front remainder _ _ piece fits e (ap (λ (t : Text). word_step s word.Octal t remainder) (crlf_line front fits)) (token_len (length front) _ piece e)
-word_crlf s word.Binary front remainder piece fits h more raw e = lone_word s.place front remainder _ _ piece fits e (ap (λ (t : Text). word_step s word.Binary t remainder) (crlf_line front fits)) (token_len (length front) _ piece e)
-word_crlf s word.Float front remainder piece fits h more raw e = lone_word s.place front remainder _ _ piece fits e (ap (λ (t : Text). word_step s word.Float t remainder) (crlf_line front fits)) (token_len (length front) _ piece e)
-word_crlf s (word.Fixed terminal) front remainder piece fits h more raw e = lone_word s.place front remainder _ _ piece fits e (ap (λ (t : Text). word_step s (word.Fixed terminal) t remainder) (crlf_line front fits)) (token_len (length front) _ piece e)
+    lone_word s.mode front remainder _ _ piece fits e (ap (λ (t : Text). word_step s word.Decimal t remainder) (crlf_line front fits)) (decimal_len front (starts_zero front) piece e)
+word_crlf s word.Comment front remainder piece fits h more raw e = lone_word s.mode front remainder _ _ piece fits e (ap (λ (t : Text). word_step s word.Comment t remainder) (crlf_line front fits)) (token_len (length front) _ piece e)
+word_crlf s word.Identifier front remainder piece fits h more raw e = lone_word s.mode front remainder _ _ piece fits e (ap (λ (t : Text). word_step s word.Identifier t remainder) (crlf_line front fits)) (token_len (length front) _ piece e)
+word_crlf s word.Hexadecimal front remainder piece fits h more raw e = lone_word s.mode front remainder _ _ piece fits e (ap (λ (t : Text). word_step s word.Hexadecimal t remainder) (crlf_line front fits)) (token_len (length front) _ piece e)
+word_crlf s word.Octal front remainder piece fits h more raw e = lone_word s.mode front remainder _ _ piece fits e (ap (λ (t : Text). word_step s word.Octal t remainder) (crlf_line front fits)) (token_len (length front) _ piece e)
+word_crlf s word.Binary front remainder piece fits h more raw e = lone_word s.mode front remainder _ _ piece fits e (ap (λ (t : Text). word_step s word.Binary t remainder) (crlf_line front fits)) (token_len (length front) _ piece e)
+word_crlf s word.Float front remainder piece fits h more raw e = lone_word s.mode front remainder _ _ piece fits e (ap (λ (t : Text). word_step s word.Float t remainder) (crlf_line front fits)) (token_len (length front) _ piece e)
+word_crlf s (word.Fixed terminal) front remainder piece fits h more raw e = lone_word s.mode front remainder _ _ piece fits e (ap (λ (t : Text). word_step s (word.Fixed terminal) t remainder) (crlf_line front fits)) (token_len (length front) _ piece e)
 
 -- Texts of f-strings
 

@@ -15,7 +15,7 @@ use Rattle.starlark_grammar.specs.Front.{longest_front, language_front}
 use Rattle.starlark_grammar.specs.Tokens.{Token, Comment, Newline, Indent, Dedent, Identifier, Int, Float, String, Bytes, FStringStart, FStringText, FStringExprStart, FStringExprEnd, FStringBang, FStringEnd, Word, Lexeme, moved, Outcome}
 use Rattle.starlark_grammar.specs.Depths.{Mode, Outside, InText, AtTop, Deeper, open_fstring, mode_by, mode_after}
 use Rattle.starlark_grammar.specs.Margins.{is_lf, margin_of, margin_len, open_widths}
-use Rattle.starlark_grammar.specs.Pieces.{Before, Nothing, Layout, Gap, Other, Piece, Step, Stands, Fails, Ends, Situation, token, word_step, front_step, is_bang, takes_bang, in_code, by_place, by_before, step_at}
+use Rattle.starlark_grammar.specs.Pieces.{Before, Nothing, Layout, Gap, Other, Piece, Step, Stands, Fails, Ends, Situation, token, word_step, front_step, is_bang, takes_bang, in_code, by_mode, by_before, step_at}
 use Rattle.starlark_grammar.specs.Reading.{tokens_onto, History, nothing, after, after_all, situation, next_step, pieces_len, read, lexemes_along, closing, outcome_of, outcome}
 use Rattle.starlark_grammar.specs.Longest.{IsReading, IsLongestReading}
 use Rattle.starlark_grammar.specs.Cuts.{is_outside}
@@ -23,7 +23,7 @@ use Rattle.starlark_grammar.specs.LineEnds.{holds_escaped_newline, opens_raw, is
 use Rattle.starlark_grammar.specs.TextLaws.{CrlfKeepsTokens}
 use Rattle.starlark_grammar.proofs.Lists.{drop-sum}
 use Rattle.starlark_grammar.proofs.Words.Fronts.{front_single, front_sound}
-use Rattle.starlark_grammar.proofs.Lines.{language_lines, feed_ends}
+use Rattle.starlark_grammar.proofs.WordNewlines.{language_lines, feed_ends}
 use Rattle.starlark_grammar.proofs.Reading.Steps.{is_nothing}
 use Rattle.starlark_grammar.proofs.Reading.Readings.{started, piece_fits, read_is, reading_fits, ends_at_end}
 use Rattle.starlark_grammar.proofs.Order.WholeTexts.{word_edge, piece_bounded}
@@ -53,7 +53,7 @@ bang_crlf (b ∷ c ∷ bs) = by (is_lf b) refl (is_lf c) refl
 
 -- what stands in code, where the text isn't at its end
 abbrev code : Situation → Text → Step
-code s text = if takes_bang s.place s.before && is_bang text then token 1 FStringBang else front_step s text (longest_front (class_in language) text)
+code s text = if takes_bang s.mode s.before && is_bang text then token 1 FStringBang else front_step s text (longest_front (class_in language) text)
 
 code_form : (s : Situation) (b : ℕ) (bs : Text) → in_code language s (crlf (b ∷ bs)) ≡ code s (crlf (b ∷ bs))
 code_form s b bs = by (is_lf b)
@@ -80,7 +80,7 @@ opens_raw_of word.Float len h = cc
 opens_raw_of (word.Fixed terminal) len h = cc
 
 front_stands : (s : Situation) (text : Text) (found : Option (Class × ℕ)) (piece : Piece) → no_return text ≡ true → IsUtf8 text → longest_front (class_in language) text ≡ found → (opens_raw found ≡ true → holds_escaped_newline (take piece.len text) ≡ false)
-    → front_step s text found ≡ Stands piece → StandsCrlf s.place text (crlf text) (front_step s (crlf text) (longest_front (class_in language) (crlf text))) piece
+    → front_step s text found ≡ Stands piece → StandsCrlf s.mode text (crlf text) (front_step s (crlf text) (longest_front (class_in language) (crlf text))) piece
 front_stands s text None piece h utf8 known raw e = cc
 front_stands s text (Some front) piece h utf8 known raw e =
     let n = front.1 in
@@ -100,14 +100,14 @@ front_stands s text (Some front) piece h utf8 known raw e =
       form = found.form;
       stands = step ∙ found.stands;
       like = found.like;
-      left = subst (λ (t : Text). LeftAt s.place piece (drop piece.len t) (drop found.form.len (crlf text))) whole
-          (subst (λ (t : Text). LeftAt s.place piece (drop piece.len (take front.1 text ++ drop front.1 text)) (drop found.form.len t)) (sym form) found.left);
+      left = subst (λ (t : Text). LeftAt s.mode piece (drop piece.len t) (drop found.form.len (crlf text))) whole
+          (subst (λ (t : Text). LeftAt s.mode piece (drop piece.len (take front.1 text ++ drop front.1 text)) (drop found.form.len t)) (sym form) found.left);
     }
 
 code_stands : (s : Situation) (text : Text) (piece : Piece) → no_return text ≡ true → IsUtf8 text → (opens_raw (longest_front (class_in language) text) ≡ true → holds_escaped_newline (take piece.len text) ≡ false)
-    → in_code language s text ≡ Stands piece → StandsCrlf s.place text (crlf text) (in_code language s (crlf text)) piece
+    → in_code language s text ≡ Stands piece → StandsCrlf s.mode text (crlf text) (in_code language s (crlf text)) piece
 code_stands s [] piece h utf8 raw e = cc
-code_stands s (b ∷ bs) piece h utf8 raw e = subst (λ (step : Step). StandsCrlf s.place (b ∷ bs) (crlf (b ∷ bs)) step piece) (sym (code_form s b bs)) (by (takes_bang s.place s.before && is_bang (b ∷ bs)) refl e)
+code_stands s (b ∷ bs) piece h utf8 raw e = subst (λ (step : Step). StandsCrlf s.mode (b ∷ bs) (crlf (b ∷ bs)) step piece) (sym (code_form s b bs)) (by (takes_bang s.mode s.before && is_bang (b ∷ bs)) refl e)
   where
     no_feed : (b : ℕ) (bs : Text) → is_bang (b ∷ bs) ≡ true → is_lf b ≡ false
     no_feed b bs h = go (is_lf b) refl
@@ -120,15 +120,15 @@ code_stands s (b ∷ bs) piece h utf8 raw e = subst (λ (step : Step). StandsCrl
         go false f = refl
         go true f = absurd (none bs (subst (λ c. is_bang (c ∷ bs) ≡ true) (eqb-true b 10 f) h))
 
-    same_bang : (takes_bang s.place s.before && is_bang (crlf (b ∷ bs))) ≡ (takes_bang s.place s.before && is_bang (b ∷ bs))
-    same_bang = ap (λ test. takes_bang s.place s.before && test) (bang_crlf (b ∷ bs))
+    same_bang : (takes_bang s.mode s.before && is_bang (crlf (b ∷ bs))) ≡ (takes_bang s.mode s.before && is_bang (b ∷ bs))
+    same_bang = ap (λ test. takes_bang s.mode s.before && test) (bang_crlf (b ∷ bs))
 
-    by : (bang : Bool) → (takes_bang s.place s.before && is_bang (b ∷ bs)) ≡ bang → (if bang then token 1 FStringBang else front_step s (b ∷ bs) (longest_front (class_in language) (b ∷ bs))) ≡ Stands piece
-        → StandsCrlf s.place (b ∷ bs) (crlf (b ∷ bs)) (code s (crlf (b ∷ bs))) piece
+    by : (bang : Bool) → (takes_bang s.mode s.before && is_bang (b ∷ bs)) ≡ bang → (if bang then token 1 FStringBang else front_step s (b ∷ bs) (longest_front (class_in language) (b ∷ bs))) ≡ Stands piece
+        → StandsCrlf s.mode (b ∷ bs) (crlf (b ∷ bs)) (code s (crlf (b ∷ bs))) piece
     by true f e =
-        let plain = no_feed b bs (and_parts (takes_bang s.place s.before) (is_bang (b ∷ bs)) f).1 in
+        let plain = no_feed b bs (and_parts (takes_bang s.mode s.before) (is_bang (b ∷ bs)) f).1 in
         let same : record { len = 1; lexemes = record { begin = 0; node = FStringBang; end = 1 } ∷ []; width = None; sort = Other } ≡ piece = cc in
-        subst (StandsCrlf s.place (b ∷ bs) (crlf (b ∷ bs)) (code s (crlf (b ∷ bs)))) same (record {
+        subst (StandsCrlf s.mode (b ∷ bs) (crlf (b ∷ bs)) (code s (crlf (b ∷ bs)))) same (record {
           form = record { len = 1; lexemes = record { begin = 0; node = FStringBang; end = 1 } ∷ []; width = None; sort = Other };
           stands = ap (λ (test : Bool). if test then token 1 FStringBang else front_step s (crlf (b ∷ bs)) (longest_front (class_in language) (crlf (b ∷ bs)))) (same_bang ∙ f);
           like = alike _;
@@ -143,19 +143,19 @@ code_stands s (b ∷ bs) piece h utf8 raw e = subst (λ (step : Step). StandsCrl
           left = found.left;
         }
 
--- What stands remainder some history, in the form.
-next_stands : (history : History) (text : Text) (piece : Piece) → is_nothing history.before ≡ false → no_return text ≡ true → IsUtf8 text → (is_raw_in (situation history).place text ≡ true → holds_escaped_newline (take piece.len text) ≡ false)
-    → next_step language history text ≡ Stands piece → StandsCrlf (situation history).place text (crlf text) (next_step language history (crlf text)) piece
+-- What stands after some history, in the form.
+next_stands : (history : History) (text : Text) (piece : Piece) → is_nothing history.before ≡ false → no_return text ≡ true → IsUtf8 text → (is_raw_in (situation history).mode text ≡ true → holds_escaped_newline (take piece.len text) ≡ false)
+    → next_step language history text ≡ Stands piece → StandsCrlf (situation history).mode text (crlf text) (next_step language history (crlf text)) piece
 unfolding next_step situation step_at language_front
 next_stands history text piece later h utf8 raw e = before history.before later e
   where
     s : Situation
     s = situation history
 
-    at : (place : Mode) → mode_after history.tokens ≡ place → (is_raw_in place text ≡ true → holds_escaped_newline (take piece.len text) ≡ false) → by_place language (situation history) place text ≡ Stands piece
-        → StandsCrlf (mode_after history.tokens) text (crlf text) (by_place language (situation history) place (crlf text)) piece
+    at : (mode : Mode) → mode_after history.tokens ≡ mode → (is_raw_in mode text ≡ true → holds_escaped_newline (take piece.len text) ≡ false) → by_mode language (situation history) mode text ≡ Stands piece
+        → StandsCrlf (mode_after history.tokens) text (crlf text) (by_mode language (situation history) mode (crlf text)) piece
     at Outside f raw e = code_stands (situation history) text piece h utf8 raw e
-    at (InText opening) f raw e = subst (λ (place : Mode). StandsCrlf place text (crlf text) (by_place language (situation history) (InText opening) (crlf text)) piece) (sym f) (chunk_crlf opening text piece h (utf8_apart text utf8) raw e)
+    at (InText opening) f raw e = subst (λ (mode : Mode). StandsCrlf mode text (crlf text) (by_mode language (situation history) (InText opening) (crlf text)) piece) (sym f) (chunk_crlf opening text piece h (utf8_apart text utf8) raw e)
     at AtTop f raw e = code_stands (situation history) text piece h utf8 raw e
     at Deeper f raw e = code_stands (situation history) text piece h utf8 raw e
 
@@ -165,7 +165,7 @@ next_stands history text piece later h utf8 raw e = before history.before later 
     before Gap k e = at (mode_after history.tokens) refl raw e
     before Other k e = at (mode_after history.tokens) refl raw e
 
--- from an LF on, remainder a line end that counts
+-- from an LF on, after a line end that counts
 line_feed : class_in language (10 ∷ []) ≡ Some word.LineEnd
 unfolding class_in language openers line_ends symbols names patterns
 line_feed = refl
@@ -177,21 +177,21 @@ feed_step : (history : History) (rest : Text) → history.before ≡ Layout → 
 unfolding next_step situation step_at
 feed_step history rest laid out =
     ap (λ (before : Before). by_before language (situation history) before (10 ∷ rest)) laid
-    ∙ ap (λ (place : Mode). by_place language (situation history) place (10 ∷ rest)) out
-    ∙ ap (λ (bang : Bool). if bang then token 1 FStringBang else front_step (situation history) (10 ∷ rest) (longest_front (class_in language) (10 ∷ rest))) (ap (λ (place : Mode). takes_bang place history.before && is_bang (10 ∷ rest)) out)
+    ∙ ap (λ (mode : Mode). by_mode language (situation history) mode (10 ∷ rest)) out
+    ∙ ap (λ (bang : Bool). if bang then token 1 FStringBang else front_step (situation history) (10 ∷ rest) (longest_front (class_in language) (10 ∷ rest))) (ap (λ (mode : Mode). takes_bang mode history.before && is_bang (10 ∷ rest)) out)
     ∙ ap (front_step (situation history) (10 ∷ rest)) (feed_front rest)
 
 -- Readings
 
--- What is left of the form, where so much of the text is left remainder some history.
+-- What is left of the form, where so much of the text is left after some history.
 data Standing (history : History) (text other : Text) : Type 0 where
   AtForm : other ≡ crlf text → Standing history text other
   AtLine : (rest : Text) → text ≡ 10 ∷ rest → other ≡ 10 ∷ crlf rest → history.before ≡ Layout → mode_after history.tokens ≡ Outside → Standing history text other
 
-standing_step : (history : History) (text other : Text) (piece : Piece) → is_nothing history.before ≡ false → no_return text ≡ true → IsUtf8 text → (is_raw_in (situation history).place text ≡ true → holds_escaped_newline (take piece.len text) ≡ false)
-    → Standing history text other → next_step language history text ≡ Stands piece → StandsCrlf (situation history).place text other (next_step language history other) piece
+standing_step : (history : History) (text other : Text) (piece : Piece) → is_nothing history.before ≡ false → no_return text ≡ true → IsUtf8 text → (is_raw_in (situation history).mode text ≡ true → holds_escaped_newline (take piece.len text) ≡ false)
+    → Standing history text other → next_step language history text ≡ Stands piece → StandsCrlf (situation history).mode text other (next_step language history other) piece
 standing_step history text other piece later h utf8 raw (AtForm same) e =
-    subst (λ (t : Text). StandsCrlf (situation history).place text t (next_step language history t) piece) (sym same) (next_stands history text piece later h utf8 raw e)
+    subst (λ (t : Text). StandsCrlf (situation history).mode text t (next_step language history t) piece) (sym same) (next_stands history text piece later h utf8 raw e)
 standing_step history text other piece later h utf8 raw (AtLine rest here there laid out) e =
     let step = sym (feed_step history rest laid out) ∙ ap (next_step language history) (sym here) ∙ e in
     let plain : no_return rest ≡ true = no_return_drop 1 (10 ∷ rest) (subst (λ (t : Text). no_return t ≡ true) here h) in
@@ -201,7 +201,7 @@ standing_step history text other piece later h utf8 raw (AtLine rest here there 
       form = found.form;
       stands = same ∙ found.stands;
       like = found.like;
-      left = subst (λ (t : Text). LeftAt (situation history).place piece (drop piece.len t) (drop found.form.len other)) (sym here) (subst (λ (t : Text). LeftAt (situation history).place piece (drop piece.len (10 ∷ rest)) (drop found.form.len t)) (sym there) found.left);
+      left = subst (λ (t : Text). LeftAt (situation history).mode piece (drop piece.len t) (drop found.form.len other)) (sym here) (subst (λ (t : Text). LeftAt (situation history).mode piece (drop piece.len (10 ∷ rest)) (drop found.form.len t)) (sym there) found.left);
     }
 
 -- tokens alone tell what was read
@@ -256,13 +256,13 @@ after_sort : (history : History) (piece : Piece) → (after history piece).befor
 unfolding after
 after_sort history piece = refl
 
-place_is : (history : History) → (situation history).place ≡ mode_after history.tokens
+mode_is : (history : History) → (situation history).mode ≡ mode_after history.tokens
 unfolding situation
-place_is history = refl
+mode_is history = refl
 
-standing_after : (history : History) (piece : Piece) (text other : Text) → LeftAt (situation history).place piece text other → Standing (after history piece) text other
+standing_after : (history : History) (piece : Piece) (text other : Text) → LeftAt (situation history).mode piece text other → Standing (after history piece) text other
 standing_after history piece text other (AtWhole e) = AtForm e
-standing_after history piece text other (AtFeed rest here there place calm sort) = AtLine rest here there (after_sort history piece ∙ sort) (after_outside history piece calm (sym (place_is history) ∙ place))
+standing_after history piece text other (AtFeed rest here there mode calm sort) = AtLine rest here there (after_sort history piece ∙ sort) (after_outside history piece calm (sym (mode_is history) ∙ mode))
 
 -- A reading of the whole text, and one of its form with the same tokens.
 record ReadingCrlf (history : History) (other : Text) (pieces : List Piece) : Type 0 where
@@ -270,28 +270,28 @@ record ReadingCrlf (history : History) (other : Text) (pieces : List Piece) : Ty
   reads : IsReading language history other forms
   past : after_all history forms ≡ after_all history pieces
   none : drop (pieces_len forms) other ≡ []
-  same : (at place : ℕ) → nodes (lexemes_along place forms) ≡ nodes (lexemes_along at pieces)
+  same : (at mode : ℕ) → nodes (lexemes_along mode forms) ≡ nodes (lexemes_along at pieces)
 
 raw_parts : (history : History) (text : Text) (piece : Piece) (pieces : List Piece) → no_raw_newline history text (piece ∷ pieces) ≡ true
-    → (is_raw_in (situation history).place text ≡ true → holds_escaped_newline (take piece.len text) ≡ false) × (no_raw_newline (after history piece) (drop piece.len text) pieces ≡ true)
+    → (is_raw_in (situation history).mode text ≡ true → holds_escaped_newline (take piece.len text) ≡ false) × (no_raw_newline (after history piece) (drop piece.len text) pieces ≡ true)
 unfolding no_raw_newline
 raw_parts history text piece pieces h =
-    let parts = and_parts (not (is_raw_in (situation history).place text && holds_escaped_newline (take piece.len text))) (no_raw_newline (after history piece) (drop piece.len text) pieces) h in
-    (by (is_raw_in (situation history).place text) (holds_escaped_newline (take piece.len text)) parts.0, parts.1)
+    let parts = and_parts (not (is_raw_in (situation history).mode text && holds_escaped_newline (take piece.len text))) (no_raw_newline (after history piece) (drop piece.len text) pieces) h in
+    (by (is_raw_in (situation history).mode text) (holds_escaped_newline (take piece.len text)) parts.0, parts.1)
   where
     by : (raw holds : Bool) → not (raw && holds) ≡ true → raw ≡ true → holds ≡ false
     by true true h e = cc
     by true false h e = refl
     by false holds h e = cc
 
-along_nodes : (at place : ℕ) (piece form : Piece) (pieces forms : List Piece) → PieceCrlf piece form → nodes (lexemes_along (place + form.len) forms) ≡ nodes (lexemes_along (at + piece.len) pieces) → nodes (lexemes_along place (form ∷ forms)) ≡ nodes (lexemes_along at (piece ∷ pieces))
-along_nodes at place piece form pieces forms like more =
-    nodes_both (map (moved place) form.lexemes) (lexemes_along (place + form.len) forms)
-    ∙ ap (λ ts. ts ++ nodes (lexemes_along (place + form.len) forms)) (nodes_moved place form.lexemes ∙ like.same ∙ sym (nodes_moved at piece.lexemes))
+along_nodes : (at mode : ℕ) (piece form : Piece) (pieces forms : List Piece) → PieceCrlf piece form → nodes (lexemes_along (mode + form.len) forms) ≡ nodes (lexemes_along (at + piece.len) pieces) → nodes (lexemes_along mode (form ∷ forms)) ≡ nodes (lexemes_along at (piece ∷ pieces))
+along_nodes at mode piece form pieces forms like more =
+    nodes_both (map (moved mode) form.lexemes) (lexemes_along (mode + form.len) forms)
+    ∙ ap (λ ts. ts ++ nodes (lexemes_along (mode + form.len) forms)) (nodes_moved mode form.lexemes ∙ like.same ∙ sym (nodes_moved at piece.lexemes))
     ∙ ap (λ ts. nodes (map (moved at) piece.lexemes) ++ ts) more
     ∙ sym (nodes_both (map (moved at) piece.lexemes) (lexemes_along (at + piece.len) pieces))
 
-onward : (history : History) (text other : Text) (piece : Piece) (pieces : List Piece) (found : StandsCrlf (situation history).place text other (next_step language history other) piece) → ReadingCrlf (after history piece) (drop found.form.len other) pieces → ReadingCrlf history other (piece ∷ pieces)
+onward : (history : History) (text other : Text) (piece : Piece) (pieces : List Piece) (found : StandsCrlf (situation history).mode text other (next_step language history other) piece) → ReadingCrlf (after history piece) (drop found.form.len other) pieces → ReadingCrlf history other (piece ∷ pieces)
 onward history text other piece pieces found rest =
     let same : after history found.form ≡ after history piece = after_like history piece found.form found.like in
     record {
@@ -299,12 +299,12 @@ onward history text other piece pieces found rest =
       reads = (found.stands, subst (λ (past : History). IsReading language past (drop found.form.len other) rest.forms) (sym same) rest.reads);
       past = ap (λ (past : History). after_all past rest.forms) same ∙ rest.past;
       none = ap (λ n. drop n other) (sum_by-cons (λ (piece : Piece). piece.len) found.form rest.forms) ∙ drop-sum found.form.len (pieces_len rest.forms) other ∙ rest.none;
-      same = λ at place. along_nodes at place piece found.form pieces rest.forms found.like (rest.same (at + piece.len) (place + found.form.len));
+      same = λ at mode. along_nodes at mode piece found.form pieces rest.forms found.like (rest.same (at + piece.len) (mode + found.form.len));
     }
 
 reading_crlf : (history : History) (text other : Text) (pieces : List Piece) → is_nothing history.before ≡ false → no_return text ≡ true → IsUtf8 text → Standing history text other → IsReading language history text pieces → no_raw_newline history text pieces ≡ true → pieces_len pieces ≡ length text
     → ReadingCrlf history other pieces
-reading_crlf history text other [] later h utf8 standing reads raw reach = record { forms = []; reads = tt; past = refl; none = at_end text reach standing; same = λ at place. refl }
+reading_crlf history text other [] later h utf8 standing reads raw reach = record { forms = []; reads = tt; past = refl; none = at_end text reach standing; same = λ at mode. refl }
   where
     at_end : (text : Text) → 0 ≡ length text → Standing history text other → other ≡ []
     at_end [] e (AtForm same) = same
@@ -319,12 +319,12 @@ reading_crlf history text other (piece ∷ pieces) later h utf8 standing reads r
     (standing_after history piece (drop piece.len text) (drop found.form.len other) found.left) reads.1 parts.1 (omega (arith, reach, total, length-drop piece.len text)) in
     onward history text other piece pieces found rest
 
-nothing_outside : (situation nothing).place ≡ Outside
+nothing_outside : (situation nothing).mode ≡ Outside
 unfolding situation mode_after open_fstring
 nothing_outside = refl
 
 -- the first margin
-first_crlf : (text : Text) (piece : Piece) → no_return text ≡ true → next_step language nothing text ≡ Stands piece → StandsCrlf (situation nothing).place text (crlf text) (next_step language nothing (crlf text)) piece
+first_crlf : (text : Text) (piece : Piece) → no_return text ≡ true → next_step language nothing text ≡ Stands piece → StandsCrlf (situation nothing).mode text (crlf text) (next_step language nothing (crlf text)) piece
 first_crlf text piece h e =
     let found = margin_stands 0 0 [] [] [] text piece h refl (sym (first_step text) ∙ e) refl in
     let here : drop piece.len text ≡ drop (margin_len (margin_of text)) text = let len : piece.len ≡ margin_len (margin_of text) = omega (arith, found.len_is) in ap (λ n. drop n text) len in
@@ -333,10 +333,10 @@ first_crlf text piece h e =
       form = found.form;
       stands = first_step (crlf text) ∙ found.stands;
       like = found.like;
-      left = subst (λ (t : Text). LeftAt (situation nothing).place piece t (drop found.form.len (crlf text))) (sym here) (subst (LeftAt (situation nothing).place piece (drop (margin_len (margin_of text)) text)) (sym there) (at found.sort found.outside found.left));
+      left = subst (λ (t : Text). LeftAt (situation nothing).mode piece t (drop found.form.len (crlf text))) (sym here) (subst (LeftAt (situation nothing).mode piece (drop (margin_len (margin_of text)) text)) (sym there) (at found.sort found.outside found.left));
     }
   where
-    at : {one other : Text} {content : Bool} → piece.sort ≡ Layout → (content ≡ false → neutral piece.lexemes ≡ true) → Left one other content → LeftAt (situation nothing).place piece one other
+    at : {one other : Text} {content : Bool} → piece.sort ≡ Layout → (content ≡ false → neutral piece.lexemes ≡ true) → Left one other content → LeftAt (situation nothing).mode piece one other
     at sort calm (Whole e) = AtWhole e
     at sort calm (AfterComments rest e f none) = AtFeed rest e f nothing_outside (calm none) sort
 
@@ -353,8 +353,8 @@ whole_crlf text (piece ∷ pieces) h utf8 some reads raw reach =
 
 -- Outcomes
 
-closing_nodes : (at place : ℕ) (history : History) → nodes (closing place history) ≡ nodes (closing at history)
-closing_nodes at place history = ap (λ ts. Newline ∷ ts) (replicate_nodes (length (open_widths history.widths)) (record { begin = place; node = Dedent; end = place }) (record { begin = at; node = Dedent; end = at }) refl)
+closing_nodes : (at mode : ℕ) (history : History) → nodes (closing mode history) ≡ nodes (closing at history)
+closing_nodes at mode history = ap (λ ts. Newline ∷ ts) (replicate_nodes (length (open_widths history.widths)) (record { begin = mode; node = Dedent; end = mode }) (record { begin = at; node = Dedent; end = at }) refl)
 
 ending : (text other : Text) (pieces forms : List Piece) → after_all nothing forms ≡ after_all nothing pieces → nodes (lexemes_along 0 forms) ≡ nodes (lexemes_along 0 pieces)
     → nodes (outcome_of other forms Ends).lexemes ≡ nodes (outcome_of text pieces Ends).lexemes

@@ -1,4 +1,4 @@
--- Texts with each LF written as CR LF: fronts, and what is left remainder them.
+-- Texts with each LF written as CR LF: fronts, and what is left after them.
 use Rattle.std.proofs.Common.{◌≡◌, ℕ, zero, suc, ◌+◌, ◌≤◌, Bool, true, false, cond, not, [], ◌∷◌, ◌++◌, length, take, drop, refl, ap, ◌∙◌, sym, subst, nat_eq}
 use Rattle.std.specs.Prelude.{◌&&◌, ◌||◌, ◌==◌, if◌then◌else◌}
 use Rattle.std.specs.List.{list_all, list_any, prefix_len, starts_with}
@@ -8,7 +8,7 @@ use Rattle.std.proofs.lemmas.List.{take-append-drop, length-take-le}
 use Rattle.starlark_grammar.specs.Words.{Text, is_in_line}
 use Rattle.starlark_grammar.specs.Margins.{is_lf}
 use Rattle.starlark_grammar.specs.LineEnds.{crlf_form}
-use Rattle.starlark_grammar.proofs.Lines.{in_line}
+use Rattle.starlark_grammar.proofs.WordNewlines.{in_line}
 use Rattle.starlark_grammar.proofs.Order.Edges.{starts_split}
 
 -- the same by recursion on the text
@@ -70,7 +70,7 @@ crlf_line (b ∷ bs) h =
     let parts = and_parts (is_in_line b) (in_line bs) h in
     rw (line_byte b parts.0) (ap (λ (t : Text). b ∷ t) (crlf_line bs parts.1))
 
--- a front without LF stays, and so does what is left remainder it
+-- a front without LF stays, and so does what is left after it
 pub crlf_front : (n : ℕ) (text : Text) → n ≤ length text → in_line (take n text) ≡ true → (take n (crlf text) ≡ take n text) × (drop n (crlf text) ≡ crlf (drop n text))
 crlf_front n text inside h =
     let whole : crlf text ≡ take n text ++ crlf (drop n text) =
@@ -100,9 +100,9 @@ starts_crlf (b ∷ bs) (c ∷ cs) h = go (is_lf b) refl (starts_crlf bs cs)
     go false e more = ap (λ (starts : Bool). nat_eq c b && starts) (more parts.1)
     go true e more = rw (line_other c 13 parts.0 refl, eqb-true b 10 e, line_other c 10 parts.0 refl) refl
 
--- remainder a front that is a line's
-pub behind_crlf : (text needle : Text) → in_line needle ≡ true → starts_with nat_eq text needle ≡ true → drop (length needle) (crlf text) ≡ crlf (drop (length needle) text)
-behind_crlf text needle h starts =
+-- after a front that is a line's
+pub after_crlf : (text needle : Text) → in_line needle ≡ true → starts_with nat_eq text needle ≡ true → drop (length needle) (crlf text) ≡ crlf (drop (length needle) text)
+after_crlf text needle h starts =
     ap (λ (t : Text). drop (length needle) (crlf t)) (starts_split text needle starts)
     ∙ ap (drop (length needle)) (crlf_both needle (drop (length needle) text) ∙ ap (λ (t : Text). t ++ crlf (drop (length needle) text)) (crlf_line needle h))
     ∙ drop-append_seam needle (crlf (drop (length needle) text))

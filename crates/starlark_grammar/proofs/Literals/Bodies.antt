@@ -13,7 +13,7 @@ use Rattle.starlark_grammar.proofs.Lists.{take_fits, drop-sum, drop-remainder}
 use Rattle.starlark_grammar.specs.Words.{Text, Quote, Kind, is_octal_digit}
 use Rattle.starlark_grammar.specs.Tokens.{Opening}
 use Rattle.starlark_grammar.specs.Items.{Literal, Item, Stop, Closing, Line, Ended, OpeningBrace, ClosingBrace, BadEscape, Found, Goes, Stops, goes, closing_quotes, broken, is_character, numbered, hexadecimal, octal, escaped_newline, simple_escapes, simple, is_of_bytes, escape, raw_pair, brace, is_brace, found_at, Body, body_len, body_onward, body_from, body_at}
-use Rattle.starlark_grammar.specs.Characters.{first_character}
+use Rattle.starlark_grammar.specs.FrontCharacter.{first_character}
 use Rattle.starlark_grammar.proofs.Choices.{either, by_test}
 
 pub character_fits : (text : Text) → length (first_character text) ≤ length text
@@ -119,7 +119,7 @@ found_fits literal (b ∷ bs) =
 abbrev pub BodyFits : Literal → Text → Body → Type 0
 BodyFits literal text body = (body_len body ≤ length text) × StopFits literal.opening (drop (body_len body) text) body.stop
 
--- an item, and the body remainder it
+-- an item, and the body after it
 onward_fits : (literal : Literal) (item : Item) (b : ℕ) (bs : Text) (rest : Body) → 1 ≤ item.len → item.len ≤ length (b ∷ bs) → BodyFits literal (drop (item.len - 1) bs) rest → BodyFits literal (b ∷ bs) (record { items = item ∷ rest.items; stop = rest.stop })
 onward_fits literal item b bs rest some inside fits =
     let total : body_len (record { items = item ∷ rest.items; stop = rest.stop }) ≡ item.len + body_len rest = sum_by-cons (λ (item : Item). item.len) item rest.items in

@@ -55,13 +55,13 @@ some_close opening = go opening.is_triple
 
 -- Lists of items
 
-items_behind : (item : Item) (items : List Item) (text : Text) → drop (items_len (item ∷ items)) text ≡ drop (items_len items) (drop item.len text)
-items_behind item items text = ap (λ n. drop n text) (sum_by-cons (λ (i : Item). i.len) item items) ∙ drop-sum item.len (items_len items) text
+items_after : (item : Item) (items : List Item) (text : Text) → drop (items_len (item ∷ items)) text ≡ drop (items_len items) (drop item.len text)
+items_after item items text = ap (λ n. drop n text) (sum_by-cons (λ (i : Item). i.len) item items) ∙ drop-sum item.len (items_len items) text
 
 items_append : (literal : Literal) (text : Text) (items more : List Item) → ItemsAt literal text items → ItemsAt literal (drop (items_len items) text) more → ItemsAt literal text (items ++ more)
 items_append literal text [] more stand remainder = remainder
 items_append literal text (item ∷ items) more stand remainder =
-    (stand.0, items_append literal (drop item.len text) items more stand.1 (subst (λ (t : Text). ItemsAt literal t more) (items_behind item items text) remainder))
+    (stand.0, items_append literal (drop item.len text) items more stand.1 (subst (λ (t : Text). ItemsAt literal t more) (items_after item items text) remainder))
 
 -- a text whose first item is one byte that denotes itself
 itself_text : (literal : Literal) (text : Text) (item : Item) (b : ℕ) → ItemAt literal text item → is_itself b item ≡ true → text ≡ b ∷ drop item.len text
@@ -120,7 +120,7 @@ text_quotes literal quote (suc n) (b ∷ bs) (item ∷ items) stand far h = by (
 
     by : More → (suc n ≤ length (item ∷ items)) ⊎ (begins 1 (quote_byte quote) (drop (items_len (item ∷ items)) (b ∷ bs)) ≡ false) → suc n ≤ prefix_len (is_itself (quote_byte quote)) (item ∷ items)
     by more (inl few) = onward more (inl (omega (arith, few)))
-    by more (inr none) = onward more (inr (subst (λ (t : Text). begins 1 (quote_byte quote) t ≡ false) (items_behind item items (b ∷ bs) ∙ ap (drop (items_len items)) rest) none))
+    by more (inr none) = onward more (inr (subst (λ (t : Text). begins 1 (quote_byte quote) t ≡ false) (items_after item items (b ∷ bs) ∙ ap (drop (items_len items)) rest) none))
 
 -- Places that a body passes: neither closing quotes nor an LF that ends the literal are there.
 
@@ -147,9 +147,9 @@ PlaceIs literal text = ((begins (count literal.opening) (quote_byte literal.open
     ⊎ (((begins (count literal.opening) (quote_byte literal.opening.quote) text ≡ false) × (ends_line literal.opening text ≡ true) × (found_at literal text ≡ Stops Line))
     ⊎ (Passes literal text × (found_at literal text ≡ item_found literal text)))
 
-place_is : (literal : Literal) (text : Text) → PlaceIs literal text
+mode_is : (literal : Literal) (text : Text) → PlaceIs literal text
 unfolding found_at
-place_is literal [] = inr (inr ((none literal.opening, refl), refl))
+mode_is literal [] = inr (inr ((none literal.opening, refl), refl))
   where
     none : (opening : Opening) → begins (count opening) (quote_byte opening.quote) [] ≡ false
     none opening = go opening.is_triple
@@ -157,7 +157,7 @@ place_is literal [] = inr (inr ((none literal.opening, refl), refl))
         go : (triple : Bool) → begins (length (closing_quotes (record { is_raw = opening.is_raw; quote = opening.quote; is_triple = triple }))) (quote_byte opening.quote) [] ≡ false
         go true = refl
         go false = refl
-place_is literal (b ∷ bs) = go (begins (count literal.opening) (quote_byte literal.opening.quote) (b ∷ bs)) refl
+mode_is literal (b ∷ bs) = go (begins (count literal.opening) (quote_byte literal.opening.quote) (b ∷ bs)) refl
   where
     go : (closes : Bool) → begins (count literal.opening) (quote_byte literal.opening.quote) (b ∷ bs) ≡ closes → PlaceIs literal (b ∷ bs)
     go true e = inl (e, rw (closing_begins literal.opening (b ∷ bs), e) refl)
@@ -248,7 +248,7 @@ passed literal text (item ∷ items) more stand enough none no_feed = ((no_quote
   where
     remainder : Enough literal text (item ∷ items) more → Enough literal (drop item.len text) items more
     remainder (inl few) = inl few
-    remainder (inr none) = inr (subst (λ (t : Text). begins 1 (quote_byte literal.opening.quote) t ≡ false) (items_behind item (items ++ more) text) none)
+    remainder (inr none) = inr (subst (λ (t : Text). begins 1 (quote_byte literal.opening.quote) t ≡ false) (items_after item (items ++ more) text) none)
 
     far : Enough literal text (item ∷ items) more → (count literal.opening ≤ length (item ∷ (items ++ more))) ⊎ (begins 1 (quote_byte literal.opening.quote) (drop (items_len (item ∷ (items ++ more))) text) ≡ false)
     far (inl few) = inl (omega (arith, few, length-append items more))
@@ -333,7 +333,7 @@ stop_no_quote literal (b ∷ bs) stop is = rw (other (nat_eq (quote_byte literal
 
 -- … and is the stop that is found.
 stop_found : (literal : Literal) (text : Text) (stop : Stop) → StopsAt literal text stop → found_at literal text ≡ Stops stop
-stop_found literal text stop is = go (stops_found literal text stop is) (place_is literal text)
+stop_found literal text stop is = go (stops_found literal text stop is) (mode_is literal text)
   where
     go : (stop ≡ Line) ⊎ (item_found literal text ≡ Stops stop) → PlaceIs literal text → found_at literal text ≡ Stops stop
     go found (inl place) = absurd (never place.0 (none_begin (quote_byte literal.opening.quote) (count literal.opening) text (some_close literal.opening) (stop_no_quote literal text stop is)))
@@ -347,7 +347,7 @@ stop_found literal text stop is = go (stops_found literal text stop is) (place_i
 -- A stop that is found is closing quotes, or what ends items that no quotes close.
 found_stop : (literal : Literal) (text : Text) (stop : Stop) → found_at literal text ≡ Stops stop
     → ((stop ≡ Closing) × (begins (count literal.opening) (quote_byte literal.opening.quote) text ≡ true)) ⊎ StopsAt literal text stop
-found_stop literal text stop e = go (place_is literal text)
+found_stop literal text stop e = go (mode_is literal text)
   where
     same : {found : Found} → found_at literal text ≡ found → found ≡ Stops stop
     same f = sym f ∙ e
@@ -363,7 +363,7 @@ found_stop literal text stop e = go (place_is literal text)
 
 -- An item that is found is at a passed place.
 found_item : (literal : Literal) (text : Text) (item : Item) → found_at literal text ≡ Goes item → ItemAt literal text item × Passes literal text
-found_item literal text item e = go (place_is literal text)
+found_item literal text item e = go (mode_is literal text)
   where
     go : PlaceIs literal text → ItemAt literal text item × Passes literal text
     go (inl place) = let no : Stops Closing ≡ Goes item = sym place.1 ∙ e in cc
@@ -399,7 +399,7 @@ body_listed : (literal : Literal) (text : Text) (items : List Item) (stop : Stop
 body_listed literal text [] stop stand pass e = body_stop literal text stop e
 body_listed literal text (item ∷ items) stop stand pass e =
     let found = found_passed literal text pass.0 ∙ item_found_from literal text item stand.0 in
-    let more = body_listed literal (drop item.len text) items stop stand.1 pass.1 (ap (found_at literal) (sym (items_behind item items text)) ∙ e) in
+    let more = body_listed literal (drop item.len text) items stop stand.1 pass.1 (ap (found_at literal) (sym (items_after item items text)) ∙ e) in
     body_item literal text item found ∙ ap (λ (body : Body). record { items = item ∷ body.items; stop = body.stop }) more
 
 -- The items of a body are at passed places, and after them its stop is found.
@@ -412,7 +412,7 @@ scanned_item : (literal : Literal) (text : Text) (item : Item) (rest : Body) →
     → IsScanned literal text (record { items = item ∷ rest.items; stop = rest.stop })
 scanned_item literal text item rest e more =
     let here = found_item literal text item e in
-    record { listed = (here.0, more.listed); pass = (here.1, more.pass); found = ap (found_at literal) (items_behind item rest.items text) ∙ more.found }
+    record { listed = (here.0, more.listed); pass = (here.1, more.pass); found = ap (found_at literal) (items_after item rest.items text) ∙ more.found }
 
 scanned_from : (literal : Literal) (n : ℕ) (text : Text) → IsScanned literal (drop n text) (body_from literal n text)
 unfolding body_from found_at
@@ -505,7 +505,7 @@ quotes_many opening = go opening.is_triple
     go false = omega arith
 
 closing_found : (literal : Literal) (text : Text) → begins (count literal.opening) (quote_byte literal.opening.quote) text ≡ true → found_at literal text ≡ Stops Closing
-closing_found literal text closed = go (place_is literal text)
+closing_found literal text closed = go (mode_is literal text)
   where
     go : PlaceIs literal text → found_at literal text ≡ Stops Closing
     go (inl place) = place.1
@@ -557,7 +557,7 @@ longest literal stop text [] (item ∷ more) stand stops also none = absurd (go 
 longest literal stop text (item ∷ items) (other ∷ more) stand stops also none =
     let same : other ≡ item = one_item literal text other item also.0 stand.0 in
     let remainder : ItemsAt literal (drop item.len text) more = subst (λ (i : Item). ItemsAt literal (drop i.len text) more) same also.1 in
-    let less : length more ≤ length items = longest literal stop (drop item.len text) items more stand.1 (subst (λ (t : Text). StopsAt literal t stop) (items_behind item items text) stops) remainder (λ one. (or_parts (is_itself (byte "\n") other) (list_any (is_itself (byte "\n")) more) (none one)).1) in
+    let less : length more ≤ length items = longest literal stop (drop item.len text) items more stand.1 (subst (λ (t : Text). StopsAt literal t stop) (items_after item items text) stops) remainder (λ one. (or_parts (is_itself (byte "\n") other) (list_any (is_itself (byte "\n")) more) (none one)).1) in
     omega (arith, less)
 
 pub body_is_bad : BodyIsBad
@@ -590,10 +590,10 @@ good_or_bad literal text = go (body_at literal text).items (body_at literal text
     go items (BadEscape read last) e is = bad items (BadEscape read last) e (λ no. cc)
 
 pub good_literal : GoodLiteralIsToken
-good_literal place kind opening len remainder items is = ap (λ (body : Body). literal_by place kind opening len remainder body body.stop) (good_one (record { kind = kind; opening = opening }) remainder items is)
+good_literal mode kind opening len remainder items is = ap (λ (body : Body). literal_by mode kind opening len remainder body body.stop) (good_one (record { kind = kind; opening = opening }) remainder items is)
 
 pub bad_literal : BadLiteralIsFault
-bad_literal place kind opening len remainder items stop is = ap (λ (body : Body). literal_by place kind opening len remainder body body.stop) (unclosed_one (record { kind = kind; opening = opening }) remainder items stop is.unclosed)
+bad_literal mode kind opening len remainder items stop is = ap (λ (body : Body). literal_by mode kind opening len remainder body body.stop) (unclosed_one (record { kind = kind; opening = opening }) remainder items stop is.unclosed)
 
 pub chunk_body : ChunkIsBody
 unfolding chunk

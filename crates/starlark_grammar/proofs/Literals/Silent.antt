@@ -12,7 +12,7 @@ use Rattle.std.proofs.lemmas.Str.{length-encode}
 use Rattle.std.proofs.lemmas.List.Sums.{sum_by-cons}
 use Rattle.starlark_grammar.specs.Words.{Text, Quote, Kind, is_octal_digit}
 use Rattle.starlark_grammar.specs.Items.{Literal, Item, Stop, Found, Goes, Stops, goes, closing_quotes, broken, is_character, numbered, hexadecimal, escaped_newline, simple_escapes, simple, is_of_bytes, escape, drops_backslash, raw_pair, brace, is_brace, found_at, Body, body_len, body_value, body_onward, body_from, body_at, OpeningBrace, ClosingBrace}
-use Rattle.starlark_grammar.specs.Characters.{first_character}
+use Rattle.starlark_grammar.specs.FrontCharacter.{first_character}
 use Rattle.starlark_grammar.specs.Gaps.{is_gap_byte, IsGap}
 use Rattle.starlark_grammar.proofs.Lists.{drop-remainder}
 use Rattle.starlark_grammar.proofs.Literals.Bodies.{FoundFits, found_fits}

@@ -16,9 +16,9 @@ use Rattle.starlark_grammar.specs.Margins.{begins_with_line_end, is_blank, is_lf
 use Rattle.starlark_grammar.specs.Gaps.{is_gap_byte, IsGap}
 use Rattle.starlark_grammar.specs.Laws.{AtBoundaries}
 use Rattle.starlark_grammar.proofs.Lists.{drop-sum}
-use Rattle.starlark_grammar.proofs.Order.Lexemes.{Split, first_line, comment_spans, comment_tail, part_len, lines_sum}
+use Rattle.starlark_grammar.proofs.Order.OrderedLexemes.{Split, first_line, comment_spans, comment_tail, part_len, lines_sum}
 use Rattle.starlark_grammar.proofs.Words.Bytes.{is_plain}
-use Rattle.starlark_grammar.proofs.Order.Edges.{behind_plain, before_byte, boundary_shift}
+use Rattle.starlark_grammar.proofs.Order.Edges.{after_plain, before_byte, boundary_shift}
 
 abbrev pub Edges : Text → List Lexeme → Type 0
 Edges text lexemes = AllByRecursion (AtBoundaries text) lexemes
@@ -69,7 +69,7 @@ line_edge whole at text line more utf8 e split some = go split.ended
         let utf8_here = IsUtf8-drop whole (at + length front) utf8 edge in
         let line_len : length line ≡ length front + 1 = ap (λ (t : Text). length t) found.1 ∙ length-append front (10 ∷ []) in
         let total : at + length front + 1 ≡ at + length line = omega (arith, line_len) in
-        subst (IsCharBoundary whole) total (boundary_shift whole (at + length front) 1 edge (behind_plain (drop (at + length front) whole) (10 ∷ []) split.rest utf8_here before refl))
+        subst (IsCharBoundary whole) total (boundary_shift whole (at + length front) 1 edge (after_plain (drop (at + length front) whole) (10 ∷ []) split.rest utf8_here before refl))
 
 comments_edges : (whole : Text) (at : ℕ) (text : Text) (ls : List Text) → IsUtf8 whole → drop at whole ≡ text → lines text ≡ ls → IsCharBoundary whole at → Edges whole (comments_from at (take_while is_comment_only ls)) × IsCharBoundary whole (at + lines_sum (take_while is_comment_only ls))
 comments_edges whole at text [] utf8 e f here = (tt, subst (IsCharBoundary whole) same here)
@@ -152,7 +152,7 @@ margin_edges text utf8 =
     record {
       comments = both.0;
       at = here;
-      end = boundary_shift text (lines_sum (comment_lines text)) (length (take (blanks_len line) line)) here (behind_plain line (take (blanks_len line) line) (drop (blanks_len line) line) (IsUtf8-drop text (lines_sum (comment_lines text)) utf8 here) (sym (take-append-drop (blanks_len line) line)) (blanks_plain line));
+      end = boundary_shift text (lines_sum (comment_lines text)) (length (take (blanks_len line) line)) here (after_plain line (take (blanks_len line) line) (drop (blanks_len line) line) (IsUtf8-drop text (lines_sum (comment_lines text)) utf8 here) (sym (take-append-drop (blanks_len line) line)) (blanks_plain line));
     }
 
 dedents_edges : (text : Text) (at k : ℕ) → IsCharBoundary text at → Edges text (replicate k (record { begin = at; node = Dedent; end = at }))

@@ -17,7 +17,7 @@ use Rattle.std.proofs.lemmas.Str.{IsCharBoundary-before_ascii, IsCharBoundary-fr
 use Rattle.starlark_grammar.specs.Words.{Text, Quote, SingleQuote, DoubleQuote, Kind, OfText, OfBytes, OfFString, is_octal_digit}
 use Rattle.starlark_grammar.specs.Tokens.{Opening, Lexeme, moved}
 use Rattle.starlark_grammar.specs.Items.{Literal, Item, Stop, Closing, Line, Ended, OpeningBrace, ClosingBrace, BadEscape, Found, Goes, Stops, closing_quotes, quote_byte, broken, numbered, is_character, hexadecimal, octal, escaped_newline, simple, simple_escapes, escape, raw_pair, brace, found_at, Body, body_len, body_onward, body_from, body_at, is_brace, is_of_bytes}
-use Rattle.starlark_grammar.specs.Characters.{first_character}
+use Rattle.starlark_grammar.specs.FrontCharacter.{first_character}
 use Rattle.starlark_grammar.specs.Laws.{AtBoundaries}
 use Rattle.starlark_grammar.proofs.Lists.{drop-sum, drop-remainder}
 use Rattle.starlark_grammar.proofs.Literals.Bodies.{FoundFits, found_fits}
@@ -29,9 +29,9 @@ plain_ascii [] h i = omega arith
 plain_ascii (b ∷ bs) h zero = let parts = and_parts (is_ascii b) (is_plain bs) h in ltb-true b 128 parts.0
 plain_ascii (b ∷ bs) h (suc i) = let parts = and_parts (is_ascii b) (is_plain bs) h in plain_ascii bs parts.1 i
 
--- remainder a front of ASCII
-pub behind_plain : (text front rest : Text) → IsUtf8 text → text ≡ front ++ rest → is_plain front ≡ true → IsCharBoundary text (length front)
-behind_plain text front rest utf8 e plain =
+-- after a front of ASCII
+pub after_plain : (text front rest : Text) → IsUtf8 text → text ≡ front ++ rest → is_plain front ≡ true → IsCharBoundary text (length front)
+after_plain text front rest utf8 e plain =
     let taken : take (length front) text ≡ front = ap (take (length front)) e ∙ take-append_seam front rest in
     let len : length text ≡ length front + length rest = ap (λ (t : Text). length t) e ∙ length-append front rest in
     IsCharBoundary-from_take text (length front) utf8 (omega (arith, len)) (subst (λ (t : Text). IsUtf8 t) (sym taken) (IsUtf8-from_ascii front (plain_ascii front plain)))
@@ -46,7 +46,7 @@ before_byte text at b rest e small =
     zero_more : at ≡ at + 0
     zero_more = omega arith
 
--- a boundary of what is left remainder one is a boundary
+-- a boundary of what is left after one is a boundary
 pub boundary_shift : (text : Text) (at n : ℕ) → IsCharBoundary text at → IsCharBoundary (drop at text) n → IsCharBoundary text (at + n)
 boundary_shift text at n here more = IsCharBoundary-from_rest text at n here.0 more
 
@@ -91,7 +91,7 @@ encoded c rest small = go (cases_lt c 128) (cases_lt c 2048) (cases_lt c 65536)
     go (inr h) (inr k) (inl m) = rw (le-ltb c 128 h, le-ltb c 2048 k, lt-ltb c 65536 m) (lead (224 + c / 4096) _ rest (three (224 + c / 4096) (omega arith) (omega (arith, m))))
     go (inr h) (inr k) (inr m) = rw (le-ltb c 128 h, le-ltb c 2048 k, le-ltb c 65536 m) (lead (240 + c / 262144) _ rest (four (240 + c / 262144) (omega arith)))
 
--- remainder the first character
+-- after the first character
 pub character_edge : (text : Text) → IsUtf8 text → IsCharBoundary text (length (first_character text))
 character_edge text utf8 = go utf8.0 utf8.1.0 utf8.1.1
   where
@@ -128,7 +128,7 @@ plain_take (suc n) [] h = refl
 plain_take (suc n) (b ∷ bs) h = let parts = and_parts (is_ascii b) (is_plain bs) h in rw (parts.0) (plain_take n bs parts.1)
 
 pub plain_end : (text : Text) (n : ℕ) → IsUtf8 text → n ≤ length text → is_plain (take n text) ≡ true → IsCharBoundary text n
-plain_end text n utf8 inside h = subst (IsCharBoundary text) (length-take-le n text inside) (behind_plain text (take n text) (drop n text) utf8 (sym (take-append-drop n text)) h)
+plain_end text n utf8 inside h = subst (IsCharBoundary text) (length-take-le n text inside) (after_plain text (take n text) (drop n text) utf8 (sym (take-append-drop n text)) h)
 
 -- a front of a front
 take_less : (n m : ℕ) (text : Text) → n ≤ m → take n (take m text) ≡ take n text
@@ -137,7 +137,7 @@ take_less (suc n) zero text h = absurd (omega (arith, h))
 take_less (suc n) (suc m) [] h = refl
 take_less (suc n) (suc m) (b ∷ bs) h = ap (λ (t : Text). b ∷ t) (take_less n m bs (omega (arith, h)))
 
--- so many bytes of ASCII of an escape, and the character remainder them
+-- so many bytes of ASCII of an escape, and the character after them
 abbrev Good : Text → ℕ → Type 0
 Good tail good = (1 ≤ good) × (good ≤ suc (length tail)) × (is_plain (take good (92 ∷ tail)) ≡ true)
 
@@ -295,11 +295,11 @@ quotes_plain opening = go opening.is_triple opening.quote
     go false SingleQuote = refl
     go false DoubleQuote = refl
 
--- before closing quotes, and remainder them
+-- before closing quotes, and after them
 pub closing_edges : (opening : Opening) (text : Text) (at : ℕ) → IsUtf8 text → drop at text ≡ closing_quotes opening ++ drop (length (closing_quotes opening)) (drop at text) → IsCharBoundary text at × IsCharBoundary text (at + length (closing_quotes opening))
 closing_edges opening text at utf8 e =
     let before : IsCharBoundary text at = first (closing_quotes opening) refl e in
-    (before, boundary_shift text at (length (closing_quotes opening)) before (behind_plain (drop at text) (closing_quotes opening) (drop (length (closing_quotes opening)) (drop at text)) (IsUtf8-drop text at utf8 before) e (quotes_plain opening)))
+    (before, boundary_shift text at (length (closing_quotes opening)) before (after_plain (drop at text) (closing_quotes opening) (drop (length (closing_quotes opening)) (drop at text)) (IsUtf8-drop text at utf8 before) e (quotes_plain opening)))
   where
     small : quote_byte opening.quote < 128
     small = go opening.quote

@@ -20,7 +20,7 @@ gap_join text a b c front back i least less = go (cases_lt i b)
     go (inl before) = front i least before
     go (inr remainder) = back i remainder less
 
--- a gap of what is left remainder a place is one of the text
+-- a gap of what is left after a place is one of the text
 pub gap_shift : (n : ℕ) (text : Text) (a b from to : ℕ) → from ≡ n + a → to ≡ n + b → IsGap (drop n text) a b → IsGap text from to
 gap_shift n text a b from to e f gap i least less =
     let j : ℕ = i - n in

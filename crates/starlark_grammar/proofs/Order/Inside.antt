@@ -5,9 +5,9 @@ use Rattle.starlark_grammar.specs.Words.{Text, language}
 use Rattle.starlark_grammar.specs.Tokens.{Fault, Lexeme, Spanned}
 use Rattle.starlark_grammar.specs.Gaps.{InOrder}
 use Rattle.starlark_grammar.specs.Reading.{outcome}
-use Rattle.starlark_grammar.proofs.Order.Lexemes.{outcome_order}
+use Rattle.starlark_grammar.proofs.Order.OrderedLexemes.{outcome_order}
 use Rattle.starlark_grammar.proofs.Reading.Faults.{outcome_fault}
-use Rattle.starlark_grammar.proofs.Indentation.Totals.{outcome_balances}
+use Rattle.starlark_grammar.proofs.Indentation.LayoutTotals.{outcome_balances}
 
 -- lexemes lie inside, up to a place
 order_reach : (text : Text) (from : ℕ) (lexemes : List Lexeme) (to : ℕ) → InOrder text from lexemes to → from ≤ to

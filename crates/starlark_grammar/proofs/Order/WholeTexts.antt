@@ -22,7 +22,7 @@ use Rattle.starlark_grammar.specs.Tokens.{Token, Comment, Identifier, Int, Float
 use Rattle.starlark_grammar.specs.Items.{Literal, Stop, Closing, Line, Ended, OpeningBrace, ClosingBrace, BadEscape, Body, body_at, body_len, body_value, closing_quotes, quote_byte}
 use Rattle.starlark_grammar.specs.Depths.{Mode, Outside, InText, AtTop, Deeper}
 use Rattle.starlark_grammar.specs.Margins.{Margin, margin_of, margin_len, is_content, has_tab, width_of, fits, indentation, open_widths}
-use Rattle.starlark_grammar.specs.Pieces.{Before, Nothing, Layout, Gap, Other, Piece, Step, Stands, Fails, Ends, Situation, token, margin_step, line_end, opening_of, more_quotes, escape_fault, literal_token, literal_by, opener, chunk_text, chunk_piece, chunk_by, chunk, terminal_token, counts, starts_zero, word_step, front_step, takes_bang, is_bang, in_code, by_place, by_before, step_at}
+use Rattle.starlark_grammar.specs.Pieces.{Before, Nothing, Layout, Gap, Other, Piece, Step, Stands, Fails, Ends, Situation, token, margin_step, line_end, opening_of, more_quotes, escape_fault, literal_token, literal_by, opener, chunk_text, chunk_piece, chunk_by, chunk, terminal_token, counts, starts_zero, word_step, front_step, takes_bang, is_bang, in_code, by_mode, by_before, step_at}
 use Rattle.starlark_grammar.specs.Reading.{History, nothing, after, after_all, situation, next_step, pieces_len, lexemes_along, closing, outcome_of, outcome_in, outcome, read}
 use Rattle.starlark_grammar.proofs.Words.Fronts.{front_sound, longest_front_is}
 use Rattle.starlark_grammar.proofs.Lists.{drop-sum}
@@ -30,7 +30,7 @@ use Rattle.starlark_grammar.proofs.Reading.Steps.{Each}
 use Rattle.starlark_grammar.proofs.Reading.Readings.{read_is}
 use Rattle.starlark_grammar.proofs.Words.Tables.{class_in-language}
 use Rattle.starlark_grammar.proofs.Words.Bytes.{is_plain, word_fits, language_fits}
-use Rattle.starlark_grammar.proofs.Order.Edges.{behind_plain, before_byte, boundary_shift, edges_append, edges_shift, starts_split, StopAt, stop_at, closing_edges, character_edge}
+use Rattle.starlark_grammar.proofs.Order.Edges.{after_plain, before_byte, boundary_shift, edges_append, edges_shift, starts_split, StopAt, stop_at, closing_edges, character_edge}
 use Rattle.starlark_grammar.proofs.Order.Boundaries.{Edges, MarginEdges, margin_edges, indentation_edges}
 use Rattle.starlark_grammar.proofs.Choices.{either, when}
 
@@ -77,12 +77,12 @@ text_end text len remainder here e =
     let same : length text ≡ len + length remainder = omega (arith, left, inside, length-drop len text) in
     subst (IsCharBoundary text) same (IsCharBoundary-end text)
 
-literal_by_bounded : (text : Text) (place : Mode) (kind : Kind) (opening : Opening) (len : ℕ) (remainder : Text) (body : Body) (stop : Stop) → IsUtf8 text → IsCharBoundary text len → drop len text ≡ remainder → StopAt opening (drop (body_len body) remainder) stop → StepBounded text (literal_by place kind opening len remainder body stop)
-literal_by_bounded text place kind opening len remainder body Closing utf8 here e stop =
+literal_by_bounded : (text : Text) (mode : Mode) (kind : Kind) (opening : Opening) (len : ℕ) (remainder : Text) (body : Body) (stop : Stop) → IsUtf8 text → IsCharBoundary text len → drop len text ≡ remainder → StopAt opening (drop (body_len body) remainder) stop → StepBounded text (literal_by mode kind opening len remainder body stop)
+literal_by_bounded text mode kind opening len remainder body Closing utf8 here e stop =
     let left : drop (len + body_len body) text ≡ drop (body_len body) remainder = drop-sum len (body_len body) text ∙ ap (drop (body_len body)) e in
     let edges = closing_edges opening text (len + body_len body) utf8 (subst (λ (t : Text). t ≡ closing_quotes opening ++ drop (length (closing_quotes opening)) t) (sym left) stop) in
     token_bounded text (len + body_len body + length (closing_quotes opening)) (literal_token kind (body_value body)) utf8 edges.1
-literal_by_bounded text place kind opening len remainder body (BadEscape read last) utf8 here e stop = go (drop 1 (take read rest)) count
+literal_by_bounded text mode kind opening len remainder body (BadEscape read last) utf8 here e stop = go (drop 1 (take read rest)) count
   where
     at : ℕ
     at = len + body_len body
@@ -103,7 +103,7 @@ literal_by_bounded text place kind opening len remainder body (BadEscape read la
     end = boundary_shift text at read begin (subst (λ (t : Text). IsCharBoundary t read) (sym left) (stop.2 utf8_rest).0)
 
     one : IsCharBoundary text (1 + at)
-    one = let same : at + 1 ≡ 1 + at = omega arith in subst (IsCharBoundary text) same (boundary_shift text at 1 begin (behind_plain (drop at text) (byte "\\" ∷ []) stop.0 (IsUtf8-drop text at utf8 begin) (left ∙ stop.1) refl))
+    one = let same : at + 1 ≡ 1 + at = omega arith in subst (IsCharBoundary text) same (boundary_shift text at 1 begin (after_plain (drop at text) (byte "\\" ∷ []) stop.0 (IsUtf8-drop text at utf8 begin) (left ∙ stop.1) refl))
 
     count : length (drop 1 (take read rest)) ≡ read - 1
     count =
@@ -113,11 +113,11 @@ literal_by_bounded text place kind opening len remainder body (BadEscape read la
     go : (t : Text) → length t ≡ read - 1 → StepBounded text (escape_fault at t)
     go [] k = (begin, one)
     go (b ∷ bs) k = let same : at + read ≡ at + length (byte "\\" ∷ b ∷ bs) = omega (arith, k) in (begin, subst (IsCharBoundary text) same end)
-literal_by_bounded text place kind opening len remainder body Line utf8 here e stop =
+literal_by_bounded text mode kind opening len remainder body Line utf8 here e stop =
     (IsCharBoundary-start text utf8, before_byte text (len + body_len body) (byte "\n") stop.0 (drop-sum len (body_len body) text ∙ ap (drop (body_len body)) e ∙ stop.1) (omega arith))
-literal_by_bounded text place kind opening len remainder body Ended utf8 here e stop = (IsCharBoundary-start text utf8, text_end text len remainder here e)
-literal_by_bounded text place kind opening len remainder body OpeningBrace utf8 here e stop = (IsCharBoundary-start text utf8, text_end text len remainder here e)
-literal_by_bounded text place kind opening len remainder body ClosingBrace utf8 here e stop = (IsCharBoundary-start text utf8, text_end text len remainder here e)
+literal_by_bounded text mode kind opening len remainder body Ended utf8 here e stop = (IsCharBoundary-start text utf8, text_end text len remainder here e)
+literal_by_bounded text mode kind opening len remainder body OpeningBrace utf8 here e stop = (IsCharBoundary-start text utf8, text_end text len remainder here e)
+literal_by_bounded text mode kind opening len remainder body ClosingBrace utf8 here e stop = (IsCharBoundary-start text utf8, text_end text len remainder here e)
 
 -- the end of an opening
 opening_edge : (text : Text) (len : ℕ) (is_raw : Bool) (quote : Quote) → IsUtf8 text → IsCharBoundary text len → IsCharBoundary text (len + more_quotes (opening_of is_raw quote (drop len text)))
@@ -132,20 +132,20 @@ opening_edge text len is_raw quote utf8 here = go (starts_with nat_eq (drop len 
 
     go : (starts : Bool) → (starts ≡ true → drop len text ≡ (quote_byte quote ∷ quote_byte quote ∷ []) ++ drop 2 (drop len text)) → IsCharBoundary text (len + (if starts then 2 else 0))
     go false h = subst (IsCharBoundary text) same here
-    go true h = boundary_shift text len 2 here (behind_plain (drop len text) (quote_byte quote ∷ quote_byte quote ∷ []) (drop 2 (drop len text)) (IsUtf8-drop text len utf8 here) (h refl) (plain quote))
+    go true h = boundary_shift text len 2 here (after_plain (drop len text) (quote_byte quote ∷ quote_byte quote ∷ []) (drop 2 (drop len text)) (IsUtf8-drop text len utf8 here) (h refl) (plain quote))
 
-opener_bounded : (text : Text) (place : Mode) (kind : Kind) (is_raw : Bool) (quote : Quote) (len : ℕ) → IsUtf8 text → IsCharBoundary text len → StepBounded text (opener place kind (opening_of is_raw quote (drop len text)) len (drop len text))
-opener_bounded text place OfFString is_raw quote len utf8 here = token_bounded text (len + more_quotes (opening_of is_raw quote (drop len text))) (FStringStart (opening_of is_raw quote (drop len text))) utf8 (opening_edge text len is_raw quote utf8 here)
-opener_bounded text place OfText is_raw quote len utf8 here =
+opener_bounded : (text : Text) (mode : Mode) (kind : Kind) (is_raw : Bool) (quote : Quote) (len : ℕ) → IsUtf8 text → IsCharBoundary text len → StepBounded text (opener mode kind (opening_of is_raw quote (drop len text)) len (drop len text))
+opener_bounded text mode OfFString is_raw quote len utf8 here = token_bounded text (len + more_quotes (opening_of is_raw quote (drop len text))) (FStringStart (opening_of is_raw quote (drop len text))) utf8 (opening_edge text len is_raw quote utf8 here)
+opener_bounded text mode OfText is_raw quote len utf8 here =
     let opening : Opening = opening_of is_raw quote (drop len text) in
     let literal : Literal = record { kind = OfText; opening = opening } in
     let remainder : Text = drop (more_quotes opening) (drop len text) in
-    literal_by_bounded text place OfText opening (len + more_quotes opening) remainder (body_at literal remainder) _ utf8 (opening_edge text len is_raw quote utf8 here) (drop-sum len (more_quotes opening) text) (stop_at literal remainder)
-opener_bounded text place OfBytes is_raw quote len utf8 here =
+    literal_by_bounded text mode OfText opening (len + more_quotes opening) remainder (body_at literal remainder) _ utf8 (opening_edge text len is_raw quote utf8 here) (drop-sum len (more_quotes opening) text) (stop_at literal remainder)
+opener_bounded text mode OfBytes is_raw quote len utf8 here =
     let opening : Opening = opening_of is_raw quote (drop len text) in
     let literal : Literal = record { kind = OfBytes; opening = opening } in
     let remainder : Text = drop (more_quotes opening) (drop len text) in
-    literal_by_bounded text place OfBytes opening (len + more_quotes opening) remainder (body_at literal remainder) _ utf8 (opening_edge text len is_raw quote utf8 here) (drop-sum len (more_quotes opening) text) (stop_at literal remainder)
+    literal_by_bounded text mode OfBytes opening (len + more_quotes opening) remainder (body_at literal remainder) _ utf8 (opening_edge text len is_raw quote utf8 here) (drop-sum len (more_quotes opening) text) (stop_at literal remainder)
 
 -- Texts of f-strings
 
@@ -159,17 +159,17 @@ chunk_piece_bounded text body node len utf8 middle end = (edges_append text (chu
     first [] = tt
     first (b ∷ bs) = ((IsCharBoundary-start text utf8, middle), tt)
 
--- before a byte of ASCII, and remainder it
+-- before a byte of ASCII, and after it
 byte_edges : (text : Text) (at b : ℕ) (rest : Text) → IsUtf8 text → drop at text ≡ b ∷ rest → b < 128 → is_plain (b ∷ []) ≡ true → IsCharBoundary text at × IsCharBoundary text (at + 1)
 byte_edges text at b rest utf8 e small plain =
     let before : IsCharBoundary text at = before_byte text at b rest e small in
-    (before, boundary_shift text at 1 before (behind_plain (drop at text) (b ∷ []) rest (IsUtf8-drop text at utf8 before) e plain))
+    (before, boundary_shift text at 1 before (after_plain (drop at text) (b ∷ []) rest (IsUtf8-drop text at utf8 before) e plain))
 
 chunk_by_bounded : (opening : Opening) (text : Text) (body : Body) (stop : Stop) → IsUtf8 text → StopAt opening (drop (body_len body) text) stop → StepBounded text (chunk_by opening text body stop)
 chunk_by_bounded opening text body OpeningBrace utf8 stop =
     let middle : IsCharBoundary text (body_len body) = before_byte text (body_len body) (byte "{") stop.0 stop.1 (omega arith) in
     chunk_piece_bounded text body FStringExprStart 1 utf8 middle
-    (boundary_shift text (body_len body) 1 middle (behind_plain (drop (body_len body) text) (byte "{" ∷ []) stop.0 (IsUtf8-drop text (body_len body) utf8 middle) stop.1 refl))
+    (boundary_shift text (body_len body) 1 middle (after_plain (drop (body_len body) text) (byte "{" ∷ []) stop.0 (IsUtf8-drop text (body_len body) utf8 middle) stop.1 refl))
 chunk_by_bounded opening text body Closing utf8 stop =
     let edges = closing_edges opening text (body_len body) utf8 stop in
     chunk_piece_bounded text body FStringEnd (length (closing_quotes opening)) utf8 edges.0 edges.1
@@ -192,11 +192,11 @@ word_step_bounded text s word.Skipped front remainder utf8 end e = (tt, end)
 word_step_bounded text s word.Comment front remainder utf8 end e = token_bounded text (length front) (Comment (drop 1 front)) utf8 end
 word_step_bounded text s word.Tabs front remainder utf8 end e = (IsCharBoundary-start text utf8, IsCharBoundary-start text utf8)
 word_step_bounded text s word.LineEnd front remainder utf8 end e =
-    either (StepBounded text) (counts s.place s.is_balanced) _ _
+    either (StepBounded text) (counts s.mode s.is_balanced) _ _
     (subst (λ (t : Text). StepBounded text (line_end (length front) s.levels t)) e (margin_step_bounded text (length front) (record { begin = 0; node = Newline; end = length front } ∷ []) s.levels utf8 end ((IsCharBoundary-start text utf8, end), tt)))
     (tt, end)
 word_step_bounded text s (word.Opener kind is_raw quote) front remainder utf8 end e =
-    subst (λ (t : Text). StepBounded text (opener s.place kind (opening_of is_raw quote t) (length front) t)) e (opener_bounded text s.place kind is_raw quote (length front) utf8 end)
+    subst (λ (t : Text). StepBounded text (opener s.mode kind (opening_of is_raw quote t) (length front) t)) e (opener_bounded text s.mode kind is_raw quote (length front) utf8 end)
 word_step_bounded text s word.Reserved front remainder utf8 end e = (IsCharBoundary-start text utf8, end)
 word_step_bounded text s word.Identifier front remainder utf8 end e = token_bounded text (length front) (Identifier front) utf8 end
 word_step_bounded text s word.Decimal front remainder utf8 end e = either (StepBounded text) (starts_zero front) _ _ (IsCharBoundary-start text utf8, end) (token_bounded text (length front) (Int (integer_of 10 front)) utf8 end)
@@ -204,18 +204,18 @@ word_step_bounded text s word.Hexadecimal front remainder utf8 end e = token_bou
 word_step_bounded text s word.Octal front remainder utf8 end e = token_bounded text (length front) (Int (integer_of 8 (drop 2 front))) utf8 end
 word_step_bounded text s word.Binary front remainder utf8 end e = token_bounded text (length front) (Int (integer_of 2 (drop 2 front))) utf8 end
 word_step_bounded text s word.Float front remainder utf8 end e = token_bounded text (length front) (Float front) utf8 end
-word_step_bounded text s (word.Fixed terminal) front remainder utf8 end e = token_bounded text (length front) (terminal_token s.place terminal) utf8 end
+word_step_bounded text s (word.Fixed terminal) front remainder utf8 end e = token_bounded text (length front) (terminal_token s.mode terminal) utf8 end
 
-none_behind : (found rest : Option Class) → option_or found rest ≡ None → rest ≡ None
-none_behind None rest e = e
-none_behind (Some class) rest e = cc
+none_after : (found rest : Option Class) → option_or found rest ≡ None → rest ≡ None
+none_after None rest e = e
+none_after (Some class) rest e = cc
 
 -- a comment is a word
 comment_known : (text : Text) → is_comment text ≡ true → class_in language text ≡ None → ⊥
 unfolding class_in patterns
 comment_known text h e =
     let none : class_in patterns text ≡ None =
-    none_behind (lookup (bytes_eq text) names) _ (none_behind (lookup (bytes_eq text) symbols) _ (none_behind (lookup (bytes_eq text) line_ends) _ (none_behind (lookup (bytes_eq text) openers) _ (sym (class_in-language text) ∙ e)))) in
+    none_after (lookup (bytes_eq text) names) _ (none_after (lookup (bytes_eq text) symbols) _ (none_after (lookup (bytes_eq text) line_ends) _ (none_after (lookup (bytes_eq text) openers) _ (sym (class_in-language text) ∙ e)))) in
     go _ (Rattle.starlark_grammar.specs.Words.is_run (nat_eq 32) text) (is_comment text) h none
   where
     go : (rest : Option Class) (spaces comment : Bool) → comment ≡ true → cond spaces (Some word.Skipped) (cond comment (Some word.Comment) rest) ≡ None → ⊥
@@ -258,7 +258,7 @@ word_edge text class n utf8 e = go class e (language_fits (take n text) class (f
     inside = (front_sound (class_in language) text class n e).1
 
     plain : is_plain (take n text) ≡ true → IsCharBoundary text n
-    plain h = subst (IsCharBoundary text) (length-take-le n text inside) (behind_plain text (take n text) (drop n text) utf8 (sym (take-append-drop n text)) h)
+    plain h = subst (IsCharBoundary text) (length-take-le n text inside) (after_plain text (take n text) (drop n text) utf8 (sym (take-append-drop n text)) h)
 
     go : (class : Class) → longest_front (class_in language) text ≡ Some (class, n) → word_fits class (take n text) ≡ true → IsCharBoundary text n
     go word.Comment e h = comment_edge text n utf8 (longest_front_is (class_in language) text word.Comment n e) h
@@ -290,11 +290,11 @@ bang_plain b (c ∷ cs) h = let same : b ≡ byte "!" = eqb-true b (byte "!") (a
 in_code_bounded : (s : Situation) (text : Text) → IsUtf8 text → StepBounded text (in_code language s text)
 in_code_bounded s [] utf8 = tt
 in_code_bounded s (b ∷ bs) utf8 =
-    when (StepBounded (b ∷ bs)) (takes_bang s.place s.before && is_bang (b ∷ bs)) _ _
-    (λ h. let small = bang_plain b bs (and_parts (takes_bang s.place s.before) (is_bang (b ∷ bs)) h).1 in token_bounded (b ∷ bs) 1 FStringBang utf8 (behind_plain (b ∷ bs) (b ∷ []) bs utf8 refl (rw (Rattle.std.proofs.lemmas.Bool.lt-ltb b 128 small) refl)))
+    when (StepBounded (b ∷ bs)) (takes_bang s.mode s.before && is_bang (b ∷ bs)) _ _
+    (λ h. let small = bang_plain b bs (and_parts (takes_bang s.mode s.before) (is_bang (b ∷ bs)) h).1 in token_bounded (b ∷ bs) 1 FStringBang utf8 (after_plain (b ∷ bs) (b ∷ []) bs utf8 refl (rw (Rattle.std.proofs.lemmas.Bool.lt-ltb b 128 small) refl)))
     (front_step_bounded s (b ∷ bs) _ utf8 refl)
 
-by_place_bounded : (s : Situation) (place : Mode) (text : Text) → IsUtf8 text → StepBounded text (by_place language s place text)
+by_place_bounded : (s : Situation) (mode : Mode) (text : Text) → IsUtf8 text → StepBounded text (by_mode language s mode text)
 by_place_bounded s Outside text utf8 = in_code_bounded s text utf8
 by_place_bounded s (InText opening) text utf8 = chunk_bounded opening text utf8
 by_place_bounded s AtTop text utf8 = in_code_bounded s text utf8
@@ -302,9 +302,9 @@ by_place_bounded s Deeper text utf8 = in_code_bounded s text utf8
 
 by_before_bounded : (s : Situation) (before : Before) (text : Text) → IsUtf8 text → StepBounded text (by_before language s before text)
 by_before_bounded s Nothing text utf8 = margin_step_bounded text 0 [] [] utf8 (IsCharBoundary-start text utf8) tt
-by_before_bounded s Layout text utf8 = by_place_bounded s s.place text utf8
-by_before_bounded s Gap text utf8 = by_place_bounded s s.place text utf8
-by_before_bounded s Other text utf8 = by_place_bounded s s.place text utf8
+by_before_bounded s Layout text utf8 = by_place_bounded s s.mode text utf8
+by_before_bounded s Gap text utf8 = by_place_bounded s s.mode text utf8
+by_before_bounded s Other text utf8 = by_place_bounded s s.mode text utf8
 
 pub piece_bounded : (history : History) (text : Text) (piece : Piece) → IsUtf8 text → next_step language history text ≡ Stands piece → Bounded text piece
 unfolding next_step situation step_at

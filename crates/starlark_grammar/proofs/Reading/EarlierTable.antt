@@ -2,7 +2,7 @@
 use Rattle.std.proofs.Common.{◌≡◌, ℕ, zero, suc, Bool, true, false, [], ◌∷◌, ◌-◌, take, refl, ap, ◌||◌}
 use Rattle.starlark_grammar.specs.Words.{Text, language}
 use Rattle.starlark_grammar.specs.Depths.{Mode, Outside, InText, AtTop, Deeper}
-use Rattle.starlark_grammar.specs.Pieces.{Before, Nothing, Layout, Gap, Other, Piece, Step, Stands, Fails, Ends, Situation, in_code, by_place, by_before, step_at}
+use Rattle.starlark_grammar.specs.Pieces.{Before, Nothing, Layout, Gap, Other, Piece, Step, Stands, Fails, Ends, Situation, in_code, by_mode, by_before, step_at}
 use Rattle.starlark_grammar.specs.Reading.{History, nothing, after, situation, next_step, Reading, read_onward, read_from, read, outcome_of, outcome_in, outcome}
 use Rattle.starlark_grammar.specs.Front.{language_front}
 use Rattle.starlark_grammar.specs.EarlierLanguage.{earlier_front, is_rf_opener, earlier_language, holds_rf_opener}
@@ -12,7 +12,7 @@ or_false : (a b : Bool) → (a || b) ≡ false → (a ≡ false) × (b ≡ false
 or_false false b h = (refl, h)
 or_false true b h = cc
 
--- at the front, and remainder the first byte
+-- at the front, and after the first byte
 held_parts : (b : ℕ) (bs : Text) → holds_rf_opener (b ∷ bs) ≡ false → (is_rf_opener (take 3 (b ∷ bs)) ≡ false) × (holds_rf_opener bs ≡ false)
 unfolding holds_rf_opener
 held_parts b bs h = or_false (is_rf_opener (take 3 (b ∷ bs))) (holds_rf_opener bs) h
@@ -22,7 +22,7 @@ unfolding language_front earlier_front
 code_agrees s [] h = refl
 code_agrees s (b ∷ bs) h = rw (front_agrees (b ∷ bs) (held_parts b bs h).0) refl
 
-place_agrees : (s : Situation) (place : Mode) (text : Text) → holds_rf_opener text ≡ false → by_place language s place text ≡ by_place earlier_language s place text
+place_agrees : (s : Situation) (mode : Mode) (text : Text) → holds_rf_opener text ≡ false → by_mode language s mode text ≡ by_mode earlier_language s mode text
 place_agrees s Outside text h = code_agrees s text h
 place_agrees s (InText opening) text h = refl
 place_agrees s AtTop text h = code_agrees s text h
@@ -30,9 +30,9 @@ place_agrees s Deeper text h = code_agrees s text h
 
 before_agrees : (s : Situation) (before : Before) (text : Text) → holds_rf_opener text ≡ false → by_before language s before text ≡ by_before earlier_language s before text
 before_agrees s Nothing text h = refl
-before_agrees s Layout text h = place_agrees s s.place text h
-before_agrees s Gap text h = place_agrees s s.place text h
-before_agrees s Other text h = place_agrees s s.place text h
+before_agrees s Layout text h = place_agrees s s.mode text h
+before_agrees s Gap text h = place_agrees s s.mode text h
+before_agrees s Other text h = place_agrees s s.mode text h
 
 step_agrees : (history : History) (text : Text) → holds_rf_opener text ≡ false → next_step language history text ≡ next_step earlier_language history text
 unfolding next_step step_at

@@ -6,7 +6,7 @@ use Rattle.starlark_grammar.specs.Words.{Text, Table}
 use Rattle.starlark_grammar.specs.Tokens.{Fault, Spanned, Outcome}
 use Rattle.starlark_grammar.specs.Depths.{Mode, Outside, InText, AtTop, Deeper}
 use Rattle.starlark_grammar.specs.Items.{body_from, body_at}
-use Rattle.starlark_grammar.specs.Pieces.{Before, Nothing, Layout, Gap, Other, Piece, Step, Stands, Fails, Ends, Situation, chunk, by_place, by_before, step_at}
+use Rattle.starlark_grammar.specs.Pieces.{Before, Nothing, Layout, Gap, Other, Piece, Step, Stands, Fails, Ends, Situation, chunk, by_mode, by_before, step_at}
 use Rattle.starlark_grammar.specs.Reading.{History, nothing, after, after_all, situation, next_step, pieces_len, read_onward, read_from, read, outcome_of, outcome_in}
 use Rattle.starlark_grammar.specs.Longest.{IsReading, IsLongestReading, IsOutcome}
 use Rattle.starlark_grammar.specs.Laws.{Begins}
@@ -64,19 +64,19 @@ none_at_end : (table : Table) (s : Situation) (piece : Piece) → is_nothing s.b
 unfolding step_at chunk body_at body_from
 none_at_end table s piece h e = by_before' s.before h e
   where
-    by_place' : (place : Mode) → by_place table s place [] ≡ Stands piece → ⊥
-    by_place' Outside e = cc
-    by_place' (InText opening) e = cc
-    by_place' AtTop e = cc
-    by_place' Deeper e = cc
+    by_mode' : (mode : Mode) → by_mode table s mode [] ≡ Stands piece → ⊥
+    by_mode' Outside e = cc
+    by_mode' (InText opening) e = cc
+    by_mode' AtTop e = cc
+    by_mode' Deeper e = cc
 
     by_before' : (before : Before) → is_nothing before ≡ false → by_before table s before [] ≡ Stands piece → ⊥
     by_before' Nothing h e = cc
-    by_before' Layout h e = by_place' s.place e
-    by_before' Gap h e = by_place' s.place e
-    by_before' Other h e = by_place' s.place e
+    by_before' Layout h e = by_mode' s.mode e
+    by_before' Gap h e = by_mode' s.mode e
+    by_before' Other h e = by_mode' s.mode e
 
--- the history remainder a piece isn't that of a text's start
+-- the history after a piece isn't that of a text's start
 pub started : (history : History) (piece : Piece) → is_nothing piece.sort ≡ false → is_nothing (after history piece).before ≡ false
 unfolding after
 started history piece h = h
@@ -102,7 +102,7 @@ pub none_next : (table : Table) (history : History) (piece : Piece) → is_nothi
 unfolding next_step situation
 none_next table history piece h e = none_at_end table (situation history) piece h e
 
--- what stands remainder no piece
+-- what stands after no piece
 pub stops_here : (table : Table) (history : History) (text : Text) (last : Step) → next_step table history text ≡ last → ((piece : Piece) → last ≡ Stands piece → ⊥) → IsLongestReading table history text [] last
 stops_here table history text last e none = record { reads = tt; stands_last = e; no_piece = none }
 

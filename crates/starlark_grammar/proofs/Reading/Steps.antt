@@ -11,7 +11,7 @@ use Rattle.starlark_grammar.specs.Tokens.{Token, Opening, Fault, Spanned, Lexeme
 use Rattle.starlark_grammar.specs.Items.{Stop, Closing, Line, Ended, OpeningBrace, ClosingBrace, BadEscape, Body, body_at, body_len, closing_quotes, quote_byte}
 use Rattle.starlark_grammar.specs.Depths.{Mode, Outside, InText, AtTop, Deeper}
 use Rattle.starlark_grammar.specs.Margins.{lines, is_lf, is_comment_only, comment_lines, blanks_len, margin_from, Margin, margin_of, margin_len, is_content, has_tab, width_of, fits}
-use Rattle.starlark_grammar.specs.Pieces.{Before, Nothing, Layout, Gap, Other, Piece, Step, Stands, Fails, Ends, Situation, piece, token, fault, margin_step, opening_of, more_quotes, escape_fault, literal_by, literal, opener, chunk_by, chunk, counts, starts_zero, word_step, front_step, takes_bang, is_bang, in_code, by_place, by_before, step_at}
+use Rattle.starlark_grammar.specs.Pieces.{Before, Nothing, Layout, Gap, Other, Piece, Step, Stands, Fails, Ends, Situation, piece, token, fault, margin_step, opening_of, more_quotes, escape_fault, literal_by, literal, opener, chunk_by, chunk, counts, starts_zero, word_step, front_step, takes_bang, is_bang, in_code, by_mode, by_before, step_at}
 use Rattle.starlark_grammar.proofs.Lists.{take_fits}
 use Rattle.starlark_grammar.proofs.Words.Fronts.{front_sound}
 use Rattle.starlark_grammar.proofs.Literals.Bodies.{StopFits, body_fits, starts_fits, character_fits}
@@ -101,30 +101,30 @@ escape_fault_fits : (begin : ℕ) (read text : Text) → begin + 1 + length read
 escape_fault_fits begin [] text inside = record { order = omega arith; inside = omega arith }
 escape_fault_fits begin (b ∷ bs) text inside = record { order = omega arith; inside = omega arith }
 
-literal_by_fits : (place : Mode) (kind : Kind) (opening : Opening) (len : ℕ) (remainder text : Text) (body : Body) (stop : Stop) → 1 ≤ len → len + length remainder ≤ length text → body_len body ≤ length remainder → StopFits opening (drop (body_len body) remainder) stop → StepFits 1 text (literal_by place kind opening len remainder body stop)
-literal_by_fits place kind opening len remainder text body Closing some inside fits stop =
+literal_by_fits : (mode : Mode) (kind : Kind) (opening : Opening) (len : ℕ) (remainder text : Text) (body : Body) (stop : Stop) → 1 ≤ len → len + length remainder ≤ length text → body_len body ≤ length remainder → StopFits opening (drop (body_len body) remainder) stop → StepFits 1 text (literal_by mode kind opening len remainder body stop)
+literal_by_fits mode kind opening len remainder text body Closing some inside fits stop =
     record { some = omega arith; inside = omega (arith, length-drop (body_len body) remainder); sort = refl }
-literal_by_fits place kind opening len remainder text body (BadEscape read last) some inside fits stop =
+literal_by_fits mode kind opening len remainder text body (BadEscape read last) some inside fits stop =
     let least = stop.0 in
     let less = stop.1 in
     let within = stop.2 in
     let taken = take_fits read (drop (body_len body) remainder) in
     escape_fault_fits (len + body_len body) (drop 1 (take read (drop (body_len body) remainder))) text
     (omega (arith, length-drop (body_len body) remainder, length-drop 1 (take read (drop (body_len body) remainder)), taken.0, taken.1))
-literal_by_fits place kind opening len remainder text body Line some inside fits stop = record { order = omega arith; inside = omega arith }
-literal_by_fits place kind opening len remainder text body Ended some inside fits stop = record { order = omega arith; inside = inside }
-literal_by_fits place kind opening len remainder text body OpeningBrace some inside fits stop = record { order = omega arith; inside = inside }
-literal_by_fits place kind opening len remainder text body ClosingBrace some inside fits stop = record { order = omega arith; inside = inside }
+literal_by_fits mode kind opening len remainder text body Line some inside fits stop = record { order = omega arith; inside = omega arith }
+literal_by_fits mode kind opening len remainder text body Ended some inside fits stop = record { order = omega arith; inside = inside }
+literal_by_fits mode kind opening len remainder text body OpeningBrace some inside fits stop = record { order = omega arith; inside = inside }
+literal_by_fits mode kind opening len remainder text body ClosingBrace some inside fits stop = record { order = omega arith; inside = inside }
 
-literal_fits : (place : Mode) (kind : Kind) (opening : Opening) (len : ℕ) (remainder text : Text) → 1 ≤ len → len + length remainder ≤ length text → StepFits 1 text (literal place kind opening len remainder)
-literal_fits place kind opening len remainder text some inside =
+literal_fits : (mode : Mode) (kind : Kind) (opening : Opening) (len : ℕ) (remainder text : Text) → 1 ≤ len → len + length remainder ≤ length text → StepFits 1 text (literal mode kind opening len remainder)
+literal_fits mode kind opening len remainder text some inside =
     let fits = body_fits (record { kind = kind; opening = opening }) remainder in
-    literal_by_fits place kind opening len remainder text (body_at (record { kind = kind; opening = opening }) remainder) _ some inside fits.0 fits.1
+    literal_by_fits mode kind opening len remainder text (body_at (record { kind = kind; opening = opening }) remainder) _ some inside fits.0 fits.1
 
-opener_fits : (place : Mode) (kind : Kind) (opening : Opening) (len : ℕ) (remainder text : Text) → 1 ≤ len → len + length remainder ≤ length text → more_quotes opening ≤ length remainder → StepFits 1 text (opener place kind opening len remainder)
-opener_fits place OfFString opening len remainder text some inside quotes = token_fits (len + more_quotes opening) (FStringStart opening) text (omega arith) (omega arith)
-opener_fits place OfText opening len remainder text some inside quotes = literal_fits place OfText opening (len + more_quotes opening) (drop (more_quotes opening) remainder) text (omega arith) (omega (arith, length-drop (more_quotes opening) remainder))
-opener_fits place OfBytes opening len remainder text some inside quotes = literal_fits place OfBytes opening (len + more_quotes opening) (drop (more_quotes opening) remainder) text (omega arith) (omega (arith, length-drop (more_quotes opening) remainder))
+opener_fits : (mode : Mode) (kind : Kind) (opening : Opening) (len : ℕ) (remainder text : Text) → 1 ≤ len → len + length remainder ≤ length text → more_quotes opening ≤ length remainder → StepFits 1 text (opener mode kind opening len remainder)
+opener_fits mode OfFString opening len remainder text some inside quotes = token_fits (len + more_quotes opening) (FStringStart opening) text (omega arith) (omega arith)
+opener_fits mode OfText opening len remainder text some inside quotes = literal_fits mode OfText opening (len + more_quotes opening) (drop (more_quotes opening) remainder) text (omega arith) (omega (arith, length-drop (more_quotes opening) remainder))
+opener_fits mode OfBytes opening len remainder text some inside quotes = literal_fits mode OfBytes opening (len + more_quotes opening) (drop (more_quotes opening) remainder) text (omega arith) (omega (arith, length-drop (more_quotes opening) remainder))
 
 -- Texts of f-strings
 
@@ -162,8 +162,8 @@ word_step_fits s word.Comment front remainder text some inside = token_fits (len
 word_step_fits s word.Tabs front remainder text some inside = record { order = omega arith; inside = omega arith }
 word_step_fits s word.LineEnd front remainder text some inside =
     let margin = margin_fits remainder in
-    either (StepFits 1 text) (counts s.place s.is_balanced) _ _ (margin_step_fits 1 (length front) _ s.levels (margin_of remainder) text some (omega arith)) (record { some = some; inside = omega arith; sort = refl })
-word_step_fits s (word.Opener kind is_raw quote) front remainder text some inside = opener_fits s.place kind (opening_of is_raw quote remainder) (length front) remainder text some inside (quotes_fit is_raw quote remainder)
+    either (StepFits 1 text) (counts s.mode s.is_balanced) _ _ (margin_step_fits 1 (length front) _ s.levels (margin_of remainder) text some (omega arith)) (record { some = some; inside = omega arith; sort = refl })
+word_step_fits s (word.Opener kind is_raw quote) front remainder text some inside = opener_fits s.mode kind (opening_of is_raw quote remainder) (length front) remainder text some inside (quotes_fit is_raw quote remainder)
 word_step_fits s word.Reserved front remainder text some inside = record { order = omega arith; inside = omega arith }
 word_step_fits s word.Identifier front remainder text some inside = token_fits (length front) _ text some (omega arith)
 word_step_fits s word.Decimal front remainder text some inside = either (StepFits 1 text) (starts_zero front) _ _ (record { order = omega arith; inside = omega arith }) (token_fits (length front) _ text some (omega arith))
@@ -185,9 +185,9 @@ front_step_fits table s text (Some front) e =
 in_code_fits : (table : Table) (s : Situation) (text : Text) → StepFits 1 text (in_code table s text)
 in_code_fits table s [] = refl
 in_code_fits table s (b ∷ bs) =
-    either (StepFits 1 (b ∷ bs)) (takes_bang s.place s.before && is_bang (b ∷ bs)) _ _ (token_fits 1 FStringBang (b ∷ bs) (omega arith) (omega arith)) (front_step_fits table s (b ∷ bs) _ refl)
+    either (StepFits 1 (b ∷ bs)) (takes_bang s.mode s.before && is_bang (b ∷ bs)) _ _ (token_fits 1 FStringBang (b ∷ bs) (omega arith) (omega arith)) (front_step_fits table s (b ∷ bs) _ refl)
 
-by_place_fits : (table : Table) (s : Situation) (place : Mode) (text : Text) → StepFits 1 text (by_place table s place text)
+by_place_fits : (table : Table) (s : Situation) (mode : Mode) (text : Text) → StepFits 1 text (by_mode table s mode text)
 by_place_fits table s Outside text = in_code_fits table s text
 by_place_fits table s (InText opening) text = chunk_fits opening text
 by_place_fits table s AtTop text = in_code_fits table s text
@@ -200,9 +200,9 @@ least_len before = 1
 
 by_before_fits : (table : Table) (s : Situation) (before : Before) (text : Text) → StepFits (least_len before) text (by_before table s before text)
 by_before_fits table s Nothing text = margin_step_fits 0 0 [] [] (margin_of text) text (omega arith) (let fits = margin_fits text in omega arith)
-by_before_fits table s Layout text = by_place_fits table s s.place text
-by_before_fits table s Gap text = by_place_fits table s s.place text
-by_before_fits table s Other text = by_place_fits table s s.place text
+by_before_fits table s Layout text = by_place_fits table s s.mode text
+by_before_fits table s Gap text = by_place_fits table s s.mode text
+by_before_fits table s Other text = by_place_fits table s s.mode text
 
 pub step_fits : (table : Table) (s : Situation) (text : Text) → StepFits (least_len s.before) text (step_at table s text)
 unfolding step_at

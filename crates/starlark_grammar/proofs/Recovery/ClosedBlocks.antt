@@ -22,7 +22,7 @@ use Rattle.starlark_grammar.proofs.Words.Fronts.{longest_front_is}
 use Rattle.starlark_grammar.proofs.Reading.Readings.{started, piece_fits}
 use Rattle.starlark_grammar.proofs.Reading.Steps.{is_nothing}
 use Rattle.starlark_grammar.proofs.Joining.Followed.{ends_line, ends_line_drop, longest_followed}
-use Rattle.starlark_grammar.proofs.Joining.FollowedMargins.{whole_behind, Followed, Whole, Within, margin_behind, followed, has_whole_lines}
+use Rattle.starlark_grammar.proofs.Joining.FollowedMargins.{whole_after, Followed, Whole, Within, margin_after, followed, has_whole_lines}
 use Rattle.starlark_grammar.proofs.Joining.Joined.{whole_from_ends, map_both, CountedEnd, counted_end, counted_step, margin_step_len, blank_step, next_stays, inside}
 use Rattle.starlark_grammar.specs.Joining.{begins_plainly}
 
@@ -114,7 +114,7 @@ closed_margin len lexemes levels text more piece whole stands reach begins posit
     go (Whole e f) =
         let is_last : Stands last ≡ Stands piece = sym (last_step e) ∙ stands in
         let same : last ≡ piece = cc in (
-          ap (margin_step len lexemes levels) (f ∙ ap (margin_behind (length text) (margin_of text).comments) (plain_margin more begins))
+          ap (margin_step len lexemes levels) (f ∙ ap (margin_after (length text) (margin_of text).comments) (plain_margin more begins))
               ∙ closing_step len lexemes levels ((margin_of text).comments ++ []) (length text + 0) more (plain_content more begins) positive
               ∙ ap Stands (made (length levels) ∙ ap (closing_piece (length levels)) same),
           sym (ap (λ (p : Piece). p.width) same),
@@ -143,7 +143,7 @@ closed_step s text more piece ends fresh positive laid reach stands begins = go 
             let taken : take n (text ++ more) ≡ take n text = take-append-le n text more inside in
             let left : drop n (text ++ more) ≡ drop n text ++ more = drop-append-le n text more inside in
             let total : length (take n text) + length (drop n text) ≡ length text = omega (arith, length-take n text, length-drop n text, inside) in
-            let found = closed_margin (length (take n text)) (record { begin = 0; node = Newline; end = length (take n text) } ∷ []) s.levels (drop n text) more piece (whole_behind n text (whole_from_ends text ends)) end.stands (omega (arith, reach, total)) begins positive in
+            let found = closed_margin (length (take n text)) (record { begin = 0; node = Newline; end = length (take n text) } ∷ []) s.levels (drop n text) more piece (whole_after n text (whole_from_ends text ends)) end.stands (omega (arith, reach, total)) begins positive in
             (step ∙ rw (taken, left) found.0, found.1)
 
     first : s.levels ≡ [] → by_before language s Nothing text ≡ Stands piece → Claim Nothing

@@ -15,14 +15,14 @@ use Rattle.starlark_grammar.proofs.Lists.{drop-remainder}
 use Rattle.starlark_grammar.proofs.Reading.Readings.{read_is}
 use Rattle.starlark_grammar.proofs.Rows.Shapes.{all_definitions}
 use Rattle.starlark_grammar.proofs.Joining.Joined.{map_both, moved_both}
-use Rattle.starlark_grammar.proofs.Joining.Laws.{ends_behind}
+use Rattle.starlark_grammar.proofs.Joining.Laws.{ends_after}
 use Rattle.starlark_grammar.proofs.Joining.Tabs.{outcome_by}
 use Rattle.starlark_grammar.proofs.Order.Inside.{fault_within}
 use Rattle.starlark_grammar.specs.Joining.{ClosedAfterFaults, ClosedFaultless, ClosedOfJoined, ClosedTextsJoin, begins_plainly, is_closed, is_closed_by, is_closed_from, is_decided, has_newline, is_between_lines, is_line_cut, recovered_joined, without_last_newline}
 use Rattle.starlark_grammar.specs.Recovery.{Recovered, faults_of, lexemes_of, moved_outcome, outcomes, recovered, restart}
 use Rattle.starlark_grammar.proofs.Recovery.LineCuts.{has_newline_later, has_newline_moved, left_out_later, left_out_moved, line_cuts_join, line_cuts_of_joined, plain_some}
 use Rattle.starlark_grammar.proofs.Recovery.Order.{faults_moved, lexemes_moved}
-use Rattle.starlark_grammar.proofs.Recovery.Outcomes.{empty_faultless, faultless_recovers, lexes_on, restart_bounds, restart_later}
+use Rattle.starlark_grammar.proofs.Recovery.TextOutcomes.{empty_faultless, faultless_recovers, lexes_on, restart_bounds, restart_later}
 use Rattle.starlark_grammar.proofs.Recovery.DecidedFaults.{decided, decided_faults_stay}
 use Rattle.starlark_grammar.proofs.Recovery.MovedRestarts.{not_zero, plain_tab, restart_moved}
 
@@ -268,7 +268,7 @@ module _ (second : Text) (plain : begins_plainly second ≡ true) where
   unfolding is_decided
   decided_moved first fault =
       let less : nat_lt (length first + fault.end) (length (first ++ second)) ≡ nat_lt fault.end (length second) = rw (length-append first second) (less_both (length first) fault.end (length second)) in
-      rw (less, ends_behind first second some_after) refl
+      rw (less, ends_after first second some_after) refl
     where
       less_both : (n a b : ℕ) → nat_lt (n + a) (n + b) ≡ nat_lt a b
       less_both n a b = grind (arith, nat_tests)
@@ -301,7 +301,7 @@ module _ (second : Text) (plain : begins_plainly second ≡ true) where
       ∙ ap (λ (t : Text). is_decided (first ++ second) fault && is_closed t) (rest_joined first fault has is)
       ∙ ap (λ closed. is_decided (first ++ second) fault && closed) rest
       ∙ ap (λ less. (less && ends_with nat_eq (first ++ second) (codes "\n")) && is_closed second) still
-      ∙ ap (λ ends. ends && is_closed second) (ends_behind first second some_after)
+      ∙ ap (λ ends. ends && is_closed second) (ends_after first second some_after)
       ∙ by (is_closed second) (closed_ends second some_after)
     where
       by : (closed : Bool) → (closed ≡ true → ends_with nat_eq second (codes "\n") ≡ true) → (ends_with nat_eq second (codes "\n") && closed) ≡ closed

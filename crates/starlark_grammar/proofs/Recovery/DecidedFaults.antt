@@ -15,7 +15,7 @@ use Rattle.starlark_grammar.proofs.Lists.{drop-sum}
 use Rattle.starlark_grammar.proofs.Literals.Bodies.{starts_fits}
 use Rattle.starlark_grammar.proofs.Reading.Readings.{fault_fits, read_is}
 use Rattle.starlark_grammar.proofs.Joining.Followed.{ends_line, ends_line_drop, ends_line_of}
-use Rattle.starlark_grammar.proofs.Joining.FollowedMargins.{Followed, Whole, Within, followed, whole_behind}
+use Rattle.starlark_grammar.proofs.Joining.FollowedMargins.{Followed, Whole, Within, followed, whole_after}
 use Rattle.starlark_grammar.proofs.Joining.Joined.{margin_step_len, whole_from_ends}
 use Rattle.starlark_grammar.proofs.Joining.Tabs.{first_step, outcome_by}
 use Rattle.starlark_grammar.specs.Joining.{DecidedFaultsStay, is_decided}
@@ -131,7 +131,7 @@ abbrev IsRest : Text → Type 0
 IsRest text = margin_of text ≡ record { comments = (margin_of text).comments; at = length text; blanks = []; remainder = [] }
 
 margin_line_stays : (text more : Text) (at : ℕ) → ends_line text ≡ true → at ≤ length text → (IsRest (drop at text) → ⊥) → (margin_line (text ++ more) at ≡ margin_line text at) × (margin_line text at < length text)
-margin_line_stays text more at h inside some = go (followed (drop at text) more (whole_behind at text (whole_from_ends text h)))
+margin_line_stays text more at h inside some = go (followed (drop at text) more (whole_after at text (whole_from_ends text h)))
   where
     left : drop at (text ++ more) ≡ drop at text ++ more
     left = drop-append-le at text more inside

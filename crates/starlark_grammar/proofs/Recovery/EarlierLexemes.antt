@@ -15,19 +15,19 @@ use Rattle.starlark_grammar.specs.Items.{Stop, Closing, Line, Ended, OpeningBrac
 use Rattle.starlark_grammar.specs.Depths.{Mode, Outside, InText, AtTop, Deeper}
 use Rattle.starlark_grammar.specs.Margins.{Margin, margin_of, margin_len, is_content, has_tab, width_of, fits, is_widest, indentation, begins_with_line_end}
 use Rattle.starlark_grammar.specs.Gaps.{InOrder}
-use Rattle.starlark_grammar.specs.Pieces.{Before, Nothing, Layout, Gap, Other, Piece, Step, Stands, Fails, Situation, token, margin_step, first_margin, more_quotes, opening_of, escape_fault, literal_by, opener, chunk_text, chunk_piece, chunk_by, chunk, counts, starts_zero, word_step, front_step, takes_bang, is_bang, in_code, by_place, by_before, step_at}
+use Rattle.starlark_grammar.specs.Pieces.{Before, Nothing, Layout, Gap, Other, Piece, Step, Stands, Fails, Situation, token, margin_step, first_margin, more_quotes, opening_of, escape_fault, literal_by, opener, chunk_text, chunk_piece, chunk_by, chunk, counts, starts_zero, word_step, front_step, takes_bang, is_bang, in_code, by_mode, by_before, step_at}
 use Rattle.starlark_grammar.specs.Reading.{History, nothing, after, situation, next_step, pieces_len, lexemes_along, before_fault}
 use Rattle.starlark_grammar.specs.Longest.{IsReading}
 use Rattle.starlark_grammar.proofs.Choices.{either}
 use Rattle.starlark_grammar.proofs.Joining.Tabs.{first_step}
 use Rattle.starlark_grammar.proofs.Order.Gaps.{gap_none}
 use Rattle.starlark_grammar.proofs.Order.Inside.{fault_within}
-use Rattle.starlark_grammar.proofs.Order.Lexemes.{margin_gap, margin_order}
+use Rattle.starlark_grammar.proofs.Order.OrderedLexemes.{margin_gap, margin_order}
 use Rattle.starlark_grammar.proofs.Reading.Steps.{Each, margin_fits}
 use Rattle.starlark_grammar.proofs.Recovery.DecidedFaults.{FaultRead, fault_read}
 use Rattle.starlark_grammar.proofs.Recovery.FollowedFaults.{FaultStays, fault_end, same_fault}
 use Rattle.starlark_grammar.proofs.Recovery.MarginTabs.{line_end_stands}
-use Rattle.starlark_grammar.proofs.Recovery.Outcomes.{restart_bounds}
+use Rattle.starlark_grammar.proofs.Recovery.TextOutcomes.{restart_bounds}
 use Rattle.starlark_grammar.specs.Recovery.{is_margin_tab, is_tab, line_end_len, margin_line, next_line, restart, stopped_at}
 use Rattle.starlark_grammar.specs.RecoveryLaws.{LexemesBeforeFaults}
 
@@ -100,22 +100,22 @@ margin_step_ends len before levels margin ends comments =
         (end_moved len (margin_len margin) (margin.comments ++ more)
         (end_append (margin_len margin) margin.comments more (end_later margin.at (margin_len margin) margin.comments (omega arith) comments) h))
 
-literal_by_ends : (place : Mode) (kind : Kind) (opening : Opening) (len : ℕ) (remainder : Text) (body : Body) (stop : Stop) → StepEnds (literal_by place kind opening len remainder body stop)
-literal_by_ends place kind opening len remainder body Closing = (omega arith, tt)
-literal_by_ends place kind opening len remainder body (BadEscape read last) = go (len + body_len body) (drop 1 (take read (drop (body_len body) remainder)))
+literal_by_ends : (mode : Mode) (kind : Kind) (opening : Opening) (len : ℕ) (remainder : Text) (body : Body) (stop : Stop) → StepEnds (literal_by mode kind opening len remainder body stop)
+literal_by_ends mode kind opening len remainder body Closing = (omega arith, tt)
+literal_by_ends mode kind opening len remainder body (BadEscape read last) = go (len + body_len body) (drop 1 (take read (drop (body_len body) remainder)))
   where
     go : (begin : ℕ) (read : Text) → StepEnds (escape_fault begin read)
     go begin [] = tt
     go begin (b ∷ bs) = tt
-literal_by_ends place kind opening len remainder body Line = tt
-literal_by_ends place kind opening len remainder body Ended = tt
-literal_by_ends place kind opening len remainder body OpeningBrace = tt
-literal_by_ends place kind opening len remainder body ClosingBrace = tt
+literal_by_ends mode kind opening len remainder body Line = tt
+literal_by_ends mode kind opening len remainder body Ended = tt
+literal_by_ends mode kind opening len remainder body OpeningBrace = tt
+literal_by_ends mode kind opening len remainder body ClosingBrace = tt
 
-opener_ends : (place : Mode) (kind : Kind) (opening : Opening) (len : ℕ) (remainder : Text) → StepEnds (opener place kind opening len remainder)
-opener_ends place OfFString opening len remainder = (omega arith, tt)
-opener_ends place OfText opening len remainder = literal_by_ends place OfText opening (len + more_quotes opening) (drop (more_quotes opening) remainder) (body_at (record { kind = OfText; opening = opening }) (drop (more_quotes opening) remainder)) _
-opener_ends place OfBytes opening len remainder = literal_by_ends place OfBytes opening (len + more_quotes opening) (drop (more_quotes opening) remainder) (body_at (record { kind = OfBytes; opening = opening }) (drop (more_quotes opening) remainder)) _
+opener_ends : (mode : Mode) (kind : Kind) (opening : Opening) (len : ℕ) (remainder : Text) → StepEnds (opener mode kind opening len remainder)
+opener_ends mode OfFString opening len remainder = (omega arith, tt)
+opener_ends mode OfText opening len remainder = literal_by_ends mode OfText opening (len + more_quotes opening) (drop (more_quotes opening) remainder) (body_at (record { kind = OfText; opening = opening }) (drop (more_quotes opening) remainder)) _
+opener_ends mode OfBytes opening len remainder = literal_by_ends mode OfBytes opening (len + more_quotes opening) (drop (more_quotes opening) remainder) (body_at (record { kind = OfBytes; opening = opening }) (drop (more_quotes opening) remainder)) _
 
 chunk_piece_ends : (body : Body) (node : Token) (len : ℕ) → StepEnds (chunk_piece body node len)
 chunk_piece_ends body node len = go (body_value body)
@@ -141,9 +141,9 @@ word_step_ends s word.Skipped front remainder = tt
 word_step_ends s word.Comment front remainder = (omega arith, tt)
 word_step_ends s word.Tabs front remainder = tt
 word_step_ends s word.LineEnd front remainder =
-    either StepEnds (counts s.place s.is_balanced) _ _
+    either StepEnds (counts s.mode s.is_balanced) _ _
     (margin_step_ends (length front) (record { begin = 0; node = Newline; end = length front } ∷ []) s.levels (margin_of remainder) (omega arith, tt) (comments_end remainder)) tt
-word_step_ends s (word.Opener kind is_raw quote) front remainder = opener_ends s.place kind (opening_of is_raw quote remainder) (length front) remainder
+word_step_ends s (word.Opener kind is_raw quote) front remainder = opener_ends s.mode kind (opening_of is_raw quote remainder) (length front) remainder
 word_step_ends s word.Reserved front remainder = tt
 word_step_ends s word.Identifier front remainder = (omega arith, tt)
 word_step_ends s word.Decimal front remainder = either StepEnds (starts_zero front) _ _ tt (token_ends (length front) (Int (integer_of 10 front)))
@@ -160,9 +160,9 @@ front_step_ends s text (Some front) = word_step_ends s front.0 (take front.1 tex
 in_code_ends : (s : Situation) (text : Text) → StepEnds (in_code language s text)
 in_code_ends s [] = tt
 in_code_ends s (b ∷ bs) =
-    either StepEnds (takes_bang s.place s.before && is_bang (b ∷ bs)) _ _ (token_ends 1 FStringBang) (front_step_ends s (b ∷ bs) (longest_front (class_in language) (b ∷ bs)))
+    either StepEnds (takes_bang s.mode s.before && is_bang (b ∷ bs)) _ _ (token_ends 1 FStringBang) (front_step_ends s (b ∷ bs) (longest_front (class_in language) (b ∷ bs)))
 
-by_place_ends : (s : Situation) (place : Mode) (text : Text) → StepEnds (by_place language s place text)
+by_place_ends : (s : Situation) (mode : Mode) (text : Text) → StepEnds (by_mode language s mode text)
 by_place_ends s Outside text = in_code_ends s text
 by_place_ends s (InText opening) text = chunk_ends opening text
 by_place_ends s AtTop text = in_code_ends s text
@@ -170,9 +170,9 @@ by_place_ends s Deeper text = in_code_ends s text
 
 by_before_ends : (s : Situation) (before : Before) (text : Text) → StepEnds (by_before language s before text)
 by_before_ends s Nothing text = margin_step_ends 0 [] [] (margin_of text) tt (comments_end text)
-by_before_ends s Layout text = by_place_ends s s.place text
-by_before_ends s Gap text = by_place_ends s s.place text
-by_before_ends s Other text = by_place_ends s s.place text
+by_before_ends s Layout text = by_place_ends s s.mode text
+by_before_ends s Gap text = by_place_ends s s.mode text
+by_before_ends s Other text = by_place_ends s s.mode text
 
 -- Readings
 

@@ -9,22 +9,22 @@ use Rattle.starlark_grammar.specs.Words.{Text, class_in, language}
 use Rattle.starlark_grammar.specs.declared.class.LiteralKind.{LiteralKind as Kind}
 use Rattle.starlark_grammar.specs.declared.class.Class.{Class}
 use Rattle.starlark_grammar.specs.declared.class.LiteralKind.TheVariants.{Text as OfText, Bytes as OfBytes, FString as OfFString}
-use Rattle.starlark_grammar.specs.Characters.{first_character}
+use Rattle.starlark_grammar.specs.FrontCharacter.{first_character}
 use Rattle.starlark_grammar.specs.Front.{longest_front}
 use Rattle.starlark_grammar.specs.Tokens.{Opening, FStringBang, InvalidInput, Lexeme, Spanned, Fault}
 use Rattle.starlark_grammar.specs.Items.{Stop, Closing, Line, Ended, OpeningBrace, ClosingBrace, BadEscape, Body, body_at, body_len}
 use Rattle.starlark_grammar.specs.Depths.{Mode, Outside, InText, AtTop, Deeper}
 use Rattle.starlark_grammar.specs.Margins.{margin_of}
-use Rattle.starlark_grammar.specs.Pieces.{Before, Nothing, Layout, Gap, Other, Piece, Step, Stands, Fails, Situation, token, fault, margin_step, line_end, opening_of, more_quotes, is_plain, unfinished, escape_fault, literal_by, literal, opener, chunk_by, chunk, counts, word_step, front_step, takes_bang, is_bang, in_code, by_place, by_before, step_at}
+use Rattle.starlark_grammar.specs.Pieces.{Before, Nothing, Layout, Gap, Other, Piece, Step, Stands, Fails, Situation, token, fault, margin_step, line_end, opening_of, more_quotes, is_plain, unfinished, escape_fault, literal_by, literal, opener, chunk_by, chunk, counts, word_step, front_step, takes_bang, is_bang, in_code, by_mode, by_before, step_at}
 use Rattle.starlark_grammar.specs.Reading.{History, after, after_all, situation, next_step, pieces_len}
 use Rattle.starlark_grammar.specs.Longest.{IsReading}
 use Rattle.starlark_grammar.proofs.Lists.{drop-sum}
-use Rattle.starlark_grammar.proofs.Lines.{in_line, line_fits, language_lines}
+use Rattle.starlark_grammar.proofs.WordNewlines.{in_line, line_fits, language_lines}
 use Rattle.starlark_grammar.proofs.Literals.Bodies.{StopFits, body_fits}
 use Rattle.starlark_grammar.proofs.Words.Fronts.{front_sound}
 use Rattle.starlark_grammar.proofs.Joining.Followed.{ends_line, ends_line_drop, longest_followed}
 use Rattle.starlark_grammar.proofs.Joining.FollowedBodies.{character_followed}
-use Rattle.starlark_grammar.proofs.Joining.FollowedMargins.{Followed, Whole, Within, followed, has_whole_lines, whole_behind}
+use Rattle.starlark_grammar.proofs.Joining.FollowedMargins.{Followed, Whole, Within, followed, has_whole_lines, whole_after}
 use Rattle.starlark_grammar.proofs.Joining.FollowedPieces.{bang_followed, opening_followed, opening_inside, word_inside}
 use Rattle.starlark_grammar.proofs.Joining.Joined.{blank_step, next_stays, step_within, whole_from_ends}
 use Rattle.starlark_grammar.proofs.Recovery.FollowedStops.{StopInside, body_single, body_stays}
@@ -69,7 +69,7 @@ plain_ends opening (b ∷ []) h single =
 plain_ends opening (b ∷ c ∷ bs) h single = and_right _ (is_plain opening (c ∷ bs)) (plain_ends opening (c ∷ bs) h single)
 
 -- what an unfinished literal of one line is
-pub unfinished_followed : (place : Mode) (kind : Kind) (opening : Opening) (remainder more : Text) → ends_line remainder ≡ true → opening.is_triple ≡ false → unfinished place kind opening (remainder ++ more) ≡ unfinished place kind opening remainder
+pub unfinished_followed : (mode : Mode) (kind : Kind) (opening : Opening) (remainder more : Text) → ends_line remainder ≡ true → opening.is_triple ≡ false → unfinished mode kind opening (remainder ++ more) ≡ unfinished mode kind opening remainder
 unfinished_followed Outside kind opening remainder more h single = refl
 unfinished_followed (InText other) OfText opening remainder more h single = rw (not_plain opening remainder more h single, plain_ends opening remainder h single) refl
 unfinished_followed AtTop OfText opening remainder more h single = rw (not_plain opening remainder more h single, plain_ends opening remainder h single) refl
@@ -95,9 +95,9 @@ escape_reads begin used read last opening remainder found inside fits e =
     let within = fits.2 in
     omega (arith, end, some, less, within, length-drop 1 (take read (drop used remainder)), length-take read (drop used remainder))
 
-module _ (place : Mode) (kind : Kind) (opening : Opening) (len : ℕ) (remainder more : Text) (body : Body) (found : Spanned Fault) (inside : body_len body ≤ length remainder) where
+module _ (mode : Mode) (kind : Kind) (opening : Opening) (len : ℕ) (remainder more : Text) (body : Body) (found : Spanned Fault) (inside : body_len body ≤ length remainder) where
   -- a literal's fault that ends before the text does leaves its body inside
-  literal_inside : (stop : Stop) → StopFits opening (drop (body_len body) remainder) stop → literal_by place kind opening len remainder body stop ≡ Fails found → found.end < len + length remainder → StopInside (length remainder) (body_len body) stop
+  literal_inside : (stop : Stop) → StopFits opening (drop (body_len body) remainder) stop → literal_by mode kind opening len remainder body stop ≡ Fails found → found.end < len + length remainder → StopInside (length remainder) (body_len body) stop
   literal_inside Closing fits e less = tt
   literal_inside Line fits e less = tt
   literal_inside OpeningBrace fits e less = tt
@@ -106,9 +106,9 @@ module _ (place : Mode) (kind : Kind) (opening : Opening) (len : ℕ) (remainder
   literal_inside (BadEscape read last) fits e less =
       let end = escape_reads len (body_len body) read last opening remainder found inside fits e in omega (arith, less, end)
 
-  literal_same : (stop : Stop) → StopFits opening (drop (body_len body) remainder) stop → ends_line remainder ≡ true → (stop ≡ Line → opening.is_triple ≡ false) → literal_by place kind opening len remainder body stop ≡ Fails found → found.end < len + length remainder → literal_by place kind opening len (remainder ++ more) body stop ≡ Fails found
+  literal_same : (stop : Stop) → StopFits opening (drop (body_len body) remainder) stop → ends_line remainder ≡ true → (stop ≡ Line → opening.is_triple ≡ false) → literal_by mode kind opening len remainder body stop ≡ Fails found → found.end < len + length remainder → literal_by mode kind opening len (remainder ++ more) body stop ≡ Fails found
   literal_same Closing fits h single e less = e
-  literal_same Line fits h single e less = ap (λ (node : Fault). fault 0 node (len + body_len body)) (unfinished_followed place kind opening remainder more h (single refl)) ∙ e
+  literal_same Line fits h single e less = ap (λ (node : Fault). fault 0 node (len + body_len body)) (unfinished_followed mode kind opening remainder more h (single refl)) ∙ e
   literal_same OpeningBrace fits h single e less = absurd (omega (arith, less, fault_end _ found e))
   literal_same ClosingBrace fits h single e less = absurd (omega (arith, less, fault_end _ found e))
   literal_same Ended fits h single e less = absurd (omega (arith, less, fault_end _ found e))
@@ -117,25 +117,25 @@ module _ (place : Mode) (kind : Kind) (opening : Opening) (len : ℕ) (remainder
       ∙ ap (λ (t : Text). escape_fault (len + body_len body) (drop 1 t)) (take-append-le read (drop (body_len body) remainder) more fits.2)
       ∙ e
 
-literal_fails : (place : Mode) (kind : Kind) (opening : Opening) (len : ℕ) (remainder more : Text) (found : Spanned Fault) → ends_line remainder ≡ true → literal place kind opening len remainder ≡ Fails found → found.end < len + length remainder → literal place kind opening len (remainder ++ more) ≡ Fails found
-literal_fails place kind opening len remainder more found h e less =
+literal_fails : (mode : Mode) (kind : Kind) (opening : Opening) (len : ℕ) (remainder more : Text) (found : Spanned Fault) → ends_line remainder ≡ true → literal mode kind opening len remainder ≡ Fails found → found.end < len + length remainder → literal mode kind opening len (remainder ++ more) ≡ Fails found
+literal_fails mode kind opening len remainder more found h e less =
     let body : Body = body_at (record { kind = kind; opening = opening }) remainder in
     let fits = body_fits (record { kind = kind; opening = opening }) remainder in
-    let inside = literal_inside place kind opening len remainder more body found fits.0 body.stop fits.1 e less in
-    ap (λ (b : Body). literal_by place kind opening len (remainder ++ more) b b.stop) (body_stays (record { kind = kind; opening = opening }) remainder more h inside)
-    ∙ literal_same place kind opening len remainder more body found fits.0 body.stop fits.1 h (body_single (record { kind = kind; opening = opening }) remainder) e less
+    let inside = literal_inside mode kind opening len remainder more body found fits.0 body.stop fits.1 e less in
+    ap (λ (b : Body). literal_by mode kind opening len (remainder ++ more) b b.stop) (body_stays (record { kind = kind; opening = opening }) remainder more h inside)
+    ∙ literal_same mode kind opening len remainder more body found fits.0 body.stop fits.1 h (body_single (record { kind = kind; opening = opening }) remainder) e less
 
-literal_behind_fails : (place : Mode) (kind : Kind) (opening : Opening) (len quotes : ℕ) (remainder more : Text) (found : Spanned Fault) → ends_line remainder ≡ true → quotes < length remainder → literal place kind opening (len + quotes) (drop quotes remainder) ≡ Fails found → found.end < len + length remainder
-    → literal place kind opening (len + quotes) (drop quotes (remainder ++ more)) ≡ Fails found
-literal_behind_fails place kind opening len quotes remainder more found h inside e less =
-    subst (λ (t : Text). literal place kind opening (len + quotes) t ≡ Fails found) (sym (drop-append-le quotes remainder more (omega (arith, inside))))
-    (literal_fails place kind opening (len + quotes) (drop quotes remainder) more found (ends_line_drop quotes remainder inside h) e (omega (arith, less, inside, length-drop quotes remainder)))
+literal_after_fails : (mode : Mode) (kind : Kind) (opening : Opening) (len quotes : ℕ) (remainder more : Text) (found : Spanned Fault) → ends_line remainder ≡ true → quotes < length remainder → literal mode kind opening (len + quotes) (drop quotes remainder) ≡ Fails found → found.end < len + length remainder
+    → literal mode kind opening (len + quotes) (drop quotes (remainder ++ more)) ≡ Fails found
+literal_after_fails mode kind opening len quotes remainder more found h inside e less =
+    subst (λ (t : Text). literal mode kind opening (len + quotes) t ≡ Fails found) (sym (drop-append-le quotes remainder more (omega (arith, inside))))
+    (literal_fails mode kind opening (len + quotes) (drop quotes remainder) more found (ends_line_drop quotes remainder inside h) e (omega (arith, less, inside, length-drop quotes remainder)))
 
-opener_fails : (place : Mode) (kind : Kind) (opening : Opening) (len : ℕ) (remainder more : Text) (found : Spanned Fault) → ends_line remainder ≡ true → more_quotes opening < length remainder → opener place kind opening len remainder ≡ Fails found → found.end < len + length remainder
-    → opener place kind opening len (remainder ++ more) ≡ Fails found
-opener_fails place OfFString opening len remainder more found h inside e less = e
-opener_fails place OfText opening len remainder more found h inside e less = literal_behind_fails place OfText opening len (more_quotes opening) remainder more found h inside e less
-opener_fails place OfBytes opening len remainder more found h inside e less = literal_behind_fails place OfBytes opening len (more_quotes opening) remainder more found h inside e less
+opener_fails : (mode : Mode) (kind : Kind) (opening : Opening) (len : ℕ) (remainder more : Text) (found : Spanned Fault) → ends_line remainder ≡ true → more_quotes opening < length remainder → opener mode kind opening len remainder ≡ Fails found → found.end < len + length remainder
+    → opener mode kind opening len (remainder ++ more) ≡ Fails found
+opener_fails mode OfFString opening len remainder more found h inside e less = e
+opener_fails mode OfText opening len remainder more found h inside e less = literal_after_fails mode OfText opening len (more_quotes opening) remainder more found h inside e less
+opener_fails mode OfBytes opening len remainder more found h inside e less = literal_after_fails mode OfBytes opening len (more_quotes opening) remainder more found h inside e less
 
 -- Texts of f-strings
 
@@ -170,7 +170,7 @@ word_fails : (s : Situation) (class : Class) (front remainder more : Text) (foun
 word_fails s word.Skipped front remainder more found ends fits whole e less = e
 word_fails s word.Comment front remainder more found ends fits whole e less = e
 word_fails s word.Tabs front remainder more found ends fits whole e less = e
-word_fails s word.LineEnd front remainder more found ends fits whole e less = go (counts s.place s.is_balanced) e
+word_fails s word.LineEnd front remainder more found ends fits whole e less = go (counts s.mode s.is_balanced) e
   where
     step : Bool → Text → Step
     step counted remainder = if counted then line_end (length front) s.levels remainder else Stands (record { len = length front; lexemes = []; width = None; sort = Other })
@@ -180,8 +180,8 @@ word_fails s word.LineEnd front remainder more found ends fits whole e less = go
     go false e = e
 word_fails s (word.Opener kind is_raw quote) front remainder more found ends fits whole e less =
     let h = ends fits in
-    ap (λ (opening : Opening). opener s.place kind opening (length front) (remainder ++ more)) (opening_followed is_raw quote remainder more h)
-    ∙ opener_fails s.place kind (opening_of is_raw quote remainder) (length front) remainder more found h (opening_inside is_raw quote remainder h) e less
+    ap (λ (opening : Opening). opener s.mode kind opening (length front) (remainder ++ more)) (opening_followed is_raw quote remainder more h)
+    ∙ opener_fails s.mode kind (opening_of is_raw quote remainder) (length front) remainder more found h (opening_inside is_raw quote remainder h) e less
 word_fails s word.Reserved front remainder more found ends fits whole e less = e
 word_fails s word.Identifier front remainder more found ends fits whole e less = e
 word_fails s word.Decimal front remainder more found ends fits whole e less = e
@@ -196,7 +196,7 @@ front_fails s text more None found h known e less =
     let end : length (first_character text) ≡ found.end = fault_end _ found e in
     ap (λ (t : Text). fault 0 (InvalidInput t) (length t)) (character_followed text more (omega (arith, less, end))) ∙ e
 front_fails s text more (Some front) found h known e less =
-    again ∙ word_fails s front.0 (take front.1 text) (drop front.1 text) more found ends (language_lines (take front.1 text) front.0 sound.2) (whole_behind front.1 text (whole_from_ends text h)) e (omega (arith, less, len, length-drop front.1 text, sound.1))
+    again ∙ word_fails s front.0 (take front.1 text) (drop front.1 text) more found ends (language_lines (take front.1 text) front.0 sound.2) (whole_after front.1 text (whole_from_ends text h)) e (omega (arith, less, len, length-drop front.1 text, sound.1))
   where
     sound : (1 ≤ front.1) × (front.1 ≤ length text) × (class_in language (take front.1 text) ≡ Some front.0)
     sound = front_sound (class_in language) text front.0 front.1 known
@@ -215,15 +215,15 @@ front_fails s text more (Some front) found h known e less =
 code_fails : (s : Situation) (text more : Text) (found : Spanned Fault) → ends_line text ≡ true → in_code language s text ≡ Fails found → found.end < length text → in_code language s (text ++ more) ≡ Fails found
 code_fails s [] more found h e less = cc
 code_fails s (b ∷ bs) more found h e less =
-    ap (λ (front : Option (Class × ℕ)). step (takes_bang s.place s.before && is_bang (b ∷ (bs ++ more))) (b ∷ (bs ++ more)) front) known
+    ap (λ (front : Option (Class × ℕ)). step (takes_bang s.mode s.before && is_bang (b ∷ (bs ++ more))) (b ∷ (bs ++ more)) front) known
     ∙ ap (λ bang. step bang (b ∷ (bs ++ more)) (longest_front (class_in language) (b ∷ bs))) same
-    ∙ go (takes_bang s.place s.before && is_bang (b ∷ bs)) e
+    ∙ go (takes_bang s.mode s.before && is_bang (b ∷ bs)) e
   where
     step : Bool → Text → Option (Class × ℕ) → Step
     step bang text front = if bang then token 1 FStringBang else front_step s text front
 
-    same : (takes_bang s.place s.before && is_bang (b ∷ (bs ++ more))) ≡ (takes_bang s.place s.before && is_bang (b ∷ bs))
-    same = ap (λ bang. takes_bang s.place s.before && bang) (bang_followed b bs more h)
+    same : (takes_bang s.mode s.before && is_bang (b ∷ (bs ++ more))) ≡ (takes_bang s.mode s.before && is_bang (b ∷ bs))
+    same = ap (λ bang. takes_bang s.mode s.before && bang) (bang_followed b bs more h)
 
     known : longest_front (class_in language) (b ∷ (bs ++ more)) ≡ longest_front (class_in language) (b ∷ bs)
     known = longest_followed (b ∷ bs) more h
@@ -237,7 +237,7 @@ step_fails : (s : Situation) (text more : Text) (found : Spanned Fault) → ends
 unfolding step_at
 step_fails s text more found h e less = before s.before e
   where
-    at : (place : Mode) → by_place language s place text ≡ Fails found → by_place language s place (text ++ more) ≡ Fails found
+    at : (mode : Mode) → by_mode language s mode text ≡ Fails found → by_mode language s mode (text ++ more) ≡ Fails found
     at Outside e = code_fails s text more found h e less
     at (InText opening) e = chunk_fails opening text more found h e less
     at AtTop e = code_fails s text more found h e less
@@ -245,9 +245,9 @@ step_fails s text more found h e less = before s.before e
 
     before : (before : Before) → by_before language s before text ≡ Fails found → by_before language s before (text ++ more) ≡ Fails found
     before Nothing e = margin_fails 0 [] [] text more found (whole_from_ends text h) e
-    before Layout e = at s.place e
-    before Gap e = at s.place e
-    before Other e = at s.place e
+    before Layout e = at s.mode e
+    before Gap e = at s.mode e
+    before Other e = at s.mode e
 
 next_fails : (history : History) (text more : Text) (found : Spanned Fault) → ends_line text ≡ true → next_step language history text ≡ Fails found → found.end < length text → next_step language history (text ++ more) ≡ Fails found
 unfolding next_step situation

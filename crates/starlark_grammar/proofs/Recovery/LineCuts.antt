@@ -17,11 +17,11 @@ use Rattle.starlark_grammar.specs.Cuts.{is_layout, is_outside, is_newline, is_fa
 use Rattle.starlark_grammar.proofs.Reading.Readings.{one_longest, longest_onward, read_is, reading_fits, ends_at_end, outcome_only}
 use Rattle.starlark_grammar.proofs.Reading.Steps.{is_nothing}
 use Rattle.starlark_grammar.proofs.Joining.Followed.{ends_line, ends_line_of}
-use Rattle.starlark_grammar.proofs.Joining.Settled.{Settled, outside_none, remainder, widths_settled, situation_behind, after_behind, next_behind, all_behind}
+use Rattle.starlark_grammar.proofs.Joining.Settled.{Settled, outside_none, remainder, widths_settled, situation_after, after_onto, next_after, all_after}
 use Rattle.starlark_grammar.proofs.Joining.Joined.{moved_both, all_moved, map_both}
 use Rattle.starlark_grammar.proofs.Joining.CleanCuts.{pieces_both, along_both, past_both, longest_both, CharacterStarts, begun}
 use Rattle.starlark_grammar.proofs.Joining.Tabs.{first_step}
-use Rattle.starlark_grammar.proofs.Joining.Laws.{ends_behind}
+use Rattle.starlark_grammar.proofs.Joining.Laws.{ends_after}
 use Rattle.starlark_grammar.specs.Joining.{is_between_lines, is_line_cut, has_newline, without_last_newline, begins_plainly, LineCutsJoin, LineCutsOfJoined}
 use Rattle.starlark_grammar.proofs.Recovery.ClosedBlocks.{plain_content, plain_margin, closing_step, dedents, dedents_moved, open_count, closed_after, none_open_dedents, balanced_dedents, none_wider, Closed, close_reading}
 
@@ -180,10 +180,10 @@ plain_some (b ∷ bs) h = omega arith
 reading_between : (one other history : History) (text : Text) (pieces : List Piece) → Settled one → Settled other → IsReading language (remainder one history) text pieces → IsReading language (remainder other history) text pieces
 reading_between one other history text [] h k reads = tt
 reading_between one other history text (piece ∷ pieces) h k reads = (
-  next_behind language other history text k ∙ sym (next_behind language one history text h) ∙ reads.0,
-  subst (λ (past : History). IsReading language past (drop piece.len text) pieces) (sym (after_behind other history piece))
+  next_after language other history text k ∙ sym (next_after language one history text h) ∙ reads.0,
+  subst (λ (past : History). IsReading language past (drop piece.len text) pieces) (sym (after_onto other history piece))
       (reading_between one other (after history piece) (drop piece.len text) pieces h k
-      (subst (λ (past : History). IsReading language past (drop piece.len text) pieces) (after_behind one history piece) reads.1)),
+      (subst (λ (past : History). IsReading language past (drop piece.len text) pieces) (after_onto one history piece) reads.1)),
 )
 
 longest_between : (one other history : History) (text : Text) (pieces : List Piece) (last : Step) → Settled one → Settled other → IsLongestReading language (remainder one history) text pieces last → IsLongestReading language (remainder other history) text pieces last
@@ -192,18 +192,18 @@ longest_between one other history text pieces last h k longest = record {
   stands_last =
       let end = after_all history pieces in
       let rest = drop (pieces_len pieces) text in
-      ap (λ (past : History). next_step language past rest) (all_behind other history pieces)
-      ∙ next_behind language other end rest k ∙ sym (next_behind language one end rest h)
-      ∙ ap (λ (past : History). next_step language past rest) (sym (all_behind one history pieces)) ∙ longest.stands_last;
+      ap (λ (past : History). next_step language past rest) (all_after other history pieces)
+      ∙ next_after language other end rest k ∙ sym (next_after language one end rest h)
+      ∙ ap (λ (past : History). next_step language past rest) (sym (all_after one history pieces)) ∙ longest.stands_last;
   no_piece = longest.no_piece;
 }
 
-between_behind : (earlier history : History) → Settled earlier → is_between_lines (remainder earlier history) ≡ is_between_lines history
+between_after : (earlier history : History) → Settled earlier → is_between_lines (remainder earlier history) ≡ is_between_lines history
 unfolding is_between_lines situation
-between_behind earlier history h = ap (λ (s : Situation). is_layout s.before && is_outside s.place && s.is_balanced) (situation_behind earlier history h)
+between_after earlier history h = ap (λ (s : Situation). is_layout s.before && is_outside s.mode && s.is_balanced) (situation_after earlier history h)
 
-closing_behind : (at : ℕ) (earlier history : History) → Settled earlier → closing at (remainder earlier history) ≡ closing at history
-closing_behind at earlier history h =
+closing_after : (at : ℕ) (earlier history : History) → Settled earlier → closing at (remainder earlier history) ≡ closing at history
+closing_after at earlier history h =
     ap (λ (ws : List ℕ). record { begin = at; node = Newline; end = at } ∷ dedents (length ws) at) (widths_settled earlier.widths history.widths h.no_width)
 
 closing_moved : (n at : ℕ) (history : History) → closing (n + at) history ≡ map (moved n) (closing at history)
@@ -302,18 +302,18 @@ module _ (text more : Text) (pieces : List Piece) (here : LineCut text pieces) (
   past =
       past_both nothing closed.pieces' there.pieces
       ∙ ap (λ (h : History). after_all h there.pieces) (closed.past ∙ closed_alone (after_all nothing pieces))
-      ∙ all_behind (closed_after (after_all nothing pieces)) margin_alone there.pieces
+      ∙ all_after (closed_after (after_all nothing pieces)) margin_alone there.pieces
 
   pub past_alone : after_all nothing (plain_piece ∷ there.pieces) ≡ remainder line_alone (after_all margin_alone there.pieces)
-  past_alone = ap (λ (h : History). after_all h there.pieces) line_after ∙ all_behind line_alone margin_alone there.pieces
+  past_alone = ap (λ (h : History). after_all h there.pieces) line_after ∙ all_after line_alone margin_alone there.pieces
 
   closings : closing (length text + pieces_len there.pieces) (after_all nothing (closed.pieces' ++ there.pieces)) ≡ map (moved (length text)) (closing (pieces_len there.pieces) (after_all nothing (plain_piece ∷ there.pieces)))
   closings =
       let n = pieces_len there.pieces in
       ap (closing (length text + n)) past
-      ∙ closing_behind (length text + n) (closed_after (after_all nothing pieces)) (after_all margin_alone there.pieces) all_closed
+      ∙ closing_after (length text + n) (closed_after (after_all nothing pieces)) (after_all margin_alone there.pieces) all_closed
       ∙ closing_moved (length text) n (after_all margin_alone there.pieces)
-      ∙ ap (map (moved (length text))) (sym (closing_behind n line_alone (after_all margin_alone there.pieces) line_settled) ∙ ap (closing n) (sym past_alone))
+      ∙ ap (map (moved (length text))) (sym (closing_after n line_alone (after_all margin_alone there.pieces) line_settled) ∙ ap (closing n) (sym past_alone))
 
   to_end : lexemes_along 0 (closed.pieces' ++ there.pieces) ++ closing (pieces_len (closed.pieces' ++ there.pieces)) (after_all nothing (closed.pieces' ++ there.pieces))
       ≡ without_last_newline (outcome text).lexemes ++ map (moved (length text)) (lexemes_along 0 there.pieces ++ closing (pieces_len there.pieces) (after_all nothing (plain_piece ∷ there.pieces)))
@@ -360,7 +360,7 @@ line_cuts_of_joined text more h begins =
     line_cut_by (text ++ more) _ there.last (longest text more pieces here begins there)
     ∙ ap (λ (history : History). is_faultless there.last && is_between_lines history && ends_with nat_eq (text ++ more) (codes "\n")) (past text more pieces here begins there)
     ∙ ap (λ (between : Bool). is_faultless there.last && between && ends_with nat_eq (text ++ more) (codes "\n"))
-    (between_behind (closed_after (after_all nothing pieces)) rest (all_closed text more pieces here begins there) ∙ sym (between_behind line_alone rest line_settled))
-    ∙ ap (λ (ends : Bool). is_faultless there.last && is_between_lines (remainder line_alone rest) && ends) (ends_behind text more (plain_some more begins))
+    (between_after (closed_after (after_all nothing pieces)) rest (all_closed text more pieces here begins there) ∙ sym (between_after line_alone rest line_settled))
+    ∙ ap (λ (ends : Bool). is_faultless there.last && is_between_lines (remainder line_alone rest) && ends) (ends_after text more (plain_some more begins))
     ∙ ap (λ (history : History). is_faultless there.last && is_between_lines history && ends_with nat_eq more (codes "\n")) (sym (past_alone text more pieces here begins there))
     ∙ sym (line_cut_by more (plain_piece ∷ there.pieces) there.last (longest_onward language nothing more plain_piece there.pieces there.last (plain_step more begins) there.longest))

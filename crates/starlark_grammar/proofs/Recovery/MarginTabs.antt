@@ -16,7 +16,7 @@ use Rattle.starlark_grammar.specs.Tokens.{Newline, Opening, Int, StartsZero, FSt
 use Rattle.starlark_grammar.specs.Items.{Stop, Closing, Line, Ended, OpeningBrace, ClosingBrace, BadEscape, Body, body_at}
 use Rattle.starlark_grammar.specs.Depths.{Mode, Outside, InText, AtTop, Deeper}
 use Rattle.starlark_grammar.specs.Margins.{Margin, margin_of, margin_len, is_content, has_tab, lines, width_of, fits, begins_with_line_end}
-use Rattle.starlark_grammar.specs.Pieces.{Before, Nothing, Layout, Gap, Other, Piece, Step, Stands, Fails, Ends, Situation, token, fault, margin_step, first_margin, line_end, more_quotes, is_plain, unfinished, escape_fault, literal_by, opener, chunk_by, chunk, counts, starts_zero, word_step, front_step, takes_bang, is_bang, in_code, by_place, by_before, step_at}
+use Rattle.starlark_grammar.specs.Pieces.{Before, Nothing, Layout, Gap, Other, Piece, Step, Stands, Fails, Ends, Situation, token, fault, margin_step, first_margin, line_end, more_quotes, is_plain, unfinished, escape_fault, literal_by, opener, chunk_by, chunk, counts, starts_zero, word_step, front_step, takes_bang, is_bang, in_code, by_mode, by_before, step_at}
 use Rattle.starlark_grammar.specs.Reading.{History, situation, next_step}
 use Rattle.starlark_grammar.proofs.Choices.{either}
 use Rattle.starlark_grammar.proofs.Words.Classes.{all_fit, language_all_fit, none_found, row_fits}
@@ -134,7 +134,7 @@ tab_not (Fails other) found none e h = both_ways _ (subst (λ (f : Spanned Fault
 tab_not (Stands piece) found none e h = cc
 tab_not Ends found none e h = cc
 
-untabbed_unfinished : (place : Mode) (kind : Kind) (opening : Opening) (remainder : Text) → is_tab (unfinished place kind opening remainder) ≡ false
+untabbed_unfinished : (mode : Mode) (kind : Kind) (opening : Opening) (remainder : Text) → is_tab (unfinished mode kind opening remainder) ≡ false
 untabbed_unfinished Outside kind opening remainder = refl
 untabbed_unfinished (InText other) OfText opening remainder = either (λ (node : Fault). is_tab node ≡ false) (is_plain opening remainder) UnfinishedFStringExpression UnfinishedStringLiteral refl refl
 untabbed_unfinished AtTop OfText opening remainder = either (λ (node : Fault). is_tab node ≡ false) (is_plain opening remainder) UnfinishedFStringExpression UnfinishedStringLiteral refl refl
@@ -150,21 +150,21 @@ untabbed_escape : (begin : ℕ) (text : Text) → NoTab (escape_fault begin text
 untabbed_escape begin [] = refl
 untabbed_escape begin (b ∷ bs) = refl
 
-untabbed_literal : (place : Mode) (kind : Kind) (opening : Opening) (len : ℕ) (remainder : Text) (body : Body) (stop : Stop) → NoTab (literal_by place kind opening len remainder body stop)
-untabbed_literal place kind opening len remainder body Closing = tt
-untabbed_literal place kind opening len remainder body (BadEscape read last) = untabbed_escape _ _
-untabbed_literal place kind opening len remainder body Line = untabbed_unfinished place kind opening remainder
-untabbed_literal place kind opening len remainder body Ended = untabbed_unfinished place kind opening remainder
-untabbed_literal place kind opening len remainder body OpeningBrace = untabbed_unfinished place kind opening remainder
-untabbed_literal place kind opening len remainder body ClosingBrace = untabbed_unfinished place kind opening remainder
+untabbed_literal : (mode : Mode) (kind : Kind) (opening : Opening) (len : ℕ) (remainder : Text) (body : Body) (stop : Stop) → NoTab (literal_by mode kind opening len remainder body stop)
+untabbed_literal mode kind opening len remainder body Closing = tt
+untabbed_literal mode kind opening len remainder body (BadEscape read last) = untabbed_escape _ _
+untabbed_literal mode kind opening len remainder body Line = untabbed_unfinished mode kind opening remainder
+untabbed_literal mode kind opening len remainder body Ended = untabbed_unfinished mode kind opening remainder
+untabbed_literal mode kind opening len remainder body OpeningBrace = untabbed_unfinished mode kind opening remainder
+untabbed_literal mode kind opening len remainder body ClosingBrace = untabbed_unfinished mode kind opening remainder
 
-untabbed_body : (place : Mode) (kind : Kind) (opening : Opening) (len : ℕ) (remainder : Text) (body : Body) → NoTab (literal_by place kind opening len remainder body body.stop)
-untabbed_body place kind opening len remainder body = untabbed_literal place kind opening len remainder body body.stop
+untabbed_body : (mode : Mode) (kind : Kind) (opening : Opening) (len : ℕ) (remainder : Text) (body : Body) → NoTab (literal_by mode kind opening len remainder body body.stop)
+untabbed_body mode kind opening len remainder body = untabbed_literal mode kind opening len remainder body body.stop
 
-untabbed_opener : (place : Mode) (kind : Kind) (opening : Opening) (len : ℕ) (remainder : Text) → NoTab (opener place kind opening len remainder)
-untabbed_opener place OfFString opening len remainder = tt
-untabbed_opener place OfText opening len remainder = untabbed_body place OfText opening (len + more_quotes opening) (drop (more_quotes opening) remainder) (body_at (record { kind = OfText; opening = opening }) (drop (more_quotes opening) remainder))
-untabbed_opener place OfBytes opening len remainder = untabbed_body place OfBytes opening (len + more_quotes opening) (drop (more_quotes opening) remainder) (body_at (record { kind = OfBytes; opening = opening }) (drop (more_quotes opening) remainder))
+untabbed_opener : (mode : Mode) (kind : Kind) (opening : Opening) (len : ℕ) (remainder : Text) → NoTab (opener mode kind opening len remainder)
+untabbed_opener mode OfFString opening len remainder = tt
+untabbed_opener mode OfText opening len remainder = untabbed_body mode OfText opening (len + more_quotes opening) (drop (more_quotes opening) remainder) (body_at (record { kind = OfText; opening = opening }) (drop (more_quotes opening) remainder))
+untabbed_opener mode OfBytes opening len remainder = untabbed_body mode OfBytes opening (len + more_quotes opening) (drop (more_quotes opening) remainder) (body_at (record { kind = OfBytes; opening = opening }) (drop (more_quotes opening) remainder))
 
 untabbed_chunk : (opening : Opening) (text : Text) → NoTab (chunk opening text)
 unfolding chunk
@@ -238,7 +238,7 @@ module _ (s : Situation) (text : Text) (found : Spanned Fault) (tab : is_tab fou
     end = sym (ap (λ (f : Spanned Fault). f.end) (same_fault _ found e));
     stands = inl (word_tab text len front);
   }
-  by_class word.LineEnd len front e = go (counts s.place s.is_balanced) e
+  by_class word.LineEnd len front e = go (counts s.mode s.is_balanced) e
     where
       go : (counted : Bool) → (if counted then line_end (length (take len text)) s.levels (drop len text) else Stands (record { len = length (take len text); lexemes = []; width = None; sort = Other })) ≡ Fails found → TabLater text found
       go true e = record {
@@ -247,7 +247,7 @@ module _ (s : Situation) (text : Text) (found : Spanned Fault) (tab : is_tab fou
         stands = inr (record { len = len; size = length (take len text); levels = s.levels; lexemes = record { begin = 0; node = Newline; end = length (take len text) } ∷ []; line = word_line text len front; fails = e });
       }
       go false e = cc
-  by_class (word.Opener kind is_raw quote) len front e = absurd (tab_not _ found (untabbed_opener s.place kind _ _ _) e tab)
+  by_class (word.Opener kind is_raw quote) len front e = absurd (tab_not _ found (untabbed_opener s.mode kind _ _ _) e tab)
   by_class word.Reserved len front e = absurd (tab_not _ found refl e tab)
   by_class word.Identifier len front e = cc
   by_class word.Decimal len front e = absurd (tab_not _ found (either NoTab (starts_zero (take len text)) (fault 0 (StartsZero (take len text)) (length (take len text))) (token (length (take len text)) (Int (integer_of 10 (take len text)))) refl tt) e tab)
@@ -270,9 +270,9 @@ module _ (s : Situation) (text : Text) (found : Spanned Fault) (tab : is_tab fou
 
       go : (t : Text) → text ≡ t → in_code language s t ≡ Fails found → TabLater text found
       go [] same e = cc
-      go (b ∷ bs) same e = bang b bs (takes_bang s.place s.before && is_bang (b ∷ bs)) same e
+      go (b ∷ bs) same e = bang b bs (takes_bang s.mode s.before && is_bang (b ∷ bs)) same e
 
-  tab_by_place : (place : Mode) → by_place language s place text ≡ Fails found → TabLater text found
+  tab_by_place : (mode : Mode) → by_mode language s mode text ≡ Fails found → TabLater text found
   tab_by_place Outside e = tab_in_code e
   tab_by_place (InText opening) e = absurd (tab_not _ found (untabbed_chunk opening text) e tab)
   tab_by_place AtTop e = tab_in_code e
@@ -284,9 +284,9 @@ module _ (s : Situation) (text : Text) (found : Spanned Fault) (tab : is_tab fou
     where
       go : (before : Before) → by_before language s before text ≡ Fails found → TabAt text found
       go Nothing e = record { begin = margin_begin 0 [] [] (margin_of text) found e; stands = inl e }
-      go Layout e = anywhere (tab_by_place s.place e)
-      go Gap e = anywhere (tab_by_place s.place e)
-      go Other e = anywhere (tab_by_place s.place e)
+      go Layout e = anywhere (tab_by_place s.mode e)
+      go Gap e = anywhere (tab_by_place s.mode e)
+      go Other e = anywhere (tab_by_place s.mode e)
 
   later_step : is_nothing s.before ≡ false → step_at language s text ≡ Fails found → TabLater text found
   unfolding step_at
@@ -294,9 +294,9 @@ module _ (s : Situation) (text : Text) (found : Spanned Fault) (tab : is_tab fou
     where
       go : (before : Before) → is_nothing before ≡ false → by_before language s before text ≡ Fails found → TabLater text found
       go Nothing some e = cc
-      go Layout some e = tab_by_place s.place e
-      go Gap some e = tab_by_place s.place e
-      go Other some e = tab_by_place s.place e
+      go Layout some e = tab_by_place s.mode e
+      go Gap some e = tab_by_place s.mode e
+      go Other some e = tab_by_place s.mode e
 
 pub tab_next : (history : History) (text : Text) (found : Spanned Fault) → is_tab found.node ≡ true → next_step language history text ≡ Fails found → TabAt text found
 unfolding next_step situation

@@ -25,7 +25,7 @@ use Rattle.starlark_grammar.proofs.Joining.CleanCuts.{along_both, longest_both, 
 use Rattle.starlark_grammar.proofs.Joining.Followed.{ends_line_drop, ends_line_of, longest_followed}
 use Rattle.starlark_grammar.proofs.Joining.Joined.{blank_step, outside}
 use Rattle.starlark_grammar.proofs.Joining.LaidCuts.{line_laid, line_of, reading_shortened}
-use Rattle.starlark_grammar.proofs.Joining.Laws.{ends_behind}
+use Rattle.starlark_grammar.proofs.Joining.Laws.{ends_after}
 use Rattle.starlark_grammar.proofs.Joining.LineCuts.{line_end_ends}
 use Rattle.starlark_grammar.proofs.Joining.Settled.{outside_none}
 use Rattle.starlark_grammar.proofs.Joining.Tabs.{outcome_by}
@@ -95,7 +95,7 @@ module _ (text : Text) (pieces : List Piece) (n : ℕ) (reads : IsReading langua
   pub ends : ends_with nat_eq so_far (codes "\n") ≡ true
   ends =
       ap (λ (t : Text). ends_with nat_eq t (codes "\n")) (sym (take-append-drop (pieces_len pieces) so_far))
-      ∙ ends_behind (take (pieces_len pieces) so_far) (drop (pieces_len pieces) so_far) (omega (arith, line_len, sound.0))
+      ∙ ends_after (take (pieces_len pieces) so_far) (drop (pieces_len pieces) so_far) (omega (arith, line_len, sound.0))
       ∙ ap (λ (t : Text). ends_with nat_eq t (codes "\n")) line_text
       ∙ line_end_ends (drop (pieces_len pieces) text) n found
 

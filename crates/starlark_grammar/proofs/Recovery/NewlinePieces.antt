@@ -18,7 +18,7 @@ use Rattle.starlark_grammar.specs.Tokens.{Token, Opening, Lexeme, moved, Int, In
 use Rattle.starlark_grammar.specs.Items.{Stop, Closing, Line, Ended, OpeningBrace, ClosingBrace, BadEscape, Body, body_at, body_len, body_value, closing_quotes}
 use Rattle.starlark_grammar.specs.Depths.{Mode, Outside, InText, AtTop, Deeper, is_balanced, mode_after}
 use Rattle.starlark_grammar.specs.Margins.{comments_from, comment_lines, Margin, margin_of, margin_len, is_content, has_tab, width_of, fits, is_widest, indentation, open_widths}
-use Rattle.starlark_grammar.specs.Pieces.{Before, Nothing, Layout, Gap, Other, Piece, Step, Stands, Fails, Ends, Situation, fault, token, margin_step, line_end, more_quotes, escape_fault, literal_by, opener, chunk_text, chunk_piece, chunk_by, chunk, terminal_token, counts, starts_zero, word_step, front_step, takes_bang, is_bang, in_code, by_place, by_before, step_at, opening_of}
+use Rattle.starlark_grammar.specs.Pieces.{Before, Nothing, Layout, Gap, Other, Piece, Step, Stands, Fails, Ends, Situation, fault, token, margin_step, line_end, more_quotes, escape_fault, literal_by, opener, chunk_text, chunk_piece, chunk_by, chunk, terminal_token, counts, starts_zero, word_step, front_step, takes_bang, is_bang, in_code, by_mode, by_before, step_at, opening_of}
 use Rattle.starlark_grammar.specs.Reading.{History, nothing, after, after_all, situation, next_step, pieces_len, read, lexemes_along, closing, outcome_of, outcome}
 use Rattle.starlark_grammar.specs.Longest.{IsReading}
 use Rattle.starlark_grammar.specs.Cuts.{is_layout, is_newline}
@@ -103,23 +103,23 @@ escape_plain : (begin : ℕ) (text : Text) → PlainStep (escape_fault begin tex
 escape_plain begin [] = tt
 escape_plain begin (b ∷ bs) = tt
 
-literal_plain : (place : Mode) (kind : Kind) (opening : Opening) (len : ℕ) (rest : Text) (body : Body) (stop : Stop) → PlainStep (literal_by place kind opening len rest body stop)
-literal_plain place OfText opening len rest body Closing = refl
-literal_plain place OfBytes opening len rest body Closing = refl
-literal_plain place OfFString opening len rest body Closing = refl
-literal_plain place kind opening len rest body (BadEscape read last) = escape_plain _ _
-literal_plain place kind opening len rest body Line = tt
-literal_plain place kind opening len rest body Ended = tt
-literal_plain place kind opening len rest body OpeningBrace = tt
-literal_plain place kind opening len rest body ClosingBrace = tt
+literal_plain : (mode : Mode) (kind : Kind) (opening : Opening) (len : ℕ) (rest : Text) (body : Body) (stop : Stop) → PlainStep (literal_by mode kind opening len rest body stop)
+literal_plain mode OfText opening len rest body Closing = refl
+literal_plain mode OfBytes opening len rest body Closing = refl
+literal_plain mode OfFString opening len rest body Closing = refl
+literal_plain mode kind opening len rest body (BadEscape read last) = escape_plain _ _
+literal_plain mode kind opening len rest body Line = tt
+literal_plain mode kind opening len rest body Ended = tt
+literal_plain mode kind opening len rest body OpeningBrace = tt
+literal_plain mode kind opening len rest body ClosingBrace = tt
 
-body_plain : (place : Mode) (kind : Kind) (opening : Opening) (len : ℕ) (rest : Text) (body : Body) → PlainStep (literal_by place kind opening len rest body body.stop)
-body_plain place kind opening len rest body = literal_plain place kind opening len rest body body.stop
+body_plain : (mode : Mode) (kind : Kind) (opening : Opening) (len : ℕ) (rest : Text) (body : Body) → PlainStep (literal_by mode kind opening len rest body body.stop)
+body_plain mode kind opening len rest body = literal_plain mode kind opening len rest body body.stop
 
-opener_plain : (place : Mode) (kind : Kind) (opening : Opening) (len : ℕ) (rest : Text) → PlainStep (opener place kind opening len rest)
-opener_plain place OfFString opening len rest = refl
-opener_plain place OfText opening len rest = body_plain place OfText opening (len + more_quotes opening) (drop (more_quotes opening) rest) (body_at (record { kind = OfText; opening = opening }) (drop (more_quotes opening) rest))
-opener_plain place OfBytes opening len rest = body_plain place OfBytes opening (len + more_quotes opening) (drop (more_quotes opening) rest) (body_at (record { kind = OfBytes; opening = opening }) (drop (more_quotes opening) rest))
+opener_plain : (mode : Mode) (kind : Kind) (opening : Opening) (len : ℕ) (rest : Text) → PlainStep (opener mode kind opening len rest)
+opener_plain mode OfFString opening len rest = refl
+opener_plain mode OfText opening len rest = body_plain mode OfText opening (len + more_quotes opening) (drop (more_quotes opening) rest) (body_at (record { kind = OfText; opening = opening }) (drop (more_quotes opening) rest))
+opener_plain mode OfBytes opening len rest = body_plain mode OfBytes opening (len + more_quotes opening) (drop (more_quotes opening) rest) (body_at (record { kind = OfBytes; opening = opening }) (drop (more_quotes opening) rest))
 
 chunk_piece_plain : (body : Body) (node : Token) (len : ℕ) → is_newline node ≡ false → is_dedent node ≡ false → PlainStep (chunk_piece body node len)
 chunk_piece_plain body node len h k = go (body_value body)
@@ -143,9 +143,9 @@ chunk_plain opening text = go (body_at (record { kind = OfFString; opening = ope
     go : (body : Body) → PlainStep (chunk_by opening text body body.stop)
     go body = chunk_by_plain opening text body body.stop
 
-terminal_plain : (place : Mode) (token : Terminal) → (is_newline (terminal_token place token) ≡ false) × (is_dedent (terminal_token place token) ≡ false)
+terminal_plain : (mode : Mode) (token : Terminal) → (is_newline (terminal_token mode token) ≡ false) × (is_dedent (terminal_token mode token) ≡ false)
 terminal_plain AtTop terminal.ClosingCurly = (refl, refl)
-terminal_plain place token = (refl, refl)
+terminal_plain mode token = (refl, refl)
 
 margin_plain : (len : ℕ) (line : List Lexeme) (levels : List ℕ) (margin : Margin) → PlainStep (margin_step len line levels margin)
 unfolding margin_step
@@ -158,8 +158,8 @@ word_plain : (s : Situation) (class : Class) (front rest : Text) → PlainStep (
 word_plain s word.Skipped front rest = refl
 word_plain s word.Comment front rest = refl
 word_plain s word.Tabs front rest = tt
-word_plain s word.LineEnd front rest = either PlainStep (counts s.place s.is_balanced) _ _ (margin_plain _ _ _ _) refl
-word_plain s (word.Opener kind is_raw quote) front rest = opener_plain s.place kind (opening_of is_raw quote rest) (length front) rest
+word_plain s word.LineEnd front rest = either PlainStep (counts s.mode s.is_balanced) _ _ (margin_plain _ _ _ _) refl
+word_plain s (word.Opener kind is_raw quote) front rest = opener_plain s.mode kind (opening_of is_raw quote rest) (length front) rest
 word_plain s word.Reserved front rest = tt
 word_plain s word.Identifier front rest = refl
 word_plain s word.Decimal front rest = either PlainStep (starts_zero front) (fault 0 (StartsZero front) (length front)) (token (length front) (Int (integer_of 10 front))) tt refl
@@ -167,7 +167,7 @@ word_plain s word.Hexadecimal front rest = refl
 word_plain s word.Octal front rest = refl
 word_plain s word.Binary front rest = refl
 word_plain s word.Float front rest = refl
-word_plain s (word.Fixed token) front rest = let both = terminal_plain s.place token in token_plain (length front) (terminal_token s.place token) both.0 both.1
+word_plain s (word.Fixed token) front rest = let both = terminal_plain s.mode token in token_plain (length front) (terminal_token s.mode token) both.0 both.1
 
 front_plain : (s : Situation) (text : Text) (found : Option (Class × ℕ)) → PlainStep (front_step s text found)
 front_plain s text None = tt
@@ -175,9 +175,9 @@ front_plain s text (Some front) = word_plain s front.0 (take front.1 text) (drop
 
 code_plain : (s : Situation) (text : Text) → PlainStep (in_code language s text)
 code_plain s [] = tt
-code_plain s (b ∷ bs) = either PlainStep (takes_bang s.place s.before && is_bang (b ∷ bs)) (token 1 FStringBang) (front_step s (b ∷ bs) (longest_front (class_in language) (b ∷ bs))) refl (front_plain s (b ∷ bs) (longest_front (class_in language) (b ∷ bs)))
+code_plain s (b ∷ bs) = either PlainStep (takes_bang s.mode s.before && is_bang (b ∷ bs)) (token 1 FStringBang) (front_step s (b ∷ bs) (longest_front (class_in language) (b ∷ bs))) refl (front_plain s (b ∷ bs) (longest_front (class_in language) (b ∷ bs)))
 
-place_plain : (s : Situation) (place : Mode) (text : Text) → PlainStep (by_place language s place text)
+place_plain : (s : Situation) (mode : Mode) (text : Text) → PlainStep (by_mode language s mode text)
 place_plain s Outside text = code_plain s text
 place_plain s (InText opening) text = chunk_plain opening text
 place_plain s AtTop text = code_plain s text
@@ -185,9 +185,9 @@ place_plain s Deeper text = code_plain s text
 
 before_plain : (s : Situation) (before : Before) (text : Text) → PlainStep (by_before language s before text)
 before_plain s Nothing text = margin_plain 0 [] [] (margin_of text)
-before_plain s Layout text = place_plain s s.place text
-before_plain s Gap text = place_plain s s.place text
-before_plain s Other text = place_plain s s.place text
+before_plain s Layout text = place_plain s s.mode text
+before_plain s Gap text = place_plain s s.mode text
+before_plain s Other text = place_plain s s.mode text
 
 -- of a piece that is no margin's all lexemes are plain
 piece_plain : (history : History) (text : Text) (piece : Piece) → next_step language history text ≡ Stands piece → is_layout piece.sort ≡ false → list_all is_plain piece.lexemes ≡ true

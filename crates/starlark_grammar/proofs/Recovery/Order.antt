@@ -5,13 +5,13 @@ use Rattle.std.specs.List.{AllByRecursion}
 use Rattle.std.specs.Prelude.{Option, option_map}
 use Rattle.starlark_grammar.proofs.Lists.{drop-remainder}
 use Rattle.starlark_grammar.proofs.Order.Inside.{fault_within}
-use Rattle.starlark_grammar.proofs.Order.Lexemes.{outcome_order}
+use Rattle.starlark_grammar.proofs.Order.OrderedLexemes.{outcome_order}
 use Rattle.starlark_grammar.specs.Gaps.{InOrder}
 use Rattle.starlark_grammar.specs.Reading.{outcome}
 use Rattle.starlark_grammar.specs.Tokens.{Fault, Lexeme, Outcome, Spanned, moved}
 use Rattle.starlark_grammar.specs.Words.{Text}
 use Rattle.starlark_grammar.proofs.Recovery.EarlierLexemes.{EndBy, lexemes_before_faults}
-use Rattle.starlark_grammar.proofs.Recovery.Outcomes.{empty_faultless, faultless, lexes_on, restart_bounds, restart_later}
+use Rattle.starlark_grammar.proofs.Recovery.TextOutcomes.{empty_faultless, faultless, lexes_on, restart_bounds, restart_later}
 use Rattle.starlark_grammar.specs.Recovery.{faults_of, lexemes_of, moved_outcome, outcomes, recovered, restart}
 use Rattle.starlark_grammar.specs.RecoveryLaws.{AreInOrder, FaultsInOrder, IsInside, LexemesAfterFaults, LexemesInOrder, LexemesInside}
 

@@ -17,7 +17,7 @@ use Rattle.starlark_grammar.specs.Reading.{after_all, nothing, pieces_len}
 use Rattle.starlark_grammar.specs.Longest.{IsReading}
 use Rattle.starlark_grammar.proofs.Lists.{drop-sum}
 use Rattle.starlark_grammar.proofs.Reading.Steps.{is_nothing}
-use Rattle.starlark_grammar.proofs.Order.Lexemes.{Split, first_line, is_line}
+use Rattle.starlark_grammar.proofs.Order.OrderedLexemes.{Split, first_line, is_line}
 use Rattle.starlark_grammar.proofs.Joining.Followed.{ends_line, ends_line_made}
 use Rattle.starlark_grammar.proofs.Joining.FollowedMargins.{has_whole_lines, lines_followed}
 use Rattle.starlark_grammar.proofs.Joining.Joined.{margin_step_len, whole_from_ends}

@@ -9,23 +9,23 @@ use Rattle.starlark_grammar.specs.Words.{Text, class_in, language}
 use Rattle.starlark_grammar.specs.declared.class.LiteralKind.{LiteralKind as Kind}
 use Rattle.starlark_grammar.specs.declared.class.Class.{Class}
 use Rattle.starlark_grammar.specs.declared.class.LiteralKind.TheVariants.{Text as OfText, Bytes as OfBytes, FString as OfFString}
-use Rattle.starlark_grammar.specs.Characters.{first_character}
+use Rattle.starlark_grammar.specs.FrontCharacter.{first_character}
 use Rattle.starlark_grammar.specs.Front.{longest_front}
 use Rattle.starlark_grammar.specs.Margins.{begins_with_line_end, Margin, margin_of, margin_len, is_content, has_tab, width_of, fits}
 use Rattle.starlark_grammar.specs.Tokens.{Opening, FStringBang, Indentation, InvalidInput, InvalidTab, Lexeme, Newline, Spanned, Fault, Outcome}
 use Rattle.starlark_grammar.specs.Items.{Stop, Closing, Line, Ended, OpeningBrace, ClosingBrace, BadEscape, Body, body_at, body_len}
 use Rattle.starlark_grammar.specs.Depths.{Mode, Outside, InText, AtTop, Deeper}
-use Rattle.starlark_grammar.specs.Pieces.{Before, Nothing, Layout, Gap, Other, Piece, Step, Stands, Fails, Situation, token, fault, first_margin, margin_step, line_end, opening_of, more_quotes, escape_fault, literal_by, literal, opener, chunk_by, chunk, counts, word_step, front_step, takes_bang, is_bang, in_code, by_place, by_before, step_at}
+use Rattle.starlark_grammar.specs.Pieces.{Before, Nothing, Layout, Gap, Other, Piece, Step, Stands, Fails, Situation, token, fault, first_margin, margin_step, line_end, opening_of, more_quotes, escape_fault, literal_by, literal, opener, chunk_by, chunk, counts, word_step, front_step, takes_bang, is_bang, in_code, by_mode, by_before, step_at}
 use Rattle.starlark_grammar.specs.Reading.{History, after, after_all, nothing, situation, next_step, pieces_len, outcome}
 use Rattle.starlark_grammar.specs.Longest.{IsReading}
 use Rattle.starlark_grammar.proofs.Lists.{drop-sum}
-use Rattle.starlark_grammar.proofs.Lines.{in_line, line_fits, language_lines}
+use Rattle.starlark_grammar.proofs.WordNewlines.{in_line, line_fits, language_lines}
 use Rattle.starlark_grammar.proofs.Literals.Bodies.{StopFits, body_fits}
 use Rattle.starlark_grammar.proofs.Words.Fronts.{front_sound}
 use Rattle.starlark_grammar.proofs.Reading.Steps.{is_nothing}
 use Rattle.starlark_grammar.proofs.Reading.Readings.{piece_fits, started}
 use Rattle.starlark_grammar.proofs.Joining.Followed.{ends_line, ends_line_drop, longest_followed}
-use Rattle.starlark_grammar.proofs.Joining.FollowedMargins.{Followed, Whole, Within, followed, has_whole_lines, whole_behind}
+use Rattle.starlark_grammar.proofs.Joining.FollowedMargins.{Followed, Whole, Within, followed, has_whole_lines, whole_after}
 use Rattle.starlark_grammar.proofs.Joining.FollowedPieces.{bang_followed, opening_followed, opening_inside, word_inside}
 use Rattle.starlark_grammar.proofs.Joining.Joined.{step_within, whole_from_ends}
 use Rattle.starlark_grammar.proofs.Joining.LaidCuts.{reading_shortened}
@@ -73,8 +73,8 @@ margin_short len lexemes levels text more found whole fails less = go (followed 
 
 -- Literals
 
-module _ (place : Mode) (kind : Kind) (opening : Opening) (len : ℕ) (remainder more : Text) (body : Body) (found : Spanned Fault) (within : body_len body ≤ length (remainder ++ more)) (less : found.end < len + length remainder) where
-  literal_reach : (stop : Stop) → StopFits opening (drop (body_len body) (remainder ++ more)) stop → literal_by place kind opening len (remainder ++ more) body stop ≡ Fails found → StopInside (length remainder) (body_len body) stop × (body_len body < length remainder)
+module _ (mode : Mode) (kind : Kind) (opening : Opening) (len : ℕ) (remainder more : Text) (body : Body) (found : Spanned Fault) (within : body_len body ≤ length (remainder ++ more)) (less : found.end < len + length remainder) where
+  literal_reach : (stop : Stop) → StopFits opening (drop (body_len body) (remainder ++ more)) stop → literal_by mode kind opening len (remainder ++ more) body stop ≡ Fails found → StopInside (length remainder) (body_len body) stop × (body_len body < length remainder)
   literal_reach Closing fits e = cc
   literal_reach Line fits e = let end = fault_end _ found e in (tt, omega (arith, less, end))
   literal_reach OpeningBrace fits e = absurd (omega (arith, less, fault_end _ found e, length-append remainder more))
@@ -83,9 +83,9 @@ module _ (place : Mode) (kind : Kind) (opening : Opening) (len : ℕ) (remainder
   literal_reach (BadEscape read last) fits e =
       let end = escape_reads len (body_len body) read last opening (remainder ++ more) found within fits e in (omega (arith, less, end), omega (arith, less, end))
 
-  literal_back : (stop : Stop) → ends_line remainder ≡ true → (stop ≡ Line → opening.is_triple ≡ false) → StopInside (length remainder) (body_len body) stop → literal_by place kind opening len (remainder ++ more) body stop ≡ Fails found → literal_by place kind opening len remainder body stop ≡ Fails found
+  literal_back : (stop : Stop) → ends_line remainder ≡ true → (stop ≡ Line → opening.is_triple ≡ false) → StopInside (length remainder) (body_len body) stop → literal_by mode kind opening len (remainder ++ more) body stop ≡ Fails found → literal_by mode kind opening len remainder body stop ≡ Fails found
   literal_back Closing h single stops e = cc
-  literal_back Line h single stops e = ap (λ (node : Fault). fault 0 node (len + body_len body)) (sym (unfinished_followed place kind opening remainder more h (single refl))) ∙ e
+  literal_back Line h single stops e = ap (λ (node : Fault). fault 0 node (len + body_len body)) (sym (unfinished_followed mode kind opening remainder more h (single refl))) ∙ e
   literal_back OpeningBrace h single stops e = absurd (omega (arith, less, fault_end _ found e, length-append remainder more))
   literal_back ClosingBrace h single stops e = absurd (omega (arith, less, fault_end _ found e, length-append remainder more))
   literal_back Ended h single stops e = absurd stops
@@ -94,25 +94,25 @@ module _ (place : Mode) (kind : Kind) (opening : Opening) (len : ℕ) (remainder
       ∙ ap (λ (t : Text). escape_fault (len + body_len body) (drop 1 (take read t))) (sym (drop-append-le (body_len body) remainder more (omega (arith, stops))))
       ∙ e
 
-literal_short : (place : Mode) (kind : Kind) (opening : Opening) (len : ℕ) (remainder more : Text) (found : Spanned Fault) → ends_line remainder ≡ true → literal place kind opening len (remainder ++ more) ≡ Fails found → found.end < len + length remainder → literal place kind opening len remainder ≡ Fails found
-literal_short place kind opening len remainder more found h e less =
+literal_short : (mode : Mode) (kind : Kind) (opening : Opening) (len : ℕ) (remainder more : Text) (found : Spanned Fault) → ends_line remainder ≡ true → literal mode kind opening len (remainder ++ more) ≡ Fails found → found.end < len + length remainder → literal mode kind opening len remainder ≡ Fails found
+literal_short mode kind opening len remainder more found h e less =
     let body : Body = body_at (record { kind = kind; opening = opening }) (remainder ++ more) in
     let within = body_fits (record { kind = kind; opening = opening }) (remainder ++ more) in
-    let inside = literal_reach place kind opening len remainder more body found within.0 less body.stop within.1 e in
-    ap (λ (b : Body). literal_by place kind opening len remainder b b.stop) (body_short (record { kind = kind; opening = opening }) remainder more h inside.0 inside.1)
-    ∙ literal_back place kind opening len remainder more body found within.0 less body.stop h (body_single (record { kind = kind; opening = opening }) (remainder ++ more)) inside.0 e
+    let inside = literal_reach mode kind opening len remainder more body found within.0 less body.stop within.1 e in
+    ap (λ (b : Body). literal_by mode kind opening len remainder b b.stop) (body_short (record { kind = kind; opening = opening }) remainder more h inside.0 inside.1)
+    ∙ literal_back mode kind opening len remainder more body found within.0 less body.stop h (body_single (record { kind = kind; opening = opening }) (remainder ++ more)) inside.0 e
 
-literal_behind_short : (place : Mode) (kind : Kind) (opening : Opening) (len quotes : ℕ) (remainder more : Text) (found : Spanned Fault) → ends_line remainder ≡ true → quotes < length remainder → literal place kind opening (len + quotes) (drop quotes (remainder ++ more)) ≡ Fails found → found.end < len + length remainder
-    → literal place kind opening (len + quotes) (drop quotes remainder) ≡ Fails found
-literal_behind_short place kind opening len quotes remainder more found h some e less =
-    literal_short place kind opening (len + quotes) (drop quotes remainder) more found (ends_line_drop quotes remainder some h)
-    (subst (λ (t : Text). literal place kind opening (len + quotes) t ≡ Fails found) (drop-append-le quotes remainder more (omega (arith, some))) e) (omega (arith, less, some, length-drop quotes remainder))
+literal_after_short : (mode : Mode) (kind : Kind) (opening : Opening) (len quotes : ℕ) (remainder more : Text) (found : Spanned Fault) → ends_line remainder ≡ true → quotes < length remainder → literal mode kind opening (len + quotes) (drop quotes (remainder ++ more)) ≡ Fails found → found.end < len + length remainder
+    → literal mode kind opening (len + quotes) (drop quotes remainder) ≡ Fails found
+literal_after_short mode kind opening len quotes remainder more found h some e less =
+    literal_short mode kind opening (len + quotes) (drop quotes remainder) more found (ends_line_drop quotes remainder some h)
+    (subst (λ (t : Text). literal mode kind opening (len + quotes) t ≡ Fails found) (drop-append-le quotes remainder more (omega (arith, some))) e) (omega (arith, less, some, length-drop quotes remainder))
 
-opener_short : (place : Mode) (kind : Kind) (opening : Opening) (len : ℕ) (remainder more : Text) (found : Spanned Fault) → ends_line remainder ≡ true → more_quotes opening < length remainder → opener place kind opening len (remainder ++ more) ≡ Fails found → found.end < len + length remainder
-    → opener place kind opening len remainder ≡ Fails found
-opener_short place OfFString opening len remainder more found h some e less = e
-opener_short place OfText opening len remainder more found h some e less = literal_behind_short place OfText opening len (more_quotes opening) remainder more found h some e less
-opener_short place OfBytes opening len remainder more found h some e less = literal_behind_short place OfBytes opening len (more_quotes opening) remainder more found h some e less
+opener_short : (mode : Mode) (kind : Kind) (opening : Opening) (len : ℕ) (remainder more : Text) (found : Spanned Fault) → ends_line remainder ≡ true → more_quotes opening < length remainder → opener mode kind opening len (remainder ++ more) ≡ Fails found → found.end < len + length remainder
+    → opener mode kind opening len remainder ≡ Fails found
+opener_short mode OfFString opening len remainder more found h some e less = e
+opener_short mode OfText opening len remainder more found h some e less = literal_after_short mode OfText opening len (more_quotes opening) remainder more found h some e less
+opener_short mode OfBytes opening len remainder more found h some e less = literal_after_short mode OfBytes opening len (more_quotes opening) remainder more found h some e less
 
 -- Texts of f-strings
 
@@ -139,7 +139,7 @@ word_short : (s : Situation) (class : Class) (front remainder more : Text) (foun
 word_short s word.Skipped front remainder more found ends fits whole e less = inl e
 word_short s word.Comment front remainder more found ends fits whole e less = inl e
 word_short s word.Tabs front remainder more found ends fits whole e less = inl e
-word_short s word.LineEnd front remainder more found ends fits whole e less = go (counts s.place s.is_balanced) e
+word_short s word.LineEnd front remainder more found ends fits whole e less = go (counts s.mode s.is_balanced) e
   where
     step : Bool → Text → Step
     step counted remainder = if counted then line_end (length front) s.levels remainder else Stands (record { len = length front; lexemes = []; width = None; sort = Other })
@@ -153,8 +153,8 @@ word_short s word.LineEnd front remainder more found ends fits whole e less = go
     go false e = cc
 word_short s (word.Opener kind is_raw quote) front remainder more found ends fits whole e less =
     let h = ends fits in
-    inl (opener_short s.place kind (opening_of is_raw quote remainder) (length front) remainder more found h (opening_inside is_raw quote remainder h)
-    (sym (ap (λ (opening : Opening). opener s.place kind opening (length front) (remainder ++ more)) (opening_followed is_raw quote remainder more h)) ∙ e) less)
+    inl (opener_short s.mode kind (opening_of is_raw quote remainder) (length front) remainder more found h (opening_inside is_raw quote remainder h)
+    (sym (ap (λ (opening : Opening). opener s.mode kind opening (length front) (remainder ++ more)) (opening_followed is_raw quote remainder more h)) ∙ e) less)
 word_short s word.Reserved front remainder more found ends fits whole e less = inl e
 word_short s word.Identifier front remainder more found ends fits whole e less = inl e
 word_short s word.Decimal front remainder more found ends fits whole e less = inl e
@@ -177,7 +177,7 @@ front_short s text more None found h known e less =
     let end : length (first_character (text ++ more)) ≡ found.end = fault_end _ found e in
     inl (ap (λ (t : Text). fault 0 (InvalidInput t) (length t)) (character_shortened text more (omega (arith, less, end))) ∙ e)
 front_short s text more (Some front) found h known e less =
-    by (word_short s front.0 (take front.1 text) (drop front.1 text) more found ends (language_lines (take front.1 text) front.0 sound.2) (whole_behind front.1 text (whole_from_ends text h)) (sym again ∙ e) (omega (arith, less, len, length-drop front.1 text, sound.1)))
+    by (word_short s front.0 (take front.1 text) (drop front.1 text) more found ends (language_lines (take front.1 text) front.0 sound.2) (whole_after front.1 text (whole_from_ends text h)) (sym again ∙ e) (omega (arith, less, len, length-drop front.1 text, sound.1)))
   where
     sound : (1 ≤ front.1) × (front.1 ≤ length text) × (class_in language (take front.1 text) ≡ Some front.0)
     sound = front_sound (class_in language) text front.0 front.1 known
@@ -202,15 +202,15 @@ front_short s text more (Some front) found h known e less =
 code_short : (s : Situation) (text more : Text) (found : Spanned Fault) → ends_line text ≡ true → in_code language s (text ++ more) ≡ Fails found → found.end < length text → (in_code language s text ≡ Fails found) ⊎ LineBeyond text more found
 code_short s [] more found h e less = cc
 code_short s (b ∷ bs) more found h e less =
-    go (takes_bang s.place s.before && is_bang (b ∷ bs))
-    (sym (ap (λ (front : Option (Class × ℕ)). step (takes_bang s.place s.before && is_bang (b ∷ (bs ++ more))) (b ∷ (bs ++ more)) front) known
+    go (takes_bang s.mode s.before && is_bang (b ∷ bs))
+    (sym (ap (λ (front : Option (Class × ℕ)). step (takes_bang s.mode s.before && is_bang (b ∷ (bs ++ more))) (b ∷ (bs ++ more)) front) known
     ∙ ap (λ bang. step bang (b ∷ (bs ++ more)) (longest_front (class_in language) (b ∷ bs))) same) ∙ e)
   where
     step : Bool → Text → Option (Class × ℕ) → Step
     step bang text front = if bang then token 1 FStringBang else front_step s text front
 
-    same : (takes_bang s.place s.before && is_bang (b ∷ (bs ++ more))) ≡ (takes_bang s.place s.before && is_bang (b ∷ bs))
-    same = ap (λ bang. takes_bang s.place s.before && bang) (bang_followed b bs more h)
+    same : (takes_bang s.mode s.before && is_bang (b ∷ (bs ++ more))) ≡ (takes_bang s.mode s.before && is_bang (b ∷ bs))
+    same = ap (λ bang. takes_bang s.mode s.before && bang) (bang_followed b bs more h)
 
     known : longest_front (class_in language) (b ∷ (bs ++ more)) ≡ longest_front (class_in language) (b ∷ bs)
     known = longest_followed (b ∷ bs) more h
@@ -233,7 +233,7 @@ step_short s text more found h e less = before s.before e
     in_place before (inl fails) = inl fails
     in_place before (inr beyond) = inr (inr beyond)
 
-    at : (place : Mode) → by_place language s place (text ++ more) ≡ Fails found → (by_place language s place text ≡ Fails found) ⊎ LineBeyond text more found
+    at : (mode : Mode) → by_mode language s mode (text ++ more) ≡ Fails found → (by_mode language s mode text ≡ Fails found) ⊎ LineBeyond text more found
     at Outside e = code_short s text more found h e less
     at (InText opening) e = inl (chunk_short opening text more found h e less)
     at AtTop e = code_short s text more found h e less
@@ -245,9 +245,9 @@ step_short s text more found h e less = before s.before e
 
     before : (before : Before) → by_before language s before (text ++ more) ≡ Fails found → (by_before language s before text ≡ Fails found) ⊎ (FirstBeyond before text more found ⊎ LineBeyond text more found)
     before Nothing e = first e (margin_short 0 [] [] text more found (whole_from_ends text h) e (omega (arith, less)))
-    before Layout e = in_place Layout (at s.place e)
-    before Gap e = in_place Gap (at s.place e)
-    before Other e = in_place Other (at s.place e)
+    before Layout e = in_place Layout (at s.mode e)
+    before Gap e = in_place Gap (at s.mode e)
+    before Other e = in_place Other (at s.mode e)
 
 next_short : (history : History) (text more : Text) (found : Spanned Fault) → ends_line text ≡ true → next_step language history (text ++ more) ≡ Fails found → found.end < length text
     → (next_step language history text ≡ Fails found) ⊎ (FirstBeyond history.before text more found ⊎ LineBeyond text more found)
@@ -331,10 +331,10 @@ module _ (text more : Text) (fault : Spanned Fault) (some : 0 < length more) (le
         let n : ℕ = next.n in
         let p : ℕ = pieces_len here.pieces in
         let begin : fault.begin ≡ p = begin_is next.beyond.0 in
-        let place : drop fault.begin (text ++ more) ≡ drop p text ++ more = ap (λ k. drop k (text ++ more)) begin ∙ left in
-        let line : begins_with_line_end (drop fault.begin (text ++ more)) ≡ true = ap begins_with_line_end place ∙ line_begins (drop p text ++ more) n next.line in
+        let mode : drop fault.begin (text ++ more) ≡ drop p text ++ more = ap (λ k. drop k (text ++ more)) begin ∙ left in
+        let line : begins_with_line_end (drop fault.begin (text ++ more)) ≡ true = ap begins_with_line_end mode ∙ line_begins (drop p text ++ more) n next.line in
         let tab : is_margin_tab (text ++ more) fault ≡ true = rw (node next.beyond.0, line) (or_true (fault.begin == 0)) in
-        let len : line_end_len (drop fault.begin (text ++ more)) ≡ n = ap line_end_len place ∙ line_is (drop p text ++ more) n next.line in
+        let len : line_end_len (drop fault.begin (text ++ more)) ≡ n = ap line_end_len mode ∙ line_is (drop p text ++ more) n next.line in
         let within = next.inside in
         let rest : drop (p + n) (text ++ more) ≡ drop n (drop p text) ++ more = drop-sum p n (text ++ more) ∙ ap (drop n) left ∙ drop-append-le n (drop p text) more within in
         let at : (margin_of (drop (p + n) (text ++ more))).at ≡ (margin_of (drop n (drop p text) ++ more)).at = ap (λ (t : Text). (margin_of t).at) rest in

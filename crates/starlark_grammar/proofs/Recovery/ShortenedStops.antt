@@ -14,7 +14,7 @@ use Rattle.starlark_grammar.specs.declared.class.Quote.{Quote}
 use Rattle.starlark_grammar.specs.declared.class.LiteralKind.{LiteralKind as Kind}
 use Rattle.starlark_grammar.specs.declared.class.LiteralKind.TheVariants.{Text as OfText, Bytes as OfBytes, FString as OfFString}
 use Rattle.starlark_grammar.specs.Items.{Literal, Item, Stop, Closing, Line, Ended, OpeningBrace, ClosingBrace, BadEscape, Found, Goes, Stops, goes, closing_quotes, broken, broken_by, is_character, numbered, hexadecimal, octal, escaped_newline, simple_escapes, simple, is_of_bytes, escape, raw_pair, brace, is_brace, found_at, Body, body_len, body_onward, body_from, body_at}
-use Rattle.starlark_grammar.specs.Characters.{first_character}
+use Rattle.starlark_grammar.specs.FrontCharacter.{first_character}
 use Rattle.starlark_grammar.proofs.Literals.Bodies.{found_fits, FoundFits}
 use Rattle.starlark_grammar.proofs.Joining.Followed.{ends_line, ends_line_rest}
 use Rattle.starlark_grammar.proofs.Joining.FollowedBodies.{both, both_equal, closing_in_line, starts_followed}

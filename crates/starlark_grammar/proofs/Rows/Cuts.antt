@@ -133,7 +133,7 @@ joins_2 :
 unfolding all_definitions is_settled is_clean_cut_in is_clean_cut is_kept_cut
 joins_2 = (refl, refl, refl, refl, refl, refl, refl)
 
--- what a clean cut and a text remainder it with a tab in its first margin come to
+-- what a clean cut and a text after it with a tab in its first margin come to
 abbrev Tabbed : Text → Text → Outcome → Type 0
 Tabbed first second found = (outcome (first ++ second) ≡ found) × (tabbed (length first) (without_closing (outcome first).lexemes) (margin_of second).comments ≡ found)
 
@@ -143,12 +143,12 @@ tab_at place = Some (at place InvalidTab place)
 abbrev name : ℕ → Text → ℕ → Lexeme
 name begin text end = at begin (Identifier text) end
 
--- the last `Newline` is taken back, with the comments remainder it; where there is none all comments stay
-tabs_behind_cuts :
+-- the last `Newline` is taken back, with the comments after it; where there is none all comments stay
+tabs_after_cuts :
     Tabbed (codes "x\n") (codes "\ty") (record { lexemes = name 0 (codes "x") 1 ∷ []; fault = tab_at 1 })
     × Tabbed (codes "x\n# a\n") (codes "\ty") (record { lexemes = name 0 (codes "x") 1 ∷ []; fault = tab_at 1 })
     × Tabbed (codes "x\n\n") (codes "# a\n\ty") (record { lexemes = name 0 (codes "x") 1 ∷ at 1 Newline 2 ∷ []; fault = tab_at 2 })
     × Tabbed (codes "# a\n") (codes "# b\n \ty\n") (record { lexemes = at 0 (Comment (codes " a")) 3 ∷ at 4 (Comment (codes " b")) 7 ∷ []; fault = tab_at 0 })
     × Tabbed (codes "x\n(\n)\r\n") (codes "\ty") (record { lexemes = name 0 (codes "x") 1 ∷ at 1 Newline 2 ∷ at 2 (Word OpeningRound) 3 ∷ at 4 (Word ClosingRound) 5 ∷ []; fault = tab_at 5 })
 unfolding all_definitions is_settled is_clean_cut_in is_clean_cut is_kept_cut
-tabs_behind_cuts = ((refl, refl), (refl, refl), (refl, refl), (refl, refl), (refl, refl))
+tabs_after_cuts = ((refl, refl), (refl, refl), (refl, refl), (refl, refl), (refl, refl))

@@ -260,7 +260,7 @@ nested_2 :
 unfolding all_definitions
 nested_2 = (refl, refl, refl, refl, refl)
 
--- what stands remainder f-strings
+-- what stands after f-strings
 after_them :
     Lexes (codes "f'{x}'\ny") (at 0 (fstring_start cooked single plain) 2 ∷ at 2 FStringExprStart 3 ∷ at 3 (Identifier (codes "x")) 4 ∷ at 4 FStringExprEnd 5 ∷ at 5 FStringEnd 6 ∷ at 6 Newline 7 ∷ at 7 (Identifier (codes "y")) 8 ∷ at 8 Newline 8 ∷ [])
     × Lexes (codes "f'{x\ny") (at 0 (fstring_start cooked single plain) 2 ∷ at 2 FStringExprStart 3 ∷ at 3 (Identifier (codes "x")) 4 ∷ at 5 (Identifier (codes "y")) 6 ∷ at 6 Newline 6 ∷ [])

@@ -10,19 +10,19 @@ use Rattle.starlark_grammar.specs.declared.class.Terminal.TheVariants.{Ellipsis,
 use Rattle.starlark_grammar.specs.Front.{longest_front, language_front}
 use Rattle.starlark_grammar.specs.Numbers.{Small, Big, integer_of, integer_in}
 
-abbrev Front : Text → Class → ℕ → Type 0
-Front text class len = language_front text ≡ Some (class, len)
+abbrev HasFront : Text → Class → ℕ → Type 0
+HasFront text class len = language_front text ≡ Some (class, len)
 
 fronts :
-    Front (codes "....5") (Fixed Ellipsis) 3
-    × Front (codes "1e+") Decimal 1
-    × Front (codes "1.5e-3x") Float 6
-    × Front (codes "1..2") Float 2
-    × Front (codes "format") Identifier 6
-    × Front (codes "for mat") (Fixed For) 3
-    × Front (codes "# a\r\n") Comment 3
-    × Front (codes "fr\"x\"") (Opener OfFString true DoubleQuote) 3
-    × Front (codes "\\\r\nx") Skipped 3
+    HasFront (codes "....5") (Fixed Ellipsis) 3
+    × HasFront (codes "1e+") Decimal 1
+    × HasFront (codes "1.5e-3x") Float 6
+    × HasFront (codes "1..2") Float 2
+    × HasFront (codes "format") Identifier 6
+    × HasFront (codes "for mat") (Fixed For) 3
+    × HasFront (codes "# a\r\n") Comment 3
+    × HasFront (codes "fr\"x\"") (Opener OfFString true DoubleQuote) 3
+    × HasFront (codes "\\\r\nx") Skipped 3
 unfolding openers line_ends symbols names patterns language class_in longest_front language_front
 fronts = (refl, refl, refl, refl, refl, refl, refl, refl, refl)
 

@@ -96,9 +96,9 @@ based_plain lower upper p (z ∷ letter ∷ digits) h k m e =
     rw (zero_plain, either_byte letter lower upper h k inner.1) (run_plain p digits m outer.1)
 
 -- digits in front change nothing
-behind_plain : (text : Text) → is_plain (after_digits text) ≡ true → is_plain text ≡ true
-behind_plain [] h = refl
-behind_plain (b ∷ bs) h = go (is_ascii_digit b) refl h (behind_plain bs)
+after_plain : (text : Text) → is_plain (after_digits text) ≡ true → is_plain text ≡ true
+after_plain [] h = refl
+after_plain (b ∷ bs) h = go (is_ascii_digit b) refl h (after_plain bs)
   where
     go : (digit : Bool) → is_ascii_digit b ≡ digit → is_plain (drop (cond digit (1 + prefix_len is_ascii_digit bs) 0) (b ∷ bs)) ≡ true → (is_plain (after_digits bs) ≡ true → is_plain bs ≡ true) → is_plain (b ∷ bs) ≡ true
     go false e h more = h
@@ -130,7 +130,7 @@ fraction_plain [] h = refl
 fraction_plain (b ∷ bs) h =
     let parts = and_parts (b == 46) (ends_float (after_digits bs)) h in
     let first : is_ascii b ≡ true = let same : b ≡ 46 = eqb-true b 46 parts.0 in rw same refl in
-    rw first (behind_plain bs (ends_plain (after_digits bs) parts.1))
+    rw first (after_plain bs (ends_plain (after_digits bs) parts.1))
 
 float_plain : (word : Text) → is_float word ≡ true → is_plain word ≡ true
 float_plain word h =
@@ -138,8 +138,8 @@ float_plain word h =
     go (is_fraction (after_digits word)) refl parts.1
   where
     go : (fraction : Bool) → is_fraction (after_digits word) ≡ fraction → (fraction || is_exponent (after_digits word)) ≡ true → is_plain word ≡ true
-    go true e h = behind_plain word (fraction_plain (after_digits word) e)
-    go false e h = behind_plain word (exponent_plain (after_digits word) h)
+    go true e h = after_plain word (fraction_plain (after_digits word) e)
+    go false e h = after_plain word (exponent_plain (after_digits word) h)
 
 pointed_plain : (word : Text) → is_pointed word ≡ true → is_plain word ≡ true
 pointed_plain word h = fraction_plain word (and_parts (is_fraction word) (begins_with_digit (drop 1 word)) h).0

@@ -163,12 +163,12 @@ digits_are_number base digits most h = rw (digits_unsigned base digits most h, h
 
 -- Comments
 
--- a text may be cut remainder a comment's `#`
+-- a text may be cut after a comment's `#`
 pub comment_boundary : (word : Text) → IsUtf8 word → class_in language word ≡ Some Comment → IsCharBoundary word 1
-comment_boundary word utf8 known = behind_hash word utf8 (word_is_of word Comment known)
+comment_boundary word utf8 known = after_hash word utf8 (word_is_of word Comment known)
   where
-    behind_hash : (word : Text) → IsUtf8 word → is_comment word ≡ true → IsCharBoundary word 1
-    behind_hash [] utf8 h = cc
-    behind_hash (b ∷ bs) utf8 h =
+    after_hash : (word : Text) → IsUtf8 word → is_comment word ≡ true → IsCharBoundary word 1
+    after_hash [] utf8 h = cc
+    after_hash (b ∷ bs) utf8 h =
         let same : b ≡ 35 = eqb-true b 35 (and_parts (b == 35) _ h).0 in
         IsCharBoundary-after_ascii (b ∷ bs) 0 utf8 (omega arith) (omega (arith, same))

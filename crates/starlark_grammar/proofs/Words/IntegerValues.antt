@@ -35,9 +35,9 @@ digits_in_lower_case base n (d ∷ ds) =
     rw (← same) rest
 
 -- zeros at the front
-behind_zeros : (base : ℕ) (digits : Text) → digits_value base (drop (prefix_len (nat_eq 48) digits) digits) ≡ digits_value base digits
-behind_zeros base [] = refl
-behind_zeros base (d ∷ ds) = by_digit (behind_zeros base ds) (nat_eq 48 d) refl
+after_zeros : (base : ℕ) (digits : Text) → digits_value base (drop (prefix_len (nat_eq 48) digits) digits) ≡ digits_value base digits
+after_zeros base [] = refl
+after_zeros base (d ∷ ds) = by_digit (after_zeros base ds) (nat_eq 48 d) refl
   where
     by_digit : digits_value base (drop (prefix_len (nat_eq 48) ds) ds) ≡ digits_value base ds → (is_zero : Bool) → nat_eq 48 d ≡ is_zero → digits_value base (drop (cond is_zero (1 + prefix_len (nat_eq 48) ds) 0) (d ∷ ds)) ≡ digits_value base (d ∷ ds)
     by_digit rest false e = refl
@@ -48,7 +48,7 @@ behind_zeros base (d ∷ ds) = by_digit (behind_zeros base ds) (nat_eq 48 d) ref
         rw (one_more, start) rest
 
 pub plain_value : (base : ℕ) (digits : Text) → digits_value base (plain_digits digits) ≡ digits_value base digits
-plain_value base digits = rw (digits_in_lower_case base 0 (drop (prefix_len (nat_eq 48) digits) digits)) (behind_zeros base digits)
+plain_value base digits = rw (digits_in_lower_case base 0 (drop (prefix_len (nat_eq 48) digits) digits)) (after_zeros base digits)
 
 pub value_is_kept : IntegersKeepTheirValue
 unfolding integer_of

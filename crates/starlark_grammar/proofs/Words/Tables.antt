@@ -21,7 +21,7 @@ unfolding class_in
 class_in-listed [] word = refl
 class_in-listed (row ∷ rows) word = ap (cond (bytes_eq word row.0) (Some row.1)) (class_in-listed rows word)
 
--- the class by a list of words and a table remainder it
+-- the class by a list of words and a table after it
 pub class_in-remainder : (rows : List (Text × Class)) (back : Table) (word : Text) → class_in (listed rows ++ back) word ≡ option_or (lookup (bytes_eq word) rows) (class_in back word)
 class_in-remainder rows back word = class_in-append (listed rows) back word ∙ ap (λ found. option_or found (class_in back word)) (class_in-listed rows word)
 

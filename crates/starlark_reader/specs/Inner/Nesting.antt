@@ -7,12 +7,12 @@ use Rattle.starlark_grammar.specs.Depths.{Mode, Outside, InText, AtTop, Deeper, 
 use Rattle.starlark_grammar.specs.Inner.Openings.{opening_view}
 use Rattle.starlark_token.specs.TokenViews.{TokenView, Whole}
 use Rattle.starlark_reader.specs.declared.nesting.LexerMode.{LexerMode}
-use Rattle.starlark_reader.specs.declared.nesting.LexerMode.TheVariants as place
+use Rattle.starlark_reader.specs.declared.nesting.LexerMode.TheVariants as modes
 use Rattle.starlark_reader.specs.declared.nesting.Nesting.{Nesting}
-use Rattle.starlark_reader.specs.declared.changes.Change.{Change}
-use Rattle.starlark_reader.specs.declared.changes.Change.TheVariants as change
-use Rattle.starlark_reader.specs.declared.counts.Brackets.{Brackets}
-use Rattle.starlark_reader.specs.declared.counts.OpenFString.{OpenFString}
+use Rattle.starlark_reader.specs.declared.changes.NestingChange.{NestingChange}
+use Rattle.starlark_reader.specs.declared.changes.NestingChange.TheVariants as change
+use Rattle.starlark_reader.specs.declared.bracket_counts.Brackets.{Brackets}
+use Rattle.starlark_reader.specs.declared.bracket_counts.OpenFString.{OpenFString}
 
 -- whether a token is the start of an f-string
 abbrev pub is_fstring_start : grammar.Token → Bool
@@ -21,13 +21,13 @@ is_fstring_start token = false
 
 -- the mode of the grammar
 abbrev pub mode_view : LexerMode → Mode
-mode_view place.Outside = Outside
-mode_view (place.InText opening) = InText (opening_view opening)
-mode_view place.AtTop = AtTop
-mode_view place.Deeper = Deeper
+mode_view modes.Outside = Outside
+mode_view (modes.InText opening) = InText (opening_view opening)
+mode_view modes.AtTop = AtTop
+mode_view modes.Deeper = Deeper
 
 -- the effect of a token on brackets and f-strings, except for one that begins an f-string
-unfoldable pub change_by : TokenView → Change
+unfoldable pub change_by : TokenView → NestingChange
 change_by (Whole (grammar.Word terminal.OpeningRound)) = change.OpensRound
 change_by (Whole (grammar.Word terminal.OpeningSquare)) = change.OpensSquare
 change_by (Whole (grammar.Word terminal.OpeningCurly)) = change.OpensCurly
@@ -40,14 +40,14 @@ change_by (Whole grammar.FStringEnd) = change.EndsFString
 change_by token = change.Nothing
 
 -- how many brackets an effect opens
-abbrev pub opens : Change → ℕ
+abbrev pub opens : NestingChange → ℕ
 opens change.OpensRound = 1
 opens change.OpensSquare = 1
 opens change.OpensCurly = 1
 opens change = 0
 
 -- how many brackets an effect closes
-abbrev pub closes : Change → ℕ
+abbrev pub closes : NestingChange → ℕ
 closes change.ClosesRound = 1
 closes change.ClosesSquare = 1
 closes change.ClosesCurly = 1

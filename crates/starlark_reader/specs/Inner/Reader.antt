@@ -9,7 +9,7 @@ use Rattle.starlark_grammar.specs.Depths.{is_balanced, mode_after}
 use Rattle.starlark_grammar.specs.Front.{language_front}
 use Rattle.starlark_grammar.specs.Pieces as pieces
 use Rattle.starlark_grammar.specs.Pieces.{Before, Gap, Layout, Other, Step, Piece, Fails, counts, is_bang}
-use Rattle.starlark_words.specs.Inner.Words.{word_view}
+use Rattle.starlark_words.specs.Inner.ScannedWords.{word_view}
 use Rattle.starlark_words.specs.declared.scanner.word.Word.{Word}
 use Rattle.starlark_grammar.specs.Reading.{History, Reading, after_all, nothing, pieces_len, lexemes_along, closing, next_step, read, read_from, outcome}
 use Rattle.starlark_grammar.specs.Longest.{IsReading}
@@ -17,8 +17,8 @@ use Rattle.starlark_token.specs.Lexemes.{fault_view, lexeme_view, shown_lexeme}
 use Rattle.starlark_reader.specs.Inner.MarginCuts.{IsAfterLines, IsCutBefore, IsMarginAhead}
 use Rattle.starlark_reader.specs.Inner.Pending.{IsIdle, IsPending, pending_lexemes}
 use Rattle.starlark_reader.specs.Inner.Nesting.{Represents, bracket_count}
-use Rattle.starlark_reader.specs.Inner.Pieces.{is_code}
-use Rattle.starlark_reader.specs.Inner.Steps.{text_step}
+use Rattle.starlark_reader.specs.Inner.PieceViews.{is_code}
+use Rattle.starlark_reader.specs.Inner.StepViews.{text_step}
 use Rattle.starlark_reader.specs.declared.literal.chunks.PlainText.{PlainText}
 use Rattle.starlark_token.specs.TokenViews.{TokenView, Whole}
 use Rattle.starlark_grammar.specs.declared.class.Terminal.{Terminal}

@@ -3,8 +3,8 @@
 ghost use Rattle.std.specs.Prelude.{◌<◌, ◌≤◌, ◌+◌, ◌*◌, IfErr, IfOk};
 ghost use Rattle.starlark_grammar.specs.AfterFaults.{next_line};
 ghost use Rattle.starlark_words.specs.Inner.Reads.{AreReads};
-ghost use Rattle.starlark_reader.specs.Inner.Reads.{AreStepReads};
-ghost use Rattle.starlark_reader.specs.Inner.Steps.{IsPlainText, IsStep};
+ghost use Rattle.starlark_reader.specs.Inner.ReadBounds.{AreStepReads};
+ghost use Rattle.starlark_reader.specs.Inner.StepViews.{IsPlainText, IsStep};
 ghost use Rattle.starlark_grammar.specs.Inner.Openings.{opening_view};
 ghost use Rattle.starlark_grammar.specs.Pieces as grammar;
 

@@ -3,13 +3,13 @@
 ghost use Rattle.std.specs.Prelude.{◌≡◌, ◌≢◌, ◌+◌, ◌<◌, ◌^◌, Some, false, length, not, IfOk};
 ghost use Rattle.starlark_grammar.specs.Depths.{Mode};
 ghost use Rattle.starlark_grammar.specs.Items as items;
-ghost use Rattle.starlark_reader.specs.Inner.Steps.{IsStep};
+ghost use Rattle.starlark_reader.specs.Inner.StepViews.{IsStep};
 ghost use Rattle.starlark_reader.specs.Inner.Nesting.{is_fstring_start};
-ghost use Rattle.starlark_reader.specs.Inner.Reads.{AreWordReads, IsFaultAt, is_tab_error};
+ghost use Rattle.starlark_reader.specs.Inner.ReadBounds.{AreWordReads, IsFaultAt, is_tab_error};
 ghost use Rattle.starlark_words.specs.Inner.Reads.{AreReads, more_reads};
 ghost use Rattle.starlark_token.specs.Lexemes.{fault_view};
 ghost use Rattle.starlark_grammar.specs.Cuts.{is_outside};
-ghost use Rattle.starlark_words.specs.Inner.Literals.{bytes_of, holds_text};
+ghost use Rattle.starlark_words.specs.Inner.LiteralViews.{bytes_of, holds_text};
 ghost use Rattle.starlark_grammar.specs.Inner.Openings.{opening_view};
 ghost use Rattle.starlark_grammar.specs.Pieces as grammar;
 ghost use Rattle.starlark_token.specs.TokenViews.{Whole, fstring_quote_view, token_view};
@@ -65,7 +65,7 @@ fn unfinished(
     literal: Literal,
     remainder: &str,
 ) -> LexemeError
-    ensures fault { (place : Mode) → is_outside place ≡ outside → fault_view result ≡ Some (grammar.unfinished place literal.kind (opening_view literal.opening) remainder.now) }
+    ensures fault { (mode : Mode) → is_outside mode ≡ outside → fault_view result ≡ Some (grammar.unfinished mode literal.kind (opening_view literal.opening) remainder.now) }
     ensures reads { AreReads 0 (length remainder.now) reads.old reads.new }
     ensures untabbed { is_tab_error result ≡ false }
 {
@@ -125,7 +125,7 @@ fn literal_from(
     remainder: &str,
 ) -> Result<Step, AllocError>
     requires { len + length remainder.now < 2 ^ 64 }
-    ensures step { IfOk result (λ step. (place : Mode) → is_outside place ≡ outside → IsStep (grammar.literal place literal.kind (opening_view literal.opening) len remainder.now) step) }
+    ensures step { IfOk result (λ step. (mode : Mode) → is_outside mode ≡ outside → IsStep (grammar.literal mode literal.kind (opening_view literal.opening) len remainder.now) step) }
     ensures reads { IfOk result (λ step. AreWordReads len 9 0 0 6 step reads.old reads.new) }
 {
     let body = read_body(reads, alloc, literal, remainder)?;
@@ -211,8 +211,8 @@ pub(crate) fn literal_piece(
     requires kind { kind ≢ OfFString }
     requires fits { len + length remainder.now < 2 ^ 64 }
     ensures reads { IfOk result (λ step. AreWordReads len 9 2 0 8 step reads.old reads.new) }
-    ensures step { IfOk result (λ step. (place : Mode) → is_outside place ≡ outside →
-        IsStep (grammar.opener place kind (grammar.opening_of is_raw quote remainder.now) len remainder.now) step) }
+    ensures step { IfOk result (λ step. (mode : Mode) → is_outside mode ≡ outside →
+        IsStep (grammar.opener mode kind (grammar.opening_of is_raw quote remainder.now) len remainder.now) step) }
 {
     let opening = Opening {
         is_raw,

@@ -32,11 +32,11 @@ pub fn own_token(terminal: Terminal) -> Token
 /// ends the expression.
 #[tactic(auto, unfolding(starlark_token::specs::TokenViews::token_view))]
 #[inline(always)]
-pub(crate) fn terminal_token(place: LexerMode, terminal: Terminal) -> Token
-    ensures token { token_view result ≡ Whole (grammar.terminal_token (mode_view place) terminal) }
-    ensures own { is_fstring_start (grammar.terminal_token (mode_view place) terminal) ≡ false }
+pub(crate) fn terminal_token(mode: LexerMode, terminal: Terminal) -> Token
+    ensures token { token_view result ≡ Whole (grammar.terminal_token (mode_view mode) terminal) }
+    ensures own { is_fstring_start (grammar.terminal_token (mode_view mode) terminal) ≡ false }
 {
-    match place {
+    match mode {
         LexerMode::AtTop => match terminal {
             Terminal::ClosingCurly => Token::FStringExprEnd,
             other => own_token(other),
@@ -52,7 +52,7 @@ pub(crate) fn token_in(nesting: &Nesting, terminal: Terminal) -> Token
     ensures own { (before : List Tokens.Token) → Represents before nesting.now → is_fstring_start (grammar.terminal_token (mode_after before) terminal) ≡ false }
 {
     match terminal {
-        Terminal::ClosingCurly => terminal_token(nesting.place(), terminal),
+        Terminal::ClosingCurly => terminal_token(nesting.mode(), terminal),
         _ => own_token(terminal),
     }
 }

@@ -3,9 +3,9 @@
 ghost use Rattle.std.specs.Prelude.{◌≡◌, ◌≤◌, ◌<◌, ◌+◌, ◌∷◌, [], Some, drop, false, length, true, IfOk};
 ghost use Rattle.std.specs.Char.{is_digit};
 ghost use Rattle.starlark_words.specs.Inner.Reads.{more_reads};
-ghost use Rattle.starlark_words.specs.Inner.Words.{is_number};
-ghost use Rattle.starlark_reader.specs.Inner.Reads.{IsOfWord, IsTabFault};
-ghost use Rattle.starlark_reader.specs.Inner.Steps.{IsStep, number_of};
+ghost use Rattle.starlark_words.specs.Inner.ScannedWords.{is_number};
+ghost use Rattle.starlark_reader.specs.Inner.ReadBounds.{IsOfWord, IsTabFault};
+ghost use Rattle.starlark_reader.specs.Inner.StepViews.{IsStep, number_of};
 ghost use Rattle.starlark_grammar.specs.Numbers.{integer_of};
 ghost use Rattle.starlark_grammar.specs.Pieces as grammar;
 ghost use Rattle.starlark_grammar.specs.Tokens as tokens;

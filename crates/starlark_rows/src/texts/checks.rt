@@ -1,6 +1,6 @@
 //! Checks of every text: its lexemes, a lexer whose code map has another source, and the output.
 
-use crate::lexeme_lines::{add_fault, add_lexeme, file_of};
+use crate::printed_items::{add_fault, add_lexeme, file_of};
 use starlark_syntax::codemap::{CodeMap, OrMemory};
 use starlark_syntax::dialect::Dialect;
 use starlark_syntax::eval_exception::EvalException;

@@ -1,6 +1,6 @@
 //! Counts of many texts, each of which is lexed and checked.
 
-use crate::lexeme_lines::file_of;
+use crate::printed_items::file_of;
 use crate::texts::checks::{lexed_in, wrong_with_lexed};
 use starlark_run::{Watched, run};
 use starlark_syntax::lexer::LexedText;

@@ -14,16 +14,16 @@ use Rattle.starlark_grammar.specs.Cuts.{is_clean_cut, is_kept_cut, is_settled, w
 use Rattle.starlark_grammar.proofs.Joining.KeptPlaces.{cut_some}
 use Rattle.starlark_grammar.proofs.Joining.Laws.{kept_cuts_keep}
 use Rattle.starlark_grammar.proofs.Joining.LineCuts.{kept_parts}
-use Rattle.starlark_syntax.specs.Inner.LexedTexts.{AreCuts, IsCutOf, IsPart, IsRising, PartView, cuts_at, end_cuts, holds_cut}
+use Rattle.starlark_syntax.specs.Inner.LexedTexts.{AreCuts, IsCutOf, IsReadPart, IsRising, PartView, cuts_at, end_cuts, holds_cut}
 use Rattle.starlark_reader.specs.Inner.MarginCuts.{IsCutBefore, lexemes_before}
 use Rattle.starlark_syntax.specs.declared.cuts.Cut.{Cut}
-use Rattle.starlark_syntax.proofs.LexedTexts.CleanCuts.{faultless_cut, faulty_cut}
+use Rattle.starlark_syntax.proofs.LexedTexts.CleanEnds.{faultless_cut, faulty_cut}
 use Rattle.starlark_syntax.proofs.LexedTexts.KeptCuts.{in_order, some_lexemes, take_all, whole_kept}
 use Rattle.starlark_syntax.proofs.LexedTexts.HeldCuts.{held_left, held_one, held_right, kept_inside}
-use Rattle.starlark_syntax.proofs.LexedTexts.Relexed.{all_both}
-use Rattle.starlark_syntax.proofs.LexedTexts.Joined.{begun}
-use Rattle.starlark_reader.proofs.Pieces.Onward.{margin_first}
-use Rattle.starlark_reader.proofs.Pieces.Taken.{no_tab}
+use Rattle.starlark_syntax.proofs.LexedTexts.RelexedOutcomes.{all_both}
+use Rattle.starlark_syntax.proofs.LexedTexts.JoinedLists.{begun}
+use Rattle.starlark_reader.proofs.TakenPieces.Onward.{margin_first}
+use Rattle.starlark_reader.proofs.TakenPieces.Taken.{no_tab}
 use Rattle.starlark_reader.specs.Inner.Reader.{IsReached, IsStateAfter, begins_with_tab, has_read_none, history_of}
 use Rattle.starlark_syntax.specs.Exceptions.{IsException, IsFaultIn}
 use Rattle.starlark_syntax.specs.Inner.LexerStates.{HasAnswered, IsBegun, IsLexing, left_in, view_of}
@@ -50,7 +50,7 @@ file_is text file state found is = ap (λ (v : LexerView). v.code_map) is.view
 pub goes_on : (text : Text) (file : SourceFile) (state : LexerState) (found : List (ℕ × Token × ℕ)) → IsCollected text file state found → state.has_ended ≡ false
 goes_on text file state found is = ap (λ (v : LexerView). v.has_ended) is.view
 
--- with one lexeme more, right remainder which a kept cut is reached
+-- with one lexeme more, right after which a kept cut is reached
 pub one_more : (text : Text) (file : SourceFile) (old new : LexerState) (found : List (ℕ × Token × ℕ)) (lexeme : ℕ × Token × ℕ) → IsCollected text file old found → HasAnswered old (Some (Ok lexeme)) new → IsLexing new
     → view_of new ≡ record (view_of old) { yielded_count = old.yielded_count + 1; has_ended = false; reads = new.reader.reads }
     → IsCollected text file new (found ++ lexeme ∷ []) × (length found < length (outcome text).lexemes) × ((at : ℕ) → IsCutBefore text at (length (left_in new)) → IsReached new.reader at)
@@ -117,7 +117,7 @@ pub all_weaker : {A : Type 0} (P Q : A → Type 0) (xs : List A) → ((x : A) �
 all_weaker P Q [] more all = tt
 all_weaker P Q (x ∷ xs) more all = (more x all.0, all_weaker P Q xs more all.1)
 
--- one more remainder them
+-- one more after them
 rising_last : (cuts : List Cut) (last : Cut) → IsRising cuts → AllByRecursion (λ (cut : Cut). cut.at < last.at) cuts → IsRising (cuts ++ last ∷ [])
 rising_last [] last rising before = (tt, tt)
 rising_last (cut ∷ cuts) last rising before = (all_both (λ (remainder : Cut). cut.at < remainder.at) cuts (last ∷ []) rising.0 (before.0, tt), rising_last cuts last rising.1 before.1)
@@ -138,20 +138,20 @@ pub some_weaker : {A : Type 0} (x : Option A) (P Q : A → Type 0) → ((a : A) 
 some_weaker None P Q more h = tt
 some_weaker (Some a) P Q more h = more a h
 
--- remainder one lexeme more, where there may be a cut
+-- after one lexeme more, where there may be a cut
 pub cuts_more : (text : Text) (count : ℕ) (rest : List (Spanned TokenView)) (cuts : List Cut) (place : Option ℕ) → AreCutsSoFar text count cuts → (count + 1) + length rest ≡ length (outcome text).lexemes → IfSome place (λ at. IsCutBefore text at (length rest))
     → ((at : ℕ) → IsCutBefore text at (length rest) → place ≡ Some at) → AreCutsSoFar text (count + 1) (cuts ++ cuts_at place (count + 1))
 cuts_more text count rest cuts place so whole found reached = by place found reached
   where
-    right_behind : (at : ℕ) → is_kept_cut text at ≡ true → at < length text → lexemes_before text at ≤ count + 1 → count < lexemes_before text at → IsCutBefore text at (length rest)
-    right_behind at kept inside few more = record { inside = inside; is_kept = kept; count = omega (arith, whole, few, more) }
+    right_after : (at : ℕ) → is_kept_cut text at ≡ true → at < length text → lexemes_before text at ≤ count + 1 → count < lexemes_before text at → IsCutBefore text at (length rest)
+    right_after at kept inside few more = record { inside = inside; is_kept = kept; count = omega (arith, whole, few, more) }
 
     all_more : (more : List Cut) → ((at : ℕ) → IsCutBefore text at (length rest) → holds_cut at more ≡ true) → (at : ℕ) → is_kept_cut text at ≡ true → at < length text → lexemes_before text at ≤ count + 1 → holds_cut at (cuts ++ more) ≡ true
     all_more more last at kept inside few = go (nat_le (lexemes_before text at) count) refl
       where
         go : (b : Bool) → nat_le (lexemes_before text at) count ≡ b → holds_cut at (cuts ++ more) ≡ true
         go true e = held_left at cuts more (so.all at kept inside (leb-true (lexemes_before text at) count e))
-        go false e = held_right at cuts more (last at (right_behind at kept inside few (leb-false (lexemes_before text at) count e)))
+        go false e = held_right at cuts more (last at (right_after at kept inside few (leb-false (lexemes_before text at) count e)))
 
     few_more : AllByRecursion (λ (cut : Cut). cut.lexemes ≤ count + 1) cuts
     few_more = all_weaker (λ (cut : Cut). cut.lexemes ≤ count) (λ (cut : Cut). cut.lexemes ≤ count + 1) cuts (λ cut few. omega (arith, few)) so.few
@@ -175,7 +175,7 @@ cuts_more text count rest cuts place so whole found reached = by place found rea
           all = all_more (last ∷ []) (λ other there. let same : Some at ≡ Some other = reached other there in let equal : at ≡ other = cc in subst (λ n. holds_cut n (record { at = at; lexemes = count + 1 } ∷ []) ≡ true) equal (held_one (record { at = at; lexemes = count + 1 })));
         }
 
--- remainder all lexemes they are all but the text's end
+-- after all lexemes they are all but the text's end
 kept_few : (text : Text) (at : ℕ) → is_kept_cut text at ≡ true → lexemes_before text at ≤ length (outcome text).lexemes
 kept_few text at kept = let law = kept_cuts_keep text at kept in omega (arith, ap length law.1, length-append (without_closing (outcome (take at text)).lexemes) law.0)
 
@@ -191,7 +191,7 @@ all_held text cuts more count so same last at kept = go (nat_lt at (length text)
 
 -- with the exception of the text's fault after them
 pub fault_given : (text : Text) (file : SourceFile) (state new : LexerState) (part : PartView) (exception : Diagnosed ErrorKind) → IsCollected text file state part.lexemes → HasAnswered state (Some (Err (Error exception))) new
-    → AreCutsSoFar text (length part.lexemes) part.cuts → part.fault ≡ Some exception → part.is_cut ≡ false → part.has_tab ≡ has_read_none new.reader → IsPart file text part
+    → AreCutsSoFar text (length part.lexemes) part.cuts → part.fault ≡ Some exception → part.is_cut ≡ false → part.has_tab ≡ has_read_none new.reader → IsReadPart file text part
 fault_given text file state new part exception is answer so thrown no_cut tab =
     let same : state.text.now ≡ text = text_is text file state part.lexemes is in
     let fault : (outcome text).fault ≡ Some answer.1.0 = ap (λ (t : Text). (outcome t).fault) (sym same) ∙ answer.1.1 in
@@ -208,7 +208,7 @@ fault_given text file state new part exception is answer so thrown no_cut tab =
       tab = tab ∙ answer.2 ∙ ap begins_with_tab same;
     }
 
--- the cut at a text's end, where it is one, remainder others
+-- the cut at a text's end, where it is one, after others
 end_is : (text : Text) (cuts : List Cut) (count : ℕ) (is_cut : Bool) → AreCutsSoFar text count cuts → is_cut ≡ is_clean_cut text → count ≡ length (outcome text).lexemes → AreCuts text (cuts ++ end_cuts text count is_cut)
 end_is text cuts count true so is same =
     let last : IsCutOf text (record { at = length text; lexemes = count - 1 }) = subst (λ n. IsCutOf text (record { at = length text; lexemes = n - 1 })) (sym same) (whole_kept text (sym is)) in
@@ -225,7 +225,7 @@ end_is text cuts count false so is same = record {
 
 -- where the text has none
 pub all_given : (text : Text) (file : SourceFile) (state new : LexerState) (part : PartView) (cuts : List Cut) → IsCollected text file state part.lexemes → HasAnswered state None new → part.fault ≡ None
-    → AreCutsSoFar text (length part.lexemes) cuts → part.cuts ≡ cuts ++ end_cuts text (length part.lexemes) part.is_cut → part.is_cut ≡ is_clean_cut text → part.has_tab ≡ false → IsPart file text part
+    → AreCutsSoFar text (length part.lexemes) cuts → part.cuts ≡ cuts ++ end_cuts text (length part.lexemes) part.is_cut → part.is_cut ≡ is_clean_cut text → part.has_tab ≡ false → IsReadPart file text part
 all_given text file state new part cuts is answer no_fault so same is_cut no_tabs =
     let none : (outcome text).fault ≡ None = ap (λ (t : Text). (outcome t).fault) (sym (text_is text file state part.lexemes is)) ∙ answer.1 in
     record {

@@ -67,7 +67,7 @@ held_front at to (suc n) (cut ∷ cuts) h beyond less = go (cut.at == at) h (λ 
     go true h more = refl
     go false h more = more h
 
--- one cut less before those that lie remainder a place
+-- one cut less before those that lie after a place
 pub beyond_more : (cuts : List Cut) (from n : ℕ) (d : Cut) → n < length cuts → from < (slice_index_or cuts n d).at → AreBeyond cuts from (suc n) → AreBeyond cuts from n
 beyond_more [] from n d inside here beyond = absurd (omega (arith, inside))
 beyond_more (cut ∷ cuts) from zero d inside here beyond = (here, beyond)
@@ -91,7 +91,7 @@ kept_some text at h =
     let clean = (kept_parts text at h).1 in
     omega (arith, ends_some (take at text) (cut (take at text) clean).ends, length-take at text)
 
--- A kept cut of a text lies as well in another that begins as that does, if not remainder a kept cut of that.
+-- A kept cut of a text lies as well in another that begins as that does, if not after a kept cut of that.
 pub kept_in : (old new : Text) (at x : ℕ) → take at old ≡ take at new → is_kept_cut old at ≡ true → x ≤ at → is_clean_cut (take x new) ≡ true → is_kept_cut old x ≡ true
 kept_in old new at x same kept less clean =
     let front : take x old ≡ take x new = sym (take_less x at old less) ∙ ap (take x) same ∙ take_less x at new less in

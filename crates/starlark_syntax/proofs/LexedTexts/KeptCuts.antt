@@ -16,7 +16,7 @@ use Rattle.starlark_grammar.proofs.Reading.Readings.{longest_onward, one_longest
 use Rattle.starlark_syntax.specs.Inner.LexedTexts.{IsCutOf}
 use Rattle.starlark_reader.specs.Inner.MarginCuts.{lexemes_before}
 use Rattle.starlark_syntax.specs.declared.cuts.Cut.{Cut}
-use Rattle.starlark_syntax.proofs.LexedTexts.Joined.{outcome_joined}
+use Rattle.starlark_syntax.proofs.LexedTexts.JoinedLists.{outcome_joined}
 use Rattle.std.proofs.lemmas.List.Sums.{sum_by-cons}
 
 -- A clean cut has no fault.

@@ -15,19 +15,19 @@ use Rattle.starlark_grammar.specs.TextLaws.{HasFirstMargin}
 use Rattle.starlark_grammar.proofs.Joining.Laws.{cuts_of_joined, faults_join, kept_cuts_keep}
 use Rattle.starlark_grammar.proofs.Joining.LineCuts.{kept_by, kept_parts}
 use Rattle.starlark_reader.specs.Inner.MarginCuts.{IsCutBefore, lexemes_before}
-use Rattle.starlark_reader.proofs.Pieces.Onward.{margin_first}
-use Rattle.starlark_reader.proofs.Pieces.Taken.{no_tab}
+use Rattle.starlark_reader.proofs.TakenPieces.Onward.{margin_first}
+use Rattle.starlark_reader.proofs.TakenPieces.Taken.{no_tab}
 use Rattle.starlark_syntax.specs.Exceptions.{IsFaultIn}
-use Rattle.starlark_syntax.specs.Inner.LexedTexts.{AreCuts, IsCutOf, IsMet, IsPart, IsPartTo, IsRising, PartView, cuts_at, holds_cut, met_part, moved_cut, moved_lexeme}
+use Rattle.starlark_syntax.specs.Inner.LexedTexts.{AreCuts, IsCutOf, IsMet, IsReadPart, IsReadPartTo, IsRising, PartView, cuts_at, holds_cut, met_part, moved_cut, moved_lexeme}
 use Rattle.starlark_syntax.specs.Inner.LexerStates.{left_in}
 use Rattle.starlark_syntax.specs.declared.cuts.Cut.{Cut}
 use Rattle.starlark_syntax.specs.declared.meetings.Meeting.{Meeting}
 use Rattle.starlark_syntax.specs.declared.lexer_state.LexerState.{LexerState}
 use Rattle.starlark_syntax.proofs.LexedTexts.Collected.{AreCutsSoFar, IsCollected, all_counted}
 use Rattle.starlark_syntax.proofs.LexedTexts.HeldCuts.{held_left, held_right, kept_inside, or_true}
-use Rattle.starlark_syntax.proofs.LexedTexts.Joined.{begun, outcome_joined, shown_later}
+use Rattle.starlark_syntax.proofs.LexedTexts.JoinedLists.{begun, outcome_joined, shown_later}
 use Rattle.starlark_syntax.proofs.LexedTexts.KeptCuts.{clean_faultless, count_joined, no_more_before, reach_joined}
-use Rattle.starlark_syntax.proofs.LexedTexts.Relexed.{all_both, cut_later, rising_both}
+use Rattle.starlark_syntax.proofs.LexedTexts.RelexedOutcomes.{all_both, cut_later, rising_both}
 use Rattle.starlark_token.specs.Lexemes.{lexeme_view, shown_lexeme}
 use Rattle.starlark_token.specs.TokenViews.{TokenView}
 use Rattle.starlark_token.specs.declared.tokens.Token.{Token}
@@ -181,10 +181,10 @@ module _ (one other rest : Text) (clean_one : is_clean_cut one ≡ true) (clean_
       ∙ drop-append_seam (map shown_lexeme (without_closing (outcome one).lexemes)) (map shown_lexeme (map (moved (length one)) (outcome rest).lexemes))
       ∙ shown_later (length one) (outcome rest).lexemes
 
-  -- and remainder the other text
-  pub behind_other : (ls found : List (ℕ × Token × ℕ)) → map lexeme_view ls ≡ map shown_lexeme (outcome (one ++ rest)).lexemes → map lexeme_view found ≡ map shown_lexeme (without_closing (outcome other).lexemes)
+  -- and after the other text
+  pub after_other : (ls found : List (ℕ × Token × ℕ)) → map lexeme_view ls ≡ map shown_lexeme (outcome (one ++ rest)).lexemes → map lexeme_view found ≡ map shown_lexeme (without_closing (outcome other).lexemes)
       → map lexeme_view (found ++ map (moved_lexeme (length one) (length other)) (drop (count_of one) ls)) ≡ map shown_lexeme (outcome (other ++ rest)).lexemes
-  behind_other ls found lexed front =
+  after_other ls found lexed front =
       let whole : (outcome (other ++ rest)).lexemes ≡ without_closing (outcome other).lexemes ++ map (moved (length other)) (outcome rest).lexemes = ap (λ (o : Outcome). o.lexemes) (outcome_joined other rest clean_other none) in
       let after = views_moved (length one) (length other) (drop (count_of one) ls) (map shown_lexeme (outcome rest).lexemes) (after_one ls lexed) in
       map-append lexeme_view found (map (moved_lexeme (length one) (length other)) (drop (count_of one) ls))
@@ -197,14 +197,14 @@ module _ (one other rest : Text) (clean_one : is_clean_cut one ≡ true) (clean_
 -- A text that has a known text's bytes after a kept cut, where that has none of its faults: its lexemes and its cuts are
 -- those up to the cut, and then the known text's, moved.
 pub met_whole : (file : SourceFile) (text known : Text) (ls : List (ℕ × Token × ℕ)) (cuts : List Cut) (is_cut : Bool) (at index : ℕ) (cut : Cut) (part : PartView) → map lexeme_view ls ≡ map shown_lexeme (outcome known).lexemes → (outcome known).fault ≡ None
-    → is_cut ≡ is_clean_cut known → AreCuts known cuts → slice_get cuts index ≡ Some cut → drop at text ≡ drop cut.at known → IsPartTo text at part
-    → IsPart file text (met_part cut (record { at = at; lexemes = length part.lexemes }) index ls cuts is_cut part)
+    → is_cut ≡ is_clean_cut known → AreCuts known cuts → slice_get cuts index ≡ Some cut → drop at text ≡ drop cut.at known → IsReadPartTo text at part
+    → IsReadPart file text (met_part cut (record { at = at; lexemes = length part.lexemes }) index ls cuts is_cut part)
 met_whole file text known ls cuts is_cut at index cut part lexed faultless is are found same to =
     record {
       lexemes = ap (λ n. map lexeme_view (part.lexemes ++ map (moved_lexeme n at) (drop cut.lexemes ls))) (sym one_len)
           ∙ ap (λ n. map lexeme_view (part.lexemes ++ map (moved_lexeme (length (take cut.at known)) n) (drop cut.lexemes ls))) (sym other_len)
           ∙ ap (λ n. map lexeme_view (part.lexemes ++ map (moved_lexeme (length (take cut.at known)) (length (take at text))) (drop n ls))) one_count
-          ∙ behind_other (take cut.at known) (take at text) (drop at text) clean_one clean_other none ls part.lexemes (lexed ∙ ap (λ (t : Text). map shown_lexeme (outcome t).lexemes) (sym before)) to.lexemes
+          ∙ after_other (take cut.at known) (take at text) (drop at text) clean_one clean_other none ls part.lexemes (lexed ∙ ap (λ (t : Text). map shown_lexeme (outcome t).lexemes) (sym before)) to.lexemes
           ∙ ap (λ (t : Text). map shown_lexeme (outcome t).lexemes) whole;
       fault = subst (λ f. IsFaultIn file f None) (sym text_none) tt;
       cuts = record {
@@ -293,7 +293,7 @@ met_whole file text known ls cuts is_cut at index cut part lexed faultless is ar
 
 -- What was collected up to a kept cut that was just reached.
 pub met_front : (text : Text) (file : SourceFile) (state : LexerState) (cuts : List Cut) (at : ℕ) (part : PartView) → IsCollected text file state part.lexemes → IsCutBefore text at (length (left_in state)) → AreCutsSoFar text (length part.lexemes) part.cuts
-    → part.cuts ≡ cuts ++ cuts_at (Some at) (length part.lexemes) → IsPartTo text at part
+    → part.cuts ≡ cuts ++ cuts_at (Some at) (length part.lexemes) → IsReadPartTo text at part
 met_front text file state cuts at part is before so last = record {
   inside = before.inside;
   is_kept = before.is_kept;

@@ -13,15 +13,15 @@ use Rattle.starlark_grammar.specs.Reading.{outcome}
 use Rattle.starlark_grammar.specs.Cuts.{is_clean_cut, without_closing}
 use Rattle.starlark_grammar.proofs.Joining.Laws.{faults_join, kept_cuts_keep}
 use Rattle.starlark_grammar.proofs.Joining.LineCuts.{kept_parts}
-use Rattle.starlark_syntax.specs.Inner.LexedTexts.{AllAfter, AllNear, AllNearCuts, AreCuts, IsCutOf, IsMet, IsPart, IsPutIn, PartView, later, met_part, moved_cut, moved_lexeme}
+use Rattle.starlark_syntax.specs.Inner.LexedTexts.{AllAfter, AllNear, AllNearCuts, AreCuts, IsCutOf, IsMet, IsReadPart, IsPutIn, PartView, later, met_part, moved_cut, moved_lexeme}
 use Rattle.starlark_syntax.specs.declared.cuts.Begin.{Begin}
 use Rattle.starlark_syntax.specs.declared.cuts.Cut.{Cut}
 use Rattle.starlark_syntax.specs.declared.meetings.Meeting.{Meeting}
 use Rattle.starlark_syntax.proofs.LexedTexts.Collected.{all_weaker}
 use Rattle.starlark_syntax.proofs.LexedTexts.KeptCuts.{no_more_before}
-use Rattle.starlark_syntax.proofs.LexedTexts.Edits.{begin_few}
+use Rattle.starlark_syntax.proofs.LexedTexts.EditedOutcomes.{begin_few}
 use Rattle.starlark_syntax.proofs.LexedTexts.Meetings.{after_one, all_drop, beyond_one, met_whole, one_is}
-use Rattle.starlark_syntax.proofs.LexedTexts.Relexed.{count_near, cuts_near}
+use Rattle.starlark_syntax.proofs.LexedTexts.RelexedOutcomes.{count_near, cuts_near}
 use Rattle.starlark_syntax.proofs.LexedTexts.Within.{lexemes_near}
 use Rattle.starlark_token.specs.Lexemes.{lexeme_view, shown_lexeme}
 use Rattle.starlark_token.specs.TokenViews.{TokenView}
@@ -84,7 +84,7 @@ module _ (known text : Text) (lexemes : List (ℕ × Token × ℕ)) (cuts : List
   there = record { at = meeting.at; lexemes = length part.lexemes }
 
   -- what the text comes to
-  pub whole_is : (file : SourceFile) (is : Bool) → is ≡ is_clean_cut known → IsPart file text (met_part meeting.cut (record { at = meeting.at; lexemes = length part.lexemes }) (begin.cuts + meeting.index) lexemes cuts is part)
+  pub whole_is : (file : SourceFile) (is : Bool) → is ≡ is_clean_cut known → IsReadPart file text (met_part meeting.cut (record { at = meeting.at; lexemes = length part.lexemes }) (begin.cuts + meeting.index) lexemes cuts is part)
   whole_is file is same = met_whole file text known lexemes cuts is meeting.at (begin.cuts + meeting.index) meeting.cut part r.lexed r.faultless same r.are found r.met.same r.to
 
   -- the meeting lies after the edit

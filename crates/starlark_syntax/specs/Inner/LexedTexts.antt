@@ -17,7 +17,7 @@ use Rattle.starlark_reader.specs.Inner.Reader.{begins_with_tab}
 use Rattle.starlark_syntax.specs.declared.cuts.Begin.{Begin}
 use Rattle.starlark_syntax.specs.declared.cuts.Cut.{Cut}
 use Rattle.starlark_syntax.specs.declared.meetings.Meeting.{Meeting}
-use Rattle.starlark_syntax.specs.declared.parts.Part.{Part}
+use Rattle.starlark_syntax.specs.declared.read_parts.ReadPart.{ReadPart}
 use Rattle.starlark_syntax.specs.declared.tails.Kept.{Kept}
 
 -- a lexeme, moved by `len` bytes
@@ -105,11 +105,11 @@ pub record PartView : Type 0 where
   pub is_cut : Bool
   pub has_tab : Bool
 
-abbrev pub part_view : Part → PartView
+abbrev pub part_view : ReadPart → PartView
 part_view part = record { lexemes = part.lexemes.items; fault = part.fault; cuts = part.cuts.items; is_cut = part.is_cut; has_tab = part.has_tab }
 
 -- the part has the lexemes, the fault and the cuts of the text; the fault is in a code map
-pub record IsPart (file : SourceFile) (text : Text) (part : PartView) : Type 0 where
+pub record IsReadPart (file : SourceFile) (text : Text) (part : PartView) : Type 0 where
   pub lexemes : map lexeme_view part.lexemes ≡ map shown_lexeme (outcome text).lexemes
   pub fault : IsFaultIn file (outcome text).fault part.fault
   pub cuts : AreCuts text part.cuts
@@ -117,7 +117,7 @@ pub record IsPart (file : SourceFile) (text : Text) (part : PartView) : Type 0 w
   pub tab : part.has_tab ≡ begins_with_tab text
 
 -- the part has the lexemes and the cuts of the text up to a kept cut
-pub record IsPartTo (text : Text) (at : ℕ) (part : PartView) : Type 0 where
+pub record IsReadPartTo (text : Text) (at : ℕ) (part : PartView) : Type 0 where
   pub inside : at < length text
   pub is_kept : is_kept_cut text at ≡ true
   pub lexemes : map lexeme_view part.lexemes ≡ map shown_lexeme (without_closing (outcome (take at text)).lexemes)
@@ -159,7 +159,7 @@ pub record IsPutIn (known text : Text) (lexemes : List (ℕ × Token × ℕ)) (c
   pub are : AreCuts known cuts
   pub begins : IsBegin known cuts from begin
   pub met : IsMet text known (drop begin.cuts cuts) meeting
-  pub to : IsPartTo text meeting.at part
+  pub to : IsReadPartTo text meeting.at part
   pub known_short : length known < 2 ^ 32
   pub short : begin.at + length text < 2 ^ 32
 

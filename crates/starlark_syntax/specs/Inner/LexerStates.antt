@@ -10,7 +10,7 @@ use Rattle.starlark_grammar.specs.Words.{Text}
 use Rattle.starlark_grammar.specs.declared.class.Class.{Class}
 use Rattle.starlark_words.specs.declared.scanner.word.Word.{Word}
 use Rattle.starlark_reader.specs.Inner.Reader.{IsAhead, IsAheadAfter, IsAheadPast, IsSomething, IsStateAfter, IsTokenOf, IsWordHere, begins_with_tab, has_read_none, history_of}
-use Rattle.starlark_reader.specs.Inner.Reads.{HasRead}
+use Rattle.starlark_reader.specs.Inner.ReadBounds.{HasRead}
 use Rattle.starlark_syntax.specs.Exceptions.{IsException}
 use Rattle.starlark_syntax.specs.Inner.Looked.{GoesOn, HasReadWord, IsInReach, IsLooked, is_text_opener}
 use Rattle.starlark_syntax.specs.Lexer.{HasReadToFault, LexerView, is_ended_by, most_reads, yielded_by}

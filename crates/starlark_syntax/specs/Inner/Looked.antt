@@ -10,7 +10,7 @@ use Rattle.starlark_grammar.specs.declared.class.Class.TheVariants as class
 use Rattle.starlark_grammar.specs.declared.class.LiteralKind.TheVariants as kind
 use Rattle.starlark_reader.specs.Inner.Pending.{IsPending}
 use Rattle.starlark_reader.specs.Inner.Reader.{IsAtCode, IsInCode}
-use Rattle.starlark_reader.specs.Inner.Reads.{HasLooked, HasRead}
+use Rattle.starlark_reader.specs.Inner.ReadBounds.{HasLooked, HasRead}
 use Rattle.starlark_reader.specs.declared.reader.Reader.{Reader}
 use Rattle.starlark_reader.specs.declared.reader.Stage.TheVariants as stage
 use Rattle.starlark_syntax.specs.declared.lexer_state.Lookahead.{Lookahead}

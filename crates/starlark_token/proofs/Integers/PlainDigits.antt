@@ -32,10 +32,10 @@ plain_in_lower_case base (d ∷ ds) h =
     let digit : is_digit (to_ascii_lowercase d) base ≡ true = rw (value_in_lower_case d) parts.0 in
     rw (digit, no_capital d) (plain_in_lower_case base ds parts.1)
 
-all_behind : (base count : ℕ) (digits : Text) → list_all (λ b. is_digit b base) digits ≡ true → list_all (λ b. is_digit b base) (drop count digits) ≡ true
-all_behind base zero digits h = h
-all_behind base (suc count) [] h = refl
-all_behind base (suc count) (d ∷ ds) h = all_behind base count ds (and_parts _ _ h).1
+all_after : (base count : ℕ) (digits : Text) → list_all (λ b. is_digit b base) digits ≡ true → list_all (λ b. is_digit b base) (drop count digits) ≡ true
+all_after base zero digits h = h
+all_after base (suc count) [] h = refl
+all_after base (suc count) (d ∷ ds) h = all_after base count ds (and_parts _ _ h).1
 
 no_zero : (d : ℕ) → nat_eq 48 d ≡ false → not (to_ascii_lowercase d == 48) ≡ true
 no_zero d other = by_tests (nat_lt d 65) (nat_lt d 91) refl
@@ -61,4 +61,4 @@ no_zero_first (d ∷ ds) = by_digit (no_zero_first ds) (nat_eq 48 d) refl
 pub plain_digits_are_plain : (base : ℕ) (digits : Text) → is_run (λ b. is_digit b base) digits ≡ true → are_plain base (plain_digits digits) ≡ true
 plain_digits_are_plain base [] h = refl
 plain_digits_are_plain base (d ∷ ds) h =
-    rw (plain_in_lower_case base (drop (prefix_len (nat_eq 48) (d ∷ ds)) (d ∷ ds)) (all_behind base (prefix_len (nat_eq 48) (d ∷ ds)) (d ∷ ds) h), no_zero_first (d ∷ ds)) refl
+    rw (plain_in_lower_case base (drop (prefix_len (nat_eq 48) (d ∷ ds)) (d ∷ ds)) (all_after base (prefix_len (nat_eq 48) (d ∷ ds)) (d ∷ ds) h), no_zero_first (d ∷ ds)) refl

@@ -29,10 +29,10 @@ cut_text (suc len) (b ∷ rest) = ap (λ bytes. b ∷ bytes) (cut_text len rest)
 cut_len : (len : ℕ) (text : Text) → len ≤ length text → length (take len text) ≡ len
 cut_len len text inside = omega (arith, length-take len text)
 
--- what is left remainder a word is what its length says
-left_behind : (word more : Text) → drop (length word) (word ++ more) ≡ more
-left_behind [] more = refl
-left_behind (b ∷ word) more = left_behind word more
+-- what is left after a word is what its length says
+left_over : (word more : Text) → drop (length word) (word ++ more) ≡ more
+left_over [] more = refl
+left_over (b ∷ word) more = left_over word more
 
 cut_front : (word more : Text) → take (length word) (word ++ more) ≡ word
 cut_front [] more = refl
@@ -43,7 +43,7 @@ same_more : (text word more other further : Text) (class : Class) → text ≡ w
 same_more text word more other further class one two front found =
     let len : length word ≡ length other = ap len_of (sym front ∙ found) in (
       sym (cut_front word more) ∙ ap (take (length word)) (sym one ∙ two) ∙ ap (λ k. take k (other ++ further)) len ∙ cut_front other further,
-      sym (left_behind word more) ∙ ap (drop (length word)) (sym one ∙ two) ∙ ap (λ k. drop k (other ++ further)) len ∙ left_behind other further,
+      sym (left_over word more) ∙ ap (drop (length word)) (sym one ∙ two) ∙ ap (λ k. drop k (other ++ further)) len ∙ left_over other further,
     )
 
 -- words and further words
@@ -66,15 +66,15 @@ map_skipped [] other = refl
 map_skipped (piece ∷ pieces) other = ap (λ words. skipped piece ∷ words) (map_skipped pieces other)
 
 -- one skipped piece more
-pub behind_more : (text rest : Text) (len : ℕ) → IsAfterSkipped text rest → if_skipped (language_front rest) ≡ Some len → len ≤ length rest → IsAfterSkipped text (drop len rest)
-behind_more text rest len passed here inside =
+pub after_more : (text rest : Text) (len : ℕ) → IsAfterSkipped text rest → if_skipped (language_front rest) ≡ Some len → len ≤ length rest → IsAfterSkipped text (drop len rest)
+after_more text rest len passed here inside =
     let one = reads_one Skipped len rest (skipped_front (language_front rest) len here) inside in (
       passed.0 ++ take len rest ∷ [],
       subst (λ words. ReadCounter text words (drop len rest)) (sym (map_skipped passed.0 (take len rest ∷ [])))
           (reads_join text (map skipped passed.0) (skipped (take len rest) ∷ []) rest (drop len rest) passed.1 one),
     )
 
--- what is left remainder all skipped pieces is one text
+-- what is left after all skipped pieces is one text
 some_none : (n : ℕ) → ◌≡◌ {A = Option ℕ} (Some n) None → ⊥
 some_none n h = grind arith
 
@@ -89,7 +89,7 @@ one_rest text (piece ∷ pieces) (part ∷ parts) rest remainder here there none
     let same = same_more text piece here.0 part there.0 Skipped here.1 there.1 here.2 there.2 in
     one_rest here.0 pieces parts rest remainder here.3 (subst (λ t. ReadCounter t (map skipped parts) remainder) (sym same.1) there.3) none nothing
 
--- an identifier isn't skipped, and remainder the last piece nothing is
+-- an identifier isn't skipped, and after the last piece nothing is
 not_skipped : (front : Option (Class × ℕ)) (len : ℕ) → front ≡ Some (Identifier, len) → if_skipped front ≡ None
 not_skipped front len e = ap if_skipped e
 
@@ -97,12 +97,12 @@ nothing_left : if_skipped (language_front []) ≡ None
 unfolding language_front longest_front
 nothing_left = refl
 
--- The text that the code comes to: remainder skipped pieces, and none stands there.
+-- The text that the code comes to: after skipped pieces, and none stands there.
 pub record IsRest (text rest : Text) : Type 0 where
   pub passed : IsAfterSkipped text rest
   pub all : if_skipped (language_front rest) ≡ None
 
--- where an identifier stands there, and nothing but skipped pieces remainder it
+-- where an identifier stands there, and nothing but skipped pieces after it
 pub found_one : (text rest : Text) (len : ℕ) → IsRest text rest → if_identifier (language_front rest) ≡ Some len → len ≤ length rest → IsRest (drop len rest) [] → IsOneIdentifier text (take len rest)
 found_one text rest len begin here inside end =
     let name = reads_one Identifier len rest (identifier_front (language_front rest) len here) inside in
@@ -124,7 +124,7 @@ must_be text rest name begin one =
     record {
       front = ap language_front same ∙ here.2;
       name = ap (take (length name)) cut ∙ cut_front name here.0;
-      end = (one.remainder, subst (λ t. ReadCounter t (map skipped one.remainder) []) (sym (ap (drop (length name)) cut ∙ left_behind name here.0)) here.3);
+      end = (one.remainder, subst (λ t. ReadCounter t (map skipped one.remainder) []) (sym (ap (drop (length name)) cut ∙ left_over name here.0)) here.3);
     }
 
 pub none_there : (text rest name : Text) → IsRest text rest → if_identifier (language_front rest) ≡ None → IsOneIdentifier text name → ⊥
@@ -147,19 +147,19 @@ Answers text found = (name : Text) → (found ≡ Some name) ↔ IsOneIdentifier
 pub no_identifier : (text rest : Text) → IsRest text rest → if_identifier (language_front rest) ≡ None → Answers text None
 no_identifier text rest begin none name = (λ h. absurd (none_some name h), λ one. absurd (none_there text rest name begin none one))
 
-pub more_behind : (text rest remainder : Text) (len : ℕ) → IsRest text rest → if_identifier (language_front rest) ≡ Some len → IsRest (drop len rest) remainder → (length remainder == 0) ≡ false → Answers text None
-more_behind text rest remainder len begin here end more name = (λ h. absurd (none_some name h), λ one. absurd (not_empty remainder (only_one text rest remainder name len begin here end one).1 more))
+pub more_after : (text rest remainder : Text) (len : ℕ) → IsRest text rest → if_identifier (language_front rest) ≡ Some len → IsRest (drop len rest) remainder → (length remainder == 0) ≡ false → Answers text None
+more_after text rest remainder len begin here end more name = (λ h. absurd (none_some name h), λ one. absurd (not_empty remainder (only_one text rest remainder name len begin here end one).1 more))
   where
     not_empty : (bytes : Text) → bytes ≡ [] → (length bytes == 0) ≡ false → ⊥
     not_empty [] h more = grind arith
     not_empty (b ∷ bs) h more = grind arith
 
 pub one_found : (text rest remainder : Text) (len : ℕ) → IsRest text rest → if_identifier (language_front rest) ≡ Some len → len ≤ length rest → IsRest (drop len rest) remainder → (length remainder == 0) ≡ true → IsOneIdentifier text (take len rest)
-one_found text rest remainder len begin here inside end none = by_behind remainder end none
+one_found text rest remainder len begin here inside end none = by_after remainder end none
   where
-    by_behind : (bytes : Text) → IsRest (drop len rest) bytes → (length bytes == 0) ≡ true → IsOneIdentifier text (take len rest)
-    by_behind [] end none = found_one text rest len begin here inside end
-    by_behind (b ∷ bs) end none = grind arith
+    by_after : (bytes : Text) → IsRest (drop len rest) bytes → (length bytes == 0) ≡ true → IsOneIdentifier text (take len rest)
+    by_after [] end none = found_one text rest len begin here inside end
+    by_after (b ∷ bs) end none = grind arith
 
 pub one_alone : (text rest remainder : Text) (len : ℕ) → IsRest text rest → if_identifier (language_front rest) ≡ Some len → len ≤ length rest → IsRest (drop len rest) remainder → (length remainder == 0) ≡ true → Answers text (Some (take len rest))
 one_alone text rest remainder len begin here inside end none name = (

@@ -6,7 +6,7 @@ use Rattle.std.specs.Prelude.{IfSome}
 use Rattle.starlark_grammar.specs.Front.{language_front, longest_front}
 use Rattle.starlark_grammar.specs.Pieces.{is_bang}
 use Rattle.starlark_grammar.specs.Words.{Text, line_ends, symbols}
-use Rattle.starlark_words.specs.Inner.Words.{begins_number, word_view}
+use Rattle.starlark_words.specs.Inner.ScannedWords.{begins_number, word_view}
 use Rattle.starlark_words.specs.declared.scanner.word.Word.{Word}
 use Rattle.starlark_words.proofs.Scan.ByFirst.{front_mark}
 use Rattle.starlark_words.proofs.Scan.Listed.{lookup_fails}

@@ -14,11 +14,11 @@ use Rattle.starlark_grammar.specs.declared.class.LiteralKind.TheVariants.{Text a
 use Rattle.starlark_grammar.specs.declared.class.Quote.TheVariants.{Single as SingleQuote, Double as DoubleQuote}
 use Rattle.starlark_grammar.specs.Pieces.{is_bang}
 use Rattle.starlark_grammar.specs.Front.{longer, longest_front, language_front}
-use Rattle.starlark_words.specs.Inner.Words.{begins_number, is_quote, marks}
+use Rattle.starlark_words.specs.Inner.ScannedWords.{begins_number, is_quote, marks}
 use Rattle.starlark_grammar.proofs.Words.Fronts.{front_single, front_run}
 use Rattle.starlark_words.proofs.Scan.Listed.{class_of_name, opener_of, all_pass, begins_otherwise, lookup_fails, lookup_elsewhere, each_byte, implied}
 use Rattle.starlark_words.proofs.Scan.Marks.{mark_is}
-use Rattle.starlark_words.proofs.Scan.Fronts.{front_ended, run_and, take_behind}
+use Rattle.starlark_words.proofs.Scan.WordFronts.{front_ended, run_and, take_after}
 use Rattle.starlark_grammar.proofs.Words.Tables.{class_in-language}
 
 -- a byte that begins neither blanks, tabs, a comment nor a number
@@ -60,7 +60,7 @@ no_digit : (word : Text) → begins is_ascii_digit word ≡ false → begins_wit
 no_digit [] h = refl
 no_digit (b ∷ word) h = rw h refl
 
--- a point with no digit remainder it begins no number
+-- a point with no digit after it begins no number
 point_alone : (word : Text) → begins is_ascii_digit word ≡ false → is_pointed (46 ∷ word) ≡ false
 point_alone word h = and_false (is_fraction (46 ∷ word)) (begins_with_digit word) (no_digit word h)
 
@@ -100,7 +100,7 @@ is_empty : Text → Bool
 is_empty [] = true
 is_empty (b ∷ word) = false
 
--- whether no byte stands remainder the first that is in no name
+-- whether no byte stands after the first that is in no name
 abbrev ends_at_other : Text → Bool
 ends_at_other [] = true
 ends_at_other (b ∷ word) = cond (is_in_name b) (ends_at_other word) (is_empty word)
@@ -173,7 +173,7 @@ front_named (b ∷ rest) n small h e =
     one_more None name m = ap (λ k. Some (name, k)) (omega arith)
 
     shape : (n m : ℕ) → n ≡ suc m → run_and (opener_of (b ∷ take (m + 1) rest)) (class_of_name (b ∷ take m rest)) m ≡ named (opener_of (take (n + 1) (b ∷ rest))) (class_of_name (take n (b ∷ rest))) n
-    shape n m e = rw (e, take_behind b rest (suc m + 1) (m + 1) (omega arith)) (one_more _ _ m)
+    shape n m e = rw (e, take_after b rest (suc m + 1) (m + 1) (omega arith)) (one_more _ _ m)
 
 -- a byte of a name is below 128
 pub in_name_is_ascii : (b : ℕ) → is_in_name b ≡ true → b < 128
@@ -382,12 +382,12 @@ front_mark (x ∷ rest) b e small blank tab hash single double name number =
     digit_parts [] h = h
     digit_parts (c ∷ rest) h = or_left_false _ _ h
 
-    behind_point : (rest : Text) → b ≡ 46 → begins_number (b ∷ rest) ≡ false → begins is_ascii_digit rest ≡ false
-    behind_point [] point h = refl
-    behind_point (c ∷ rest) point h = rw point at h
+    after_point : (rest : Text) → b ≡ 46 → begins_number (b ∷ rest) ≡ false → begins is_ascii_digit rest ≡ false
+    after_point [] point h = refl
+    after_point (c ∷ rest) point h = rw point at h
 
     go : (point : Bool) → (b == 46) ≡ point → begins_number (b ∷ rest) ≡ false → longest_front (class_in language) (b ∷ rest) ≡ longest_front (class_in marks) (b ∷ rest)
     go true point h =
         let is : b ≡ 46 = point_is b point in
-        rw is (front_point rest (behind_point rest is h))
+        rw is (front_point rest (after_point rest is h))
     go false point h = front_mark_byte b rest (or_right _ _ (mark_or_point b small (no_branch b blank tab hash single double name (digit_parts rest h))) point) name

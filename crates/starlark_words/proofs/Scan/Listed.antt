@@ -10,7 +10,7 @@ use Rattle.std.specs.Str.{bytes_eq}
 use Rattle.starlark_grammar.specs.Words.{Text, openers, names}
 use Rattle.starlark_grammar.specs.declared.class.Class.{Class}
 use Rattle.starlark_grammar.specs.declared.class.Class.TheVariants.{Identifier}
-use Rattle.starlark_words.specs.Inner.Words.{class_by_rows}
+use Rattle.starlark_words.specs.Inner.ScannedWords.{class_by_rows}
 
 -- the class of a name
 abbrev pub class_of_name : Text → Class

@@ -5,12 +5,12 @@ use Rattle.std.specs.List.{slice_get}
 use Rattle.std.specs.Map.{lookup}
 use Rattle.std.specs.Option.{option_map, option_or}
 use Rattle.std.specs.Str.{bytes_eq}
-use Rattle.starlark_words.specs.Inner.Words.{marks}
+use Rattle.starlark_words.specs.Inner.ScannedWords.{marks}
 use Rattle.starlark_grammar.specs.Words.{Text, class_in, listed, line_ends, symbols}
 use Rattle.starlark_grammar.specs.declared.class.Class.{Class}
 use Rattle.starlark_grammar.specs.Front.{longer, longest_front}
 use Rattle.starlark_words.proofs.Scan.Listed.{all_pass, lookup_fails}
-use Rattle.starlark_words.proofs.Scan.Fronts.{front_triple}
+use Rattle.starlark_words.proofs.Scan.WordFronts.{front_triple}
 use Rattle.starlark_grammar.proofs.Words.Tables.{class_in-remainder, class_in-listed}
 
 -- the class of a mark

@@ -9,7 +9,7 @@ use Rattle.std.specs.Prelude.{IfSome}
 use Rattle.starlark_grammar.specs.Front.{language_front}
 use Rattle.starlark_grammar.specs.Pieces.{is_bang}
 use Rattle.starlark_grammar.specs.Words.{Text, openers, is_in_name}
-use Rattle.starlark_words.specs.Inner.Words.{is_quote, plain_opener, quote_after, quote_of, raw_opener, text_opener, word_view}
+use Rattle.starlark_words.specs.Inner.ScannedWords.{is_quote, plain_opener, quote_after, quote_of, raw_opener, text_opener, word_view}
 use Rattle.starlark_grammar.specs.declared.class.Class.TheVariants.{Opener}
 use Rattle.starlark_grammar.specs.declared.class.LiteralKind.{LiteralKind}
 use Rattle.starlark_grammar.specs.declared.class.LiteralKind.TheVariants.{Bytes, FString}
@@ -18,13 +18,13 @@ use Rattle.starlark_grammar.specs.declared.class.Quote.TheVariants.{Double, Sing
 use Rattle.starlark_words.specs.declared.scanner.word.Word.{Word}
 use Rattle.starlark_words.proofs.Scan.ByFirst.{front_double_quote, front_named, front_single_quote}
 use Rattle.starlark_words.proofs.Scan.Listed.{opener_of, all_pass, lookup_fails}
-use Rattle.starlark_words.proofs.Scan.Fronts.{take_behind}
+use Rattle.starlark_words.proofs.Scan.WordFronts.{take_after}
 
 prefixes_are_short : all_pass (λ word. nat_le (prefix_len is_in_name word) 2) openers ≡ true
 unfolding openers
 prefixes_are_short = refl
 
--- whether a quote stands remainder the name that a word begins with
+-- whether a quote stands after the name that a word begins with
 abbrev is_quoted : Text → Bool
 is_quoted word = is_quote (get_or word (prefix_len is_in_name word) 0)
 
@@ -32,7 +32,7 @@ openers_are_quoted : all_pass is_quoted openers ≡ true
 unfolding openers
 openers_are_quoted = refl
 
--- a name and the byte remainder it begin with the same name
+-- a name and the byte after it begin with the same name
 name_of_opener : (text : Text) → prefix_len is_in_name (take (prefix_len is_in_name text + 1) text) ≡ prefix_len is_in_name text
 name_of_opener [] = refl
 name_of_opener (b ∷ rest) = go (is_in_name b) refl (name_of_opener rest)
@@ -40,7 +40,7 @@ name_of_opener (b ∷ rest) = go (is_in_name b) refl (name_of_opener rest)
     go : (passes : Bool) → is_in_name b ≡ passes
         → prefix_len is_in_name (take (prefix_len is_in_name rest + 1) rest) ≡ prefix_len is_in_name rest
         → prefix_len is_in_name (take (prefix_len is_in_name (b ∷ rest) + 1) (b ∷ rest)) ≡ prefix_len is_in_name (b ∷ rest)
-    go true e more = rw (e, take_behind b rest (1 + prefix_len is_in_name rest + 1) (prefix_len is_in_name rest + 1) (omega arith), e) (ap (λ n. 1 + n) more)
+    go true e more = rw (e, take_after b rest (1 + prefix_len is_in_name rest + 1) (prefix_len is_in_name rest + 1) (omega arith), e) (ap (λ n. 1 + n) more)
     go false e more = rw (e, e) refl
 
 pub long_name_is_no_prefix : (text : Text) (n : ℕ) → n ≡ prefix_len is_in_name text → 2 < n → opener_of (take (n + 1) text) ≡ None

@@ -5,7 +5,7 @@ use Rattle.std.specs.Char.{is_ascii_digit}
 use Rattle.std.specs.List.{prefix_len, slice_get}
 use Rattle.starlark_grammar.specs.Front.{longest_front}
 use Rattle.starlark_grammar.specs.Words.{Text, begins, has_base, is_in_name, is_name_start, sign_len}
-use Rattle.starlark_words.specs.Inner.Words.{begins_number, begins_plain_number, begins_symbol, is_digit_alone, is_mark_alone, quote_after, text_opener}
+use Rattle.starlark_words.specs.Inner.ScannedWords.{begins_number, begins_plain_number, begins_symbol, is_digit_alone, is_mark_alone, quote_after, text_opener}
 use Rattle.starlark_words.proofs.Scan.Marks.{front_three, mark_of}
 
 pub begins_by_one : (test : ℕ → Bool) (text : Text) → begins test (take 1 text) ≡ begins test text
@@ -47,10 +47,10 @@ opener_by_two [] = refl
 opener_by_two (a ∷ []) = refl
 opener_by_two (a ∷ b ∷ rest) = refl
 
-pub behind_by_three : (letter : ℕ) (text : Text) → quote_after letter (take 3 text) ≡ quote_after letter text
-behind_by_three letter [] = refl
-behind_by_three letter (a ∷ []) = refl
-behind_by_three letter (a ∷ b ∷ rest) = refl
+pub after_by_three : (letter : ℕ) (text : Text) → quote_after letter (take 3 text) ≡ quote_after letter text
+after_by_three letter [] = refl
+after_by_three letter (a ∷ []) = refl
+after_by_three letter (a ∷ b ∷ rest) = refl
 
 pub first_by_three : (text : Text) → slice_get (take 3 text) 0 ≡ slice_get text 0
 first_by_three [] = refl
@@ -83,7 +83,7 @@ mark_by_three (a ∷ []) = refl
 mark_by_three (a ∷ b ∷ []) = refl
 mark_by_three (a ∷ b ∷ c ∷ rest) = front_three a b c [] ∙ sym (front_three a b c rest)
 
--- a name has a first byte, remainder which its run goes on
+-- a name has a first byte, after which its run goes on
 pub name_some : (text : Text) → begins is_name_start text ≡ true → 1 ≤ length text
 name_some [] h = cc
 name_some (b ∷ rest) h = omega arith

@@ -1,4 +1,4 @@
--- Marks of one byte or two that the byte remainder them makes no longer.
+-- Marks of one byte or two that the byte after them makes no longer.
 use Rattle.std.proofs.Common.{◌≡◌, ◌≢◌, ℕ, ◌<◌, ◌≤◌, Bool, true, false, not, ◌&&◌, ◌||◌, ◌==◌, nat_eq, [], ◌∷◌, get_or, refl, sym, subst, ap, ◌∙◌, Option, None, Some, arith}
 use Rattle.std.proofs.lemmas.Bool.{agree_below, and_parts, both_ways, not-true, eq-eqb, eqb-true}
 use Rattle.std.specs.Char.{is_ascii_digit}
@@ -9,7 +9,7 @@ use Rattle.starlark_grammar.specs.Front.{longest_front, language_front}
 use Rattle.starlark_grammar.specs.Pieces.{is_bang}
 use Rattle.starlark_grammar.specs.Words.{Text, class_in, is_name_start, line_ends, symbols}
 use Rattle.starlark_grammar.proofs.Words.Fronts.{front_absent, front_none, front_sound}
-use Rattle.starlark_words.specs.Inner.Words.{begins_number, goes_on, is_lone_mark, is_mark_alone, is_symbol, begins_symbol, marks, word_len, word_view}
+use Rattle.starlark_words.specs.Inner.ScannedWords.{begins_number, goes_on, is_lone_mark, is_mark_alone, is_symbol, begins_symbol, marks, word_len, word_view}
 use Rattle.starlark_words.specs.declared.scanner.word.Word.{Word}
 use Rattle.starlark_grammar.specs.declared.class.Class.{Class}
 use Rattle.starlark_grammar.specs.declared.class.Class.TheVariants.{Fixed}
@@ -140,7 +140,7 @@ front_alone (x ∷ c ∷ rest) b small e h =
         let one = symbol_is_one x parts.0 in
         (front_marks (x ∷ c ∷ rest) x refl (small 0) one (rw (no_digit x (small 0) one, no_number_goes_on x c (small 1) ends) refl) ∙ front_of_one x c rest (λ word. short_ends x c word parts.0 ends), one_is_no_bang x (c ∷ rest) (small 0) one)
 
--- a mark of two bytes, which no `=` remainder it makes longer
+-- a mark of two bytes, which no `=` after it makes longer
 
 is_other_start : ℕ → Bool
 is_other_start b = list_any (nat_eq b) (32 ∷ 9 ∷ 35 ∷ 39 ∷ 34 ∷ [])

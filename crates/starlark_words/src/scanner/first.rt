@@ -3,7 +3,7 @@
 ghost use Rattle.std.specs.Prelude.{◌≡◌};
 ghost use Rattle.starlark_grammar.specs.Words as grammar;
 ghost use Rattle.starlark_grammar.specs.declared.class.TheConstants.{SYMBOLS};
-ghost use Rattle.starlark_words.specs.Inner.Words.{goes_on, has_byte_at, is_lone_mark, is_symbol};
+ghost use Rattle.starlark_words.specs.Inner.ScannedWords.{goes_on, has_byte_at, is_lone_mark, is_symbol};
 
 use starlark_grammar::terminals;
 

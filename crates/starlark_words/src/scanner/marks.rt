@@ -3,7 +3,7 @@
 ghost use Rattle.std.specs.Prelude.{◌≡◌, ◌≤◌, ◌∷◌, []};
 ghost use Rattle.std.specs.Option.{option_map};
 ghost use Rattle.starlark_grammar.specs.Front.{longest_front};
-ghost use Rattle.starlark_words.specs.Inner.Words.{begins_symbol, is_mark_alone, marks, word_len, word_view};
+ghost use Rattle.starlark_words.specs.Inner.ScannedWords.{begins_symbol, is_mark_alone, marks, word_len, word_view};
 ghost use Rattle.starlark_grammar.specs.Words.{class_in};
 
 use super::first::{goes_on, is_lone_mark, is_symbol};

@@ -8,7 +8,7 @@ ghost use Rattle.std.specs.Option.{option_map};
 ghost use Rattle.std.specs.Str.{bytes_eq};
 ghost use Rattle.starlark_grammar.specs.Front.{language_front};
 ghost use Rattle.starlark_words.specs.Inner.Reads.{AreReads};
-ghost use Rattle.starlark_words.specs.Inner.Words.{class_by_rows, is_quote, listing_view, word_view};
+ghost use Rattle.starlark_words.specs.Inner.ScannedWords.{class_by_rows, is_quote, listing_view, word_view};
 ghost use Rattle.starlark_grammar.specs.Words as grammar;
 ghost use Rattle.starlark_grammar.specs.declared.class.TheConstants.{NAMES};
 ghost use Rattle.starlark_grammar.specs.declared.class.Class.TheVariants as class;

@@ -5,7 +5,7 @@ ghost use Rattle.std.specs.Option.{option_map};
 ghost use Rattle.starlark_grammar.specs.Front.{language_front, longest_front};
 ghost use Rattle.starlark_grammar.specs.Lengths.{longest_len};
 ghost use Rattle.starlark_words.specs.Inner.Reads.{AreReads, more_reads};
-ghost use Rattle.starlark_words.specs.Inner.Words.{begins_number, begins_plain_number, is_digit_alone, is_number, may_be_in_number, word_len, word_view};
+ghost use Rattle.starlark_words.specs.Inner.ScannedWords.{begins_number, begins_plain_number, is_digit_alone, is_number, may_be_in_number, word_len, word_view};
 ghost use Rattle.starlark_grammar.specs.Words as grammar;
 
 use super::first::is_name_start;

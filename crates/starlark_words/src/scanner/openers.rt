@@ -6,7 +6,7 @@ ghost use Rattle.std.specs.Option.{option_map};
 ghost use Rattle.std.specs.Str.{bytes_eq};
 ghost use Rattle.starlark_grammar.specs.Words as grammar;
 ghost use Rattle.starlark_grammar.specs.declared.class.Class.TheVariants as class;
-ghost use Rattle.starlark_words.specs.Inner.Words.{plain_opener, quote_after, quote_of, raw_opener, text_opener};
+ghost use Rattle.starlark_words.specs.Inner.ScannedWords.{plain_opener, quote_after, quote_of, raw_opener, text_opener};
 
 use super::{Class, LiteralKind, Quote, Word};
 

@@ -2,7 +2,7 @@ use Rattle.std.proofs.Common.{arith}
 use Rattle.std.proofs.lemmas.Str.Pattern.{rfind_char}
 use Rattle.std.proofs.lemmas.List.Sums.{count_by-le-length}
 use Rattle.starlark_base.specs.Positions.{starts_pair}
-use Rattle.starlark_base.proofs.Pairs.{pairs_along, pairs_behind_last}
+use Rattle.starlark_base.proofs.Pairs.{pairs_along, pairs_after_last}
 use Rattle.starlark_base.proofs.PlacesAlong.{one_line_by_index}
 use Rattle.starlark_base.proofs.position.pairs_after.Goals as goal
 
@@ -18,6 +18,6 @@ returns-in-None c front is =
 pub returns-in-Some : goal.returns-in-Some
 returns-in-Some c front is =
     let found = rw c.in-Some.is at (rfind_char 10 c.args.passed.now c.rfind.result c.rfind.ensures.cases (omega arith)) in
-    let remainder = pairs_behind_last front c.args.passed.now c.in-Some.last found in
+    let remainder = pairs_after_last front c.args.passed.now c.in-Some.last found in
     let count = rw c.range_from.ensures.value at c.pair_count-in-Some.ensures in
     rw (← count) at remainder

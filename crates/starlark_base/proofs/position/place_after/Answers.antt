@@ -1,6 +1,6 @@
 use Rattle.std.proofs.Common.{arith}
 use Rattle.std.proofs.lemmas.Str.Pattern.{rfind_char}
-use Rattle.starlark_base.proofs.PlacesAlong.{characters_bound, one_line_by_index, place_along, place_behind_last}
+use Rattle.starlark_base.proofs.PlacesAlong.{characters_bound, one_line_by_index, place_along, place_after_last}
 use Rattle.starlark_base.proofs.position.place_after.Goals as goal
 
 pub overflow_add-result : goal.overflow_add-result
@@ -19,6 +19,6 @@ pub returns-in-Some : goal.returns-in-Some
 returns-in-Some c front utf8 is =
     let last = c.in-Some.last in
     let found = rw c.in-Some.is at (rfind_char 10 c.args.passed.now c.rfind.result c.rfind.ensures.cases (omega arith)) in
-    let remainder = place_behind_last front c.args.passed.now last found in
+    let remainder = place_after_last front c.args.passed.now last found in
     let column = rw c.range_from.ensures.value at c.count_characters-in-Some.ensures in
     rw (is, ← c.newline_count.ensures, ← column) at remainder

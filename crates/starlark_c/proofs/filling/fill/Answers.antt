@@ -1,9 +1,9 @@
 use Rattle.std.proofs.Common.{◌≡◌, ◌+◌, ◌∙◌, refl, ap, arith, inl}
-use Rattle.starlark_c.specs.declared.progress.Progress.{Progress}
-use Rattle.starlark_c.specs.declared.progress.Stop.{Stop}
+use Rattle.starlark_c.specs.declared.fill_state.FillState.{FillState}
+use Rattle.starlark_c.specs.declared.fill_state.CutPoint.{CutPoint}
 use Rattle.starlark_c.proofs.Ends.{ends_whole}
 use Rattle.starlark_c.proofs.Filled.{hold_none, values_nil}
-use Rattle.starlark_c.proofs.Items.{given_next, next_fault, next_lexeme, next_none}
+use Rattle.starlark_c.proofs.YieldedItems.{given_next, next_fault, next_lexeme, next_none}
 use Rattle.starlark_c.proofs.NextLexemes.{HasFilled, ends_without_room, goes_on, goes_on_with, has_filled_more, has_stopped, may_stop, stays, wanted_with_next}
 use Rattle.starlark_c.proofs.Stops.{ends_at_fault, fault_filled}
 use Rattle.starlark_syntax.specs.Lexer.{LexerView}
@@ -20,9 +20,9 @@ loop-plain-init c =
       text = ap (λ (l : LexerView). l.text) fresh;
       few = omega arith;
       hold = hold_none _;
-      filled = ap (λ (p : Progress). p.filled) c.new-progress.ensures ∙ rw values_nil refl;
-      stop = inl (ap (λ (p : Progress). p.stop.filled.lexemes) c.new-progress.ensures);
-      kind = ap (λ (p : Progress). p.stop.is_front) c.new-progress.ensures;
+      filled = ap (λ (p : FillState). p.filled) c.new-progress.ensures ∙ rw values_nil refl;
+      stop = inl (ap (λ (p : FillState). p.stop.filled.lexemes) c.new-progress.ensures);
+      kind = ap (λ (p : FillState). p.stop.is_front) c.new-progress.ensures;
     })
 
 pub loop-plain-smaller-in-Some : goal.loop-plain-smaller-in-Some
@@ -59,7 +59,7 @@ loop-plain-preserved-in-Some c =
     let on = goes_on text n 1 _ c.loop-plain.lexer c.next_plain.new.self (record { going = inv.going; text_is = inv.text; count = refl }) c.in-Some.ensures.after in
     let put = has_filled_more text n x c.loop-plain.progress c.take_plain.new.progress _ _ _ _ had next c.in_default-take_plain.ensures in
     let more = has_stopped text (n + 1) c.take_plain.new.progress c.stop_after.new.progress _ _ put c.stop_after.ensures.filled (rw on.count at c.stop_after.ensures.stop) in
-    let kind = c.stop_after.ensures.kind ∙ ap (λ (t : Stop). t.is_front) c.in_default-take_plain.ensures.1 ∙ inv.kind in
+    let kind = c.stop_after.ensures.kind ∙ ap (λ (t : CutPoint). t.is_front) c.in_default-take_plain.ensures.1 ∙ inv.kind in
     rw on.count (record { going = on.going; text = on.text_is; few = more.few; hold = more.hold; filled = more.filled; stop = more.stop; kind = kind })
 
 pub overflow-requires-clause-few : goal.overflow-requires-clause-few
@@ -135,7 +135,7 @@ loop-plain-preserved c =
     let on = goes_on_with text n _ lexer c.next.new.self was (rw c.in-Some-Ok.field-0-is at c.in-Some-Ok.ensures.after) in
     let put = has_filled_more text n (lexeme_view found) c.loop-plain.progress c.take_next.new.progress _ _ _ _ had next c.in_default-take_next.ensures in
     let more = has_stopped text (n + 1) c.take_next.new.progress c.stop_after-in-Some-Ok.new.progress _ _ put c.stop_after-in-Some-Ok.ensures.filled (rw on.count at c.stop_after-in-Some-Ok.ensures.stop) in
-    let kind = c.stop_after-in-Some-Ok.ensures.kind ∙ ap (λ (t : Stop). t.is_front) c.in_default-take_next.ensures.1 ∙ inv.kind in
+    let kind = c.stop_after-in-Some-Ok.ensures.kind ∙ ap (λ (t : CutPoint). t.is_front) c.in_default-take_next.ensures.1 ∙ inv.kind in
     rw on.count (record { going = on.going; text = on.text_is; few = more.few; hold = more.hold; filled = more.filled; stop = more.stop; kind = kind })
 
 pub overflow-requires-in-Err-take_next-clause-few : goal.overflow-requires-in-Err-take_next-clause-few

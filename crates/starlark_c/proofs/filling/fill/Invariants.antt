@@ -1,6 +1,6 @@
 use Rattle.std.proofs.Common.{◌≡◌, ◌-◌, ◌≤◌, false, length, take}
 use Rattle.starlark_c.specs.Endings.{Hold, lexemes_of}
-use Rattle.starlark_c.specs.Inner.Filling.{IsStop, filled_by}
+use Rattle.starlark_c.specs.Inner.Filling.{IsCutPoint, filled_by}
 use Rattle.starlark_c.specs.Records.{records, values}
 use Rattle.starlark_c.proofs.filling.fill.Given as goal
 use Rattle.starlark_token.specs.TextItems.{items}
@@ -13,7 +13,7 @@ invariant-loop-plain l = record {
   few : l.lexer.yielded_count ≤ length (lexemes_of l.text);
   hold : Hold (records (take l.lexer.yielded_count (lexemes_of l.text))) (values (take l.lexer.yielded_count (lexemes_of l.text))) (record { lexemes = l.fn.lexemes; values = l.fn.values }) (record { lexemes = l.lexemes; values = l.values });
   filled : l.progress.filled ≡ filled_by (take l.lexer.yielded_count (lexemes_of l.text));
-  stop : IsStop l.text l.lexer.yielded_count l.progress.stop;
+  stop : IsCutPoint l.text l.lexer.yielded_count l.progress.stop;
   kind : l.progress.stop.is_front ≡ l.is_front;
 }
 

@@ -1,7 +1,7 @@
 use Rattle.std.proofs.Common.{ap, arith, inl, length, subst, sym}
 use Rattle.starlark_c.specs.Endings.{IsText}
-use Rattle.starlark_c.specs.Inner.Filling.{EndsWithStop}
-use Rattle.starlark_c.specs.declared.progress.Stop.{Stop}
+use Rattle.starlark_c.specs.Inner.Filling.{EndsWithCutPoint}
+use Rattle.starlark_c.specs.declared.fill_state.CutPoint.{CutPoint}
 use Rattle.starlark_c.proofs.Ends.{ends_memory}
 use Rattle.starlark_c.proofs.Filled.{hold_none, values_nil}
 use Rattle.starlark_grammar.specs.Words.{Text}
@@ -13,12 +13,12 @@ returns-in_default c =
       ends_memory c.args.bytes.now _ _ 0 (record { lexemes = 0; values = 0 }) is (omega arith) (hold_none (record { lexemes = c.args.lexemes.now; values = c.args.values.now })) (ap (λ (t : Text). record { lexemes = 0; values = length t }) (sym values_nil)),
       0,
       omega arith,
-      inl (ap (λ (t : Stop). t.filled.lexemes) c.none-none.ensures),
-      ap (λ (t : Stop). t.is_front) c.none-none.ensures,
+      inl (ap (λ (t : CutPoint). t.filled.lexemes) c.none-none.ensures),
+      ap (λ (t : CutPoint). t.is_front) c.none-none.ensures,
       tt,
     )
 
 pub returns : goal.returns
 returns c =
-    subst (λ (t : Text). EndsWithStop t c.args.is_front (record { lexemes = c.args.lexemes.now; values = c.args.values.now }) (record { lexemes = c.fill.new.lexemes; values = c.fill.new.values }) c.fill.result)
+    subst (λ (t : Text). EndsWithCutPoint t c.args.is_front (record { lexemes = c.args.lexemes.now; values = c.args.values.now }) (record { lexemes = c.fill.new.lexemes; values = c.fill.new.values }) c.fill.result)
     c.in-Ok.ensures.cases.0 c.fill.ensures

@@ -1,7 +1,7 @@
 use Rattle.std.proofs.Common.{ap, arith, ◌∙◌}
 use Rattle.std.proofs.lemmas.Str.Pattern.{rfind_char}
 use Rattle.starlark_base.proofs.PlacesAlong.{one_line_by_index}
-use Rattle.starlark_c.specs.Inner.Places.{place_on_line}
+use Rattle.starlark_c.specs.Inner.OneLinePlaces.{place_on_line}
 use Rattle.starlark_c.proofs.MovedPlaces.{after_line, on_line}
 use Rattle.starlark_c.proofs.places.place_after.Goals as goal
 

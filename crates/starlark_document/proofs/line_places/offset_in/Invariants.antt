@@ -1,5 +1,5 @@
 use Rattle.std.proofs.Common.{ℕ, ◌<◌, ◌≤◌}
-use Rattle.starlark_document.specs.Places.{StandsAt}
+use Rattle.starlark_document.specs.Utf16Places.{StandsAt}
 use Rattle.starlark_base.specs.Positions.{IsPosition}
 use Rattle.starlark_document.proofs.line_places.offset_in.Given as goal
 

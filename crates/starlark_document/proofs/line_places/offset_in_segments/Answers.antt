@@ -1,9 +1,9 @@
 use Rattle.std.proofs.Common.{◌≤◌, ◌+◌, ◌-◌, ◌∙◌, ℕ, List, ap, arith, length, refl, string_bytes, subst, sym}
 use Rattle.std.proofs.lemmas.Option.{slice_get_read}
 use Rattle.starlark_document.proofs.LinePlaces.{HaveLines-laid, lines-more, lines-within, none_onward, stands_onward}
-use Rattle.starlark_document.proofs.Places.{HaveLens-laid, begin_after, end_within, len_at}
+use Rattle.starlark_document.proofs.SegmentOffsets.{HaveLens-laid, begin_after, end_within, len_at}
 use Rattle.starlark_document.specs.Inner.Segments.{text_in}
-use Rattle.starlark_document.specs.Places.{StandsAt}
+use Rattle.starlark_document.specs.Utf16Places.{StandsAt}
 use Rattle.starlark_document.specs.declared.segments.Content.{Content}
 use Rattle.starlark_document.proofs.line_places.offset_in_segments.Goals as goal
 use Rattle.starlark_document.proofs.line_places.offset_in_segments.Goals.{then-lines-line+then-line-lines+in_default, else-lines-line, else-lines-line-via-then-lines-line+else-line-lines, else-lines-line-via-else-lines-line}

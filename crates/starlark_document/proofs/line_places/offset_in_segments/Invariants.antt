@@ -1,7 +1,7 @@
 use Rattle.std.proofs.Common.{◌≡◌, ℕ, ◌<◌, ◌≤◌, count_by, length, take}
 use Rattle.starlark_base.specs.Places.{is_lf}
 use Rattle.starlark_document.specs.Inner.Segments.{text_of}
-use Rattle.starlark_document.specs.Places.{StandsAt}
+use Rattle.starlark_document.specs.Utf16Places.{StandsAt}
 use Rattle.starlark_document.proofs.line_places.offset_in_segments.Given as goal
 
 abbrev pub invariant-loop-segment : goal.invariant-loop-segment

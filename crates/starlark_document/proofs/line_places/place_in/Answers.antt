@@ -2,9 +2,9 @@ use Rattle.std.proofs.Common.{◌∙◌, ap, arith, length, length-append, drop,
 use Rattle.std.proofs.lemmas.List.Sums.{count_by-le-length}
 use Rattle.std.proofs.lemmas.Option.{slice_get_read}
 use Rattle.starlark_base.specs.Places.{is_lf}
-use Rattle.starlark_document.proofs.Laid.{laid_around}
+use Rattle.starlark_document.proofs.LaidSegments.{laid_around}
 use Rattle.starlark_document.proofs.LinePlaces.{HaveLines-open, Holds, boundary_in, boundary_out, place_held, position_bounds}
-use Rattle.starlark_document.proofs.Places.{HaveLens-laid, end_within, len_at, text_of-split}
+use Rattle.starlark_document.proofs.SegmentOffsets.{HaveLens-laid, end_within, len_at, text_of-split}
 use Rattle.starlark_document.specs.Inner.Segments.{text_in, text_of}
 use Rattle.starlark_document.specs.declared.segments.Content.{Content}
 use Rattle.starlark_base.proofs.Pairs.{position_start}

@@ -1,5 +1,5 @@
 use Rattle.std.proofs.Common.{length, ◌-◌, ◌≤◌}
-use Rattle.starlark_document.specs.Inner.Parts.{IsPlaceIn}
+use Rattle.starlark_document.specs.Inner.EditedParts.{IsPlaceIn}
 use Rattle.starlark_document.proofs.segments.segment_at.Given as goal
 
 abbrev pub invariant-loop-place : goal.invariant-loop-place

@@ -1,5 +1,5 @@
 use Rattle.std.proofs.Common.{arith, ◌+◌}
-use Rattle.starlark_document.proofs.Places.{part_end, part_within}
+use Rattle.starlark_document.proofs.SegmentOffsets.{part_end, part_within}
 use Rattle.starlark_document.proofs.segments.step_before.Goals as goal
 
 pub texts_len-len-requires-clause-fits : goal.texts_len-len-requires-clause-fits

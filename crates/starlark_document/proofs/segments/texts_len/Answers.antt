@@ -1,6 +1,6 @@
 use Rattle.std.proofs.Common.{arith, refl}
 use Rattle.std.proofs.lemmas.Option.{slice_get_read}
-use Rattle.starlark_document.proofs.Places.{begin_after, end_within}
+use Rattle.starlark_document.proofs.SegmentOffsets.{begin_after, end_within}
 use Rattle.starlark_document.proofs.segments.texts_len.Goals as goal
 
 pub overflow_add-len : goal.overflow_add-len

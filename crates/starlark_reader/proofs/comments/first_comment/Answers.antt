@@ -1,10 +1,10 @@
 use Rattle.std.proofs.Common.{◌+◌, ◌-◌, ap, arith, drop, rules, subst, sym, take}
 use Rattle.std.specs.Str.{IsCharBoundary}
 use Rattle.std.proofs.lemmas.List.{take_rest}
-use Rattle.starlark_reader.proofs.Indentation.CommentBlanks.{begins_here}
-use Rattle.starlark_reader.proofs.Indentation.CommentLines.{comment_begin, comment_found, comment_value, part_before_feed}
-use Rattle.starlark_reader.proofs.Indentation.Margins.{feed_measured}
-use Rattle.starlark_reader.proofs.Indentation.Pending.{IsMeasured, measured}
+use Rattle.starlark_reader.proofs.TakenMargins.CommentBlanks.{begins_here}
+use Rattle.starlark_reader.proofs.TakenMargins.CommentLines.{comment_begin, comment_found, comment_value, part_before_feed}
+use Rattle.starlark_reader.proofs.TakenMargins.MarginLines.{feed_measured}
+use Rattle.starlark_reader.proofs.TakenMargins.Pending.{IsMeasured, measured}
 use Rattle.starlark_reader.proofs.comments.first_comment.Goals as goal
 use Rattle.starlark_reader.proofs.comments.first_comment.Goals.{After-comment_end}
 

@@ -1,5 +1,5 @@
 use Rattle.std.proofs.Common.{arith}
-use Rattle.starlark_reader.proofs.Indentation.PlainMargins.{spaces_and_return}
+use Rattle.starlark_reader.proofs.TakenMargins.PlainMargins.{spaces_and_return}
 use Rattle.starlark_reader.proofs.margins.blank_margin.Goals.{else-len-text-via-then-len-text+else-text-len-ne10, else-len-text-via-else-len-text}
 use Rattle.starlark_reader.proofs.margins.blank_margin.Goals as goal
 

@@ -1,6 +1,6 @@
 use Rattle.std.proofs.Common.{refl, sym, ◌∙◌, ◌+◌, arith}
 use Rattle.starlark_reader.specs.declared.margins.Blanks.{Blanks}
-use Rattle.starlark_reader.proofs.Indentation.Blanks.{blank_passed, one_passed}
+use Rattle.starlark_reader.proofs.TakenMargins.Blanks.{blank_passed, one_passed}
 use Rattle.starlark_reader.proofs.margins.blanks_after.Goals.{in-32, in-9, in-13}
 use Rattle.starlark_reader.proofs.margins.blanks_after.Goals as goal
 

@@ -1,5 +1,5 @@
 use Rattle.std.proofs.Common.{◌-◌, length}
-use Rattle.starlark_reader.proofs.Indentation.Blanks.{IsPassed}
+use Rattle.starlark_reader.proofs.TakenMargins.Blanks.{IsPassed}
 use Rattle.starlark_reader.proofs.margins.blanks_after.Given as goal
 
 abbrev pub invariant-loop-byte : goal.invariant-loop-byte

@@ -1,7 +1,7 @@
 use Rattle.std.proofs.Common.{◌≡◌, ◌∙◌, ℕ, false, get_or, sym, arith}
 use Rattle.std.proofs.lemmas.Bool.{eq-eqb, false≢true}
 use Rattle.std.specs.Prelude.{◌==◌}
-use Rattle.starlark_reader.proofs.Indentation.Blanks.{only_spaces}
+use Rattle.starlark_reader.proofs.TakenMargins.Blanks.{only_spaces}
 use Rattle.starlark_reader.proofs.margins.blanks_in_front.Goals.{else-spaces-text-via-then-spaces-text+else-text-spaces-eq13, then-text-spaces-eq9, else-text-spaces-eq9, else-spaces-text-via-else-spaces-text}
 use Rattle.starlark_reader.proofs.margins.blanks_in_front.Goals as goal
 

@@ -1,7 +1,7 @@
 use Rattle.std.proofs.Common.{add-one, arith, not}
 use Rattle.std.proofs.lemmas.List.Sums.{prefix_len-le-length}
 use Rattle.starlark_grammar.specs.Margins.{is_lf}
-use Rattle.starlark_reader.proofs.Indentation.Margins.{line_to_feed, line_whole}
+use Rattle.starlark_reader.proofs.TakenMargins.MarginLines.{line_to_feed, line_whole}
 use Rattle.starlark_reader.proofs.margins.line_len.Goals as goal
 
 pub returns-then-feed-text-clause-line : goal.returns-then-feed-text-clause-line

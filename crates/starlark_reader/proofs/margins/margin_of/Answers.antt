@@ -1,6 +1,6 @@
 use Rattle.std.proofs.Common.{◌∙◌, ◌-◌, ap, drop, length, sym, take, arith, zero-add}
 use Rattle.std.proofs.lemmas.List.{take_rest}
-use Rattle.starlark_reader.proofs.Indentation.Margins.{comment_some, front_passed, last_passed, none_passed, one_passed}
+use Rattle.starlark_reader.proofs.TakenMargins.MarginLines.{comment_some, front_passed, last_passed, none_passed, one_passed}
 use Rattle.starlark_reader.proofs.margins.margin_of.Goals as goal
 
 pub returns-then-not-begins_comment-clause-margin : goal.returns-then-not-begins_comment-clause-margin

@@ -1,6 +1,6 @@
 use Rattle.std.proofs.Common.{◌-◌, ◌*◌, ◌<◌, length}
 use Rattle.starlark_words.specs.Inner.Reads.{AreReads}
-use Rattle.starlark_reader.proofs.Indentation.Margins.{ArePassed}
+use Rattle.starlark_reader.proofs.TakenMargins.MarginLines.{ArePassed}
 use Rattle.starlark_reader.proofs.margins.margin_of.Given as goal
 
 abbrev pub invariant-loop-reads : goal.invariant-loop-reads

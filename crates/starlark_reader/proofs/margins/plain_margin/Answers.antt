@@ -1,5 +1,5 @@
 use Rattle.std.proofs.Common.{arith, get_or, refl}
-use Rattle.starlark_reader.proofs.Indentation.PlainMargins.{content_first, line_end_first, spaces_alone}
+use Rattle.starlark_reader.proofs.TakenMargins.PlainMargins.{content_first, line_end_first, spaces_alone}
 use Rattle.starlark_reader.proofs.margins.plain_margin.Goals as goal
 
 pub returns-then-spaces-bytes-clause-margin : goal.returns-then-spaces-bytes-clause-margin

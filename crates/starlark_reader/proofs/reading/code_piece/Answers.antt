@@ -8,10 +8,10 @@ use Rattle.starlark_grammar.specs.declared.class.Class.{Class}
 use Rattle.starlark_grammar.proofs.Order.WholeTexts.{word_edge}
 use Rattle.starlark_grammar.proofs.Words.Fronts.{front_sound}
 use Rattle.starlark_words.specs.Inner.Reads.{AreReads}
-use Rattle.starlark_reader.proofs.Literals.Pieces.{if_ok}
+use Rattle.starlark_reader.proofs.ReadLiterals.LiteralPieces.{if_ok}
 use Rattle.starlark_reader.proofs.NextLines.{front_line}
-use Rattle.starlark_reader.proofs.Pieces.PieceReads.{none_reads, piece_reads}
-use Rattle.starlark_reader.proofs.Pieces.CodePlaces.{in_code_front}
+use Rattle.starlark_reader.proofs.TakenPieces.PieceReads.{none_reads, piece_reads}
+use Rattle.starlark_reader.proofs.TakenPieces.CodePlaces.{in_code_front}
 use Rattle.starlark_reader.proofs.reading.code_piece.Goals as goal
 
 edge : (text : Text) (class : Class) (len : ℕ) → IsUtf8 text → Some (class, len) ≡ language_front text → IsCharBoundary text len
@@ -43,7 +43,7 @@ returns-in-Some-clause-piece c =
     let at : IsCharBoundary c.args.text.now (length c.split_at.result.0.now) = rw c.split_at.ensures.front_len (edge c.args.text.now c.in-Some.word.class c.in-Some.word.len c.utf8.text c.in-Some.ensures.word) in
     let code : (s : Situation) → in_code language s c.args.text.now ≡ word_step s c.in-Some.word.class c.split_at.result.0.now c.split_at.result.1.now =
     λ s. rw (c.split_at.ensures.front, c.split_at.ensures.back) (in_code_front s c.args.text.now c.in-Some.word.class c.in-Some.word.len (sym c.in-Some.ensures.word) c.in-Some.ensures.bang) in
-    if_ok _ _ c.word_piece.result (λ piece is s place balanced remainder. rw (code s) (is s c.args.text.now place balanced cut at)) c.word_piece.ensures.piece
+    if_ok _ _ c.word_piece.result (λ piece is s mode balanced remainder. rw (code s) (is s c.args.text.now mode balanced cut at)) c.word_piece.ensures.piece
 
 pub returns-in-Some-clause-reads : goal.returns-in-Some-clause-reads
 returns-in-Some-clause-reads c =
@@ -56,7 +56,7 @@ pub wordless_piece-requires-clause-none : goal.wordless_piece-requires-clause-no
 wordless_piece-requires-clause-none c = sym c.in-None.ensures.word
 
 pub returns-in-None-clause-piece : goal.returns-in-None-clause-piece
-returns-in-None-clause-piece c = if_ok _ _ c.wordless_piece.result (λ piece is s place balanced remainder. is s place remainder) c.wordless_piece.ensures.piece
+returns-in-None-clause-piece c = if_ok _ _ c.wordless_piece.result (λ piece is s mode balanced remainder. is s mode remainder) c.wordless_piece.ensures.piece
 
 pub returns-in-None-clause-reads : goal.returns-in-None-clause-reads
 returns-in-None-clause-reads c = if_ok _ _ c.wordless_piece.result (λ piece is. none_reads c.args.text.now piece _ _ _ c.requires.some c.in-None.ensures.reads is) c.wordless_piece.ensures.reads

@@ -3,26 +3,26 @@ use Rattle.std.specs.Prelude.{◌==◌}
 use Rattle.starlark_grammar.specs.AfterFaults.{next_line}
 use Rattle.starlark_grammar.specs.Inner.Openings.{opening_view}
 use Rattle.starlark_reader.specs.Inner.Nesting.{mode_view}
-use Rattle.starlark_grammar.specs.Pieces.{Situation, Ends, in_code, by_place, step_at}
-use Rattle.starlark_reader.specs.Inner.Pieces.{IsAfter}
+use Rattle.starlark_grammar.specs.Pieces.{Situation, Ends, in_code, by_mode, step_at}
+use Rattle.starlark_reader.specs.Inner.PieceViews.{IsAfter}
 use Rattle.starlark_grammar.specs.Words.{Text, language}
 use Rattle.starlark_grammar.specs.declared.class.Opening as code
 use Rattle.starlark_reader.specs.declared.nesting.LexerMode.{LexerMode}
-use Rattle.starlark_reader.specs.declared.nesting.LexerMode.TheVariants as place
-use Rattle.starlark_reader.proofs.Literals.Pieces.{if_ok}
-use Rattle.starlark_reader.proofs.Pieces.PieceReads.{chunk_reads}
-use Rattle.starlark_reader.proofs.Pieces.CodePlaces.{by_read, in_text}
+use Rattle.starlark_reader.specs.declared.nesting.LexerMode.TheVariants as modes
+use Rattle.starlark_reader.proofs.ReadLiterals.LiteralPieces.{if_ok}
+use Rattle.starlark_reader.proofs.TakenPieces.PieceReads.{chunk_reads}
+use Rattle.starlark_reader.proofs.TakenPieces.CodePlaces.{by_read, in_text}
 use Rattle.starlark_reader.proofs.reading.piece_at.Goals as goal
 
 -- outside of f-string text
-elsewhere : (follows_gap : Bool) (s : Situation) (text : Text) (at : LexerMode) → ((opening : code.Opening) → at ≡ place.InText opening → ⊥) → IsAfter follows_gap s.before → s.place ≡ mode_view at → step_at language s text ≡ in_code language s text
-elsewhere follows_gap s text at other remainder here = by_read follows_gap s text remainder ∙ ap (λ p. by_place language s p text) here ∙ go at other
+elsewhere : (follows_gap : Bool) (s : Situation) (text : Text) (at : LexerMode) → ((opening : code.Opening) → at ≡ modes.InText opening → ⊥) → IsAfter follows_gap s.before → s.mode ≡ mode_view at → step_at language s text ≡ in_code language s text
+elsewhere follows_gap s text at other remainder here = by_read follows_gap s text remainder ∙ ap (λ p. by_mode language s p text) here ∙ go at other
   where
-    go : (at : LexerMode) → ((opening : code.Opening) → at ≡ place.InText opening → ⊥) → by_place language s (mode_view at) text ≡ in_code language s text
-    go place.Outside other = refl
-    go (place.InText opening) other = absurd (other opening refl)
-    go place.AtTop other = refl
-    go place.Deeper other = refl
+    go : (at : LexerMode) → ((opening : code.Opening) → at ≡ modes.InText opening → ⊥) → by_mode language s (mode_view at) text ≡ in_code language s text
+    go modes.Outside other = refl
+    go (modes.InText opening) other = absurd (other opening refl)
+    go modes.AtTop other = refl
+    go modes.Deeper other = refl
 
 -- at the end of the text
 code_ends : (s : Situation) (text : Text) → (length text == 0) ≡ true → in_code language s text ≡ Ends
@@ -34,12 +34,12 @@ returns-in-InText-clause-piece c = λ s here balanced remainder. rw (in_text c.a
 
 pub returns-then-is_empty-clause-piece : goal.returns-then-is_empty-clause-piece
 returns-then-is_empty-clause-piece c = λ s here balanced remainder.
-    elsewhere c.args.follows_gap s c.args.text.now c.args.place c.in_default.not-InText remainder here
+    elsewhere c.args.follows_gap s c.args.text.now c.args.mode c.in_default.not-InText remainder here
     ∙ code_ends s c.args.text.now (sym c.is_empty.ensures ∙ c.if-is_empty.true)
 
 pub returns-clause-piece : goal.returns-clause-piece
 returns-clause-piece c = if_ok _ _ c.code_piece.result (λ piece is s here balanced remainder.
-    rw (elsewhere c.args.follows_gap s c.args.text.now c.args.place c.in_default.not-InText remainder here) (is s here balanced remainder)) c.code_piece.ensures.piece
+    rw (elsewhere c.args.follows_gap s c.args.text.now c.args.mode c.in_default.not-InText remainder here) (is s here balanced remainder)) c.code_piece.ensures.piece
 
 pub returns-in-InText-clause-reads : goal.returns-in-InText-clause-reads
 returns-in-InText-clause-reads c = chunk_reads (next_line c.args.text.now 0) c.in_ok-chunk_from.field-0 _ _ c.in_ok-chunk_from.ensures.reads

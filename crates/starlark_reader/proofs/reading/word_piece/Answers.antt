@@ -1,22 +1,22 @@
 use Rattle.std.proofs.Common.{ap, length, refl, ◌∙◌, Some}
 use Rattle.starlark_grammar.specs.AfterFaults.{next_line}
-use Rattle.starlark_reader.proofs.Literals.Pieces.{if_ok}
+use Rattle.starlark_reader.proofs.ReadLiterals.LiteralPieces.{if_ok}
 use Rattle.starlark_reader.proofs.NextLines.{tabs_line}
-use Rattle.starlark_reader.proofs.Pieces.LineEnds.{line_end_piece}
-use Rattle.starlark_reader.proofs.Pieces.PieceReads.{opener_reads, tabs_reads}
+use Rattle.starlark_reader.proofs.TakenPieces.LineEndPieces.{line_end_piece}
+use Rattle.starlark_reader.proofs.TakenPieces.PieceReads.{opener_reads, tabs_reads}
 use Rattle.starlark_reader.proofs.reading.word_piece.Goals as goal
 
 pub returns-in-LineEnd-clause-piece : goal.returns-in-LineEnd-clause-piece
-returns-in-LineEnd-clause-piece c = λ s text place balanced cut edge. rw c.in-LineEnd.is (c.line_end.ensures.piece s c.args.front.now c.args.remainder.now text place balanced refl cut edge)
+returns-in-LineEnd-clause-piece c = λ s text mode balanced cut edge. rw c.in-LineEnd.is (c.line_end.ensures.piece s c.args.front.now c.args.remainder.now text mode balanced refl cut edge)
 
 pub returns-in-Opener-clause-piece : goal.returns-in-Opener-clause-piece
-returns-in-Opener-clause-piece c = if_ok _ _ c.opener.result (λ piece is s text place balanced cut edge. rw c.in-Opener.is (is s c.args.front.now text place refl)) c.opener.ensures.piece
+returns-in-Opener-clause-piece c = if_ok _ _ c.opener.result (λ piece is s text mode balanced cut edge. rw c.in-Opener.is (is s c.args.front.now text mode refl)) c.opener.ensures.piece
 
 pub returns-in_ok-decimal-in-Decimal-clause-piece : goal.returns-in_ok-decimal-in-Decimal-clause-piece
-returns-in_ok-decimal-in-Decimal-clause-piece c = λ s text place balanced cut edge. rw c.in-Decimal.is (c.in_ok-decimal-in-Decimal.ensures.step s c.args.remainder.now)
+returns-in_ok-decimal-in-Decimal-clause-piece c = λ s text mode balanced cut edge. rw c.in-Decimal.is (c.in_ok-decimal-in-Decimal.ensures.step s c.args.remainder.now)
 
 pub returns-in_ok-number-in-Hexadecimal-clause-piece : goal.returns-in_ok-number-in-Hexadecimal-clause-piece
-returns-in_ok-number-in-Hexadecimal-clause-piece c = λ s text place balanced cut edge. c.in_ok-number-in-Hexadecimal.ensures.step s c.args.remainder.now
+returns-in_ok-number-in-Hexadecimal-clause-piece c = λ s text mode balanced cut edge. c.in_ok-number-in-Hexadecimal.ensures.step s c.args.remainder.now
 
 pub returns-in-LineEnd-clause-line_end : goal.returns-in-LineEnd-clause-line_end
 returns-in-LineEnd-clause-line_end c =

@@ -2,18 +2,18 @@ use Rattle.std.proofs.Common.{◌≡◌, ◌&&◌, Bool, true, false, ap, refl, 
 use Rattle.starlark_grammar.specs.Pieces.{Situation, is_bang, takes_bang}
 use Rattle.starlark_grammar.specs.Tokens.{FStringBang}
 use Rattle.starlark_reader.specs.Inner.Nesting.{mode_view}
-use Rattle.starlark_reader.specs.Inner.Pieces.{IsAfter}
+use Rattle.starlark_reader.specs.Inner.PieceViews.{IsAfter}
 use Rattle.starlark_token.specs.TokenViews.{token_view}
-use Rattle.starlark_reader.proofs.Pieces.CodePlaces.{bang_by, bang_in_code, bang_in_two, in_code_none}
-use Rattle.starlark_reader.proofs.Pieces.PieceReads.{wordless_reads}
+use Rattle.starlark_reader.proofs.TakenPieces.CodePlaces.{bang_by, bang_in_code, bang_in_two, in_code_none}
+use Rattle.starlark_reader.proofs.TakenPieces.PieceReads.{wordless_reads}
 use Rattle.starlark_reader.proofs.reading.wordless_piece.Goals as goal
 use Rattle.starlark_reader.proofs.reading.wordless_piece.Goals.{After-bang_stands}
 
 -- whether a bang is at the start of the text, by the situation
-stands_by : (c : After-bang_stands) → (known : Bool) → c.bang_stands.result ≡ known → (s : Situation) → s.place ≡ mode_view c.args.place → IsAfter c.args.follows_gap s.before → (takes_bang s.place s.before && is_bang c.args.text.now) ≡ known
+stands_by : (c : After-bang_stands) → (known : Bool) → c.bang_stands.result ≡ known → (s : Situation) → s.mode ≡ mode_view c.args.mode → IsAfter c.args.follows_gap s.before → (takes_bang s.mode s.before && is_bang c.args.text.now) ≡ known
 stands_by c known e s here remainder =
     let front = ap is_bang c.front.ensures.bytes ∙ ap (λ t. is_bang (take 2 t)) c.as_bytes.ensures.value ∙ bang_in_two c.args.text.now in
-    bang_by s c.args.text.now (mode_view c.args.place) c.bang_stands.result known here (c.bang_stands.ensures s.before remainder ∙ ap (λ b. takes_bang (mode_view c.args.place) s.before && b) front) e
+    bang_by s c.args.text.now (mode_view c.args.mode) c.bang_stands.result known here (c.bang_stands.ensures s.before remainder ∙ ap (λ b. takes_bang (mode_view c.args.mode) s.before && b) front) e
 
 pub returns-then-bang_stands-clause-piece : goal.returns-then-bang_stands-clause-piece
 unfolding token_view

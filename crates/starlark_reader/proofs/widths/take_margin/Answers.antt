@@ -1,7 +1,7 @@
 use Rattle.std.proofs.Common.{◌≡◌, ◌∙◌, ◌||◌, Bool, true, false, refl, sym}
 use Rattle.std.specs.Prelude.{not}
-use Rattle.starlark_reader.proofs.Indentation.KeptWidths.{is_kept}
-use Rattle.starlark_reader.proofs.Indentation.Laid.{left_tab}
+use Rattle.starlark_reader.proofs.TakenMargins.KeptWidths.{is_kept}
+use Rattle.starlark_reader.proofs.TakenMargins.LaidMargins.{left_tab}
 use Rattle.starlark_reader.proofs.widths.take_margin.Goals as goal
 
 pub returns-then-keeps_widths-clause-laid : goal.returns-then-keeps_widths-clause-laid

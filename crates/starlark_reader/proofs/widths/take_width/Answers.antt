@@ -1,5 +1,5 @@
 use Rattle.std.proofs.Common.{arith}
-use Rattle.starlark_reader.proofs.Indentation.TakenWidths.{is_closed, is_misfit, is_opened}
+use Rattle.starlark_reader.proofs.TakenMargins.TakenWidths.{is_closed, is_misfit, is_opened}
 use Rattle.starlark_reader.proofs.widths.take_width.Goals as goal
 
 pub returns-then-width-greatest : goal.returns-then-width-greatest

@@ -4,10 +4,10 @@ use Rattle.std.proofs.lemmas.Result.{err_from_is_err_and}
 use Rattle.std.proofs.lemmas.Str.{IsUtf8-string_bytes}
 use Rattle.std.specs.Str.{IsUtf8}
 use Rattle.starlark_run.proofs.Edited.{lexed_after}
-use Rattle.starlark_run.proofs.Endings.{edited_read_told, edited_write_told, run_printed}
-use Rattle.starlark_run.proofs.Refusals.{run_refused}
+use Rattle.starlark_run.proofs.RunEnds.{edited_read_told, edited_write_told, run_printed}
+use Rattle.starlark_run.proofs.RefusedEdits.{run_refused}
 use Rattle.starlark_run.specs.Edits.{text_after}
-use Rattle.starlark_run.specs.Inner.Versions.{AreVersionsLexed, newest_text}
+use Rattle.starlark_run.specs.Inner.EditedTexts.{AreVersionsLexed, newest_text}
 use Rattle.starlark_run.specs.declared.ends.RunFault.TheVariants.{Memory}
 use Rattle.starlark_run.proofs.edited_runs.run_edits.Goals as goal
 

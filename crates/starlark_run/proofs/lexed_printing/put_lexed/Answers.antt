@@ -3,12 +3,12 @@ use Rattle.std.proofs.lemmas.Result.{err_from_is_err_and}
 use Rattle.starlark_token.specs.Lexemes.{lexeme_view, shown_lexeme}
 use Rattle.starlark_token.specs.TextItems.{Given, Refused, items}
 use Rattle.starlark_grammar.specs.Reading.{outcome}
-use Rattle.starlark_grammar.proofs.Order.Lexemes.{outcome_order}
-use Rattle.starlark_run.specs.Inner.Lines.{fault_items}
+use Rattle.starlark_grammar.proofs.Order.OrderedLexemes.{outcome_order}
+use Rattle.starlark_run.specs.Inner.FaultLine.{fault_items}
 use Rattle.starlark_run.specs.Output.{item_line, lines_of, output}
 use Rattle.starlark_run.specs.declared.ends.RunStatus.TheVariants as RunStatus
-use Rattle.starlark_run.proofs.Items.{IsNextLexeme, lines_cons, lines_nil, listed_fault, next_edges, next_listed, next_order, unthrown}
-use Rattle.starlark_run.proofs.Places.{place_start}
+use Rattle.starlark_run.proofs.PrintedItems.{IsNextLexeme, lines_cons, lines_nil, listed_fault, next_edges, next_listed, next_order, unthrown}
+use Rattle.starlark_run.proofs.MovedAlong.{place_start}
 use Rattle.starlark_run.proofs.Writing.{writes_on, writes_on_stopped, writes_sound, writes_then, writes_then_stopped, writes_told, writes_waiting}
 use Rattle.starlark_run.proofs.lexed_printing.put_lexed.Goals as goal
 

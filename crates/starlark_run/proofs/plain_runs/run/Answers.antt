@@ -2,7 +2,7 @@
 use Rattle.std.proofs.Common.{◌≡◌, Ok, refl, rules, string_bytes, subst}
 use Rattle.std.proofs.lemmas.Str.{IsUtf8-string_bytes}
 use Rattle.std.specs.Str.{IsUtf8}
-use Rattle.starlark_run.proofs.Endings.{run_printed, read_told, write_told}
+use Rattle.starlark_run.proofs.RunEnds.{run_printed, read_told, write_told}
 use Rattle.starlark_run.proofs.plain_runs.run.Goals as goal
 
 pub returns-clause-run : goal.returns-clause-run

@@ -5,14 +5,14 @@ use Rattle.starlark_token.specs.Lexemes.{lexeme_view}
 use Rattle.starlark_syntax.specs.Lexer.{LexerView}
 use Rattle.starlark_token.specs.TextItems.{Given, items}
 use Rattle.starlark_grammar.specs.Reading.{outcome}
-use Rattle.starlark_grammar.proofs.Order.Lexemes.{outcome_order}
+use Rattle.starlark_grammar.proofs.Order.OrderedLexemes.{outcome_order}
 use Rattle.starlark_run.specs.Output.{item_line, lines_of, output}
 use Rattle.starlark_run.specs.Runs.{status_of}
 use Rattle.starlark_run.specs.Writing.{Writes}
 use Rattle.starlark_run.specs.declared.ends.RunStatus.TheVariants as RunStatus
-use Rattle.starlark_run.proofs.Items.{lines_cons, lines_nil, next_edges, next_few, next_order, thrown_status}
+use Rattle.starlark_run.proofs.PrintedItems.{lines_cons, lines_nil, next_edges, next_few, next_order, thrown_status}
 use Rattle.starlark_run.proofs.Answered.{all_given, next_fault, next_lexeme}
-use Rattle.starlark_run.proofs.Places.{place_start}
+use Rattle.starlark_run.proofs.MovedAlong.{place_start}
 use Rattle.starlark_run.proofs.Writing.{writes_given_up, writes_on, writes_on_stopped, writes_sound, writes_then, writes_then_stopped, writes_told, writes_waiting}
 use Rattle.starlark_run.proofs.printing.put_items.Goals as goal
 

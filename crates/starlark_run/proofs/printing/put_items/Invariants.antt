@@ -3,7 +3,7 @@ use Rattle.starlark_grammar.specs.Gaps.{InOrder}
 use Rattle.starlark_token.specs.TextItems.{items}
 use Rattle.starlark_grammar.specs.Reading.{outcome}
 use Rattle.starlark_run.specs.Output.{lines_of, output}
-use Rattle.starlark_run.specs.Places.{IsPlace}
+use Rattle.starlark_run.specs.KnownPlaces.{IsPlace}
 use Rattle.starlark_run.specs.Writing.{Writes}
 use Rattle.starlark_run.proofs.printing.put_items.Given as goal
 

@@ -1,7 +1,7 @@
 use Rattle.std.proofs.Common.{◌≤◌, ◌<◌, ◌∙◌, ap, drop, length, rules, sym}
 use Rattle.std.proofs.lemmas.Option.{slice_get-get_or}
 use Rattle.starlark_syntax.specs.declared.cuts.Cut.{Cut}
-use Rattle.starlark_syntax.proofs.LexedTexts.Begins.{all_at}
+use Rattle.starlark_syntax.proofs.LexedTexts.RelexStarts.{all_at}
 use Rattle.starlark_syntax.proofs.meetings.meeting_at.Goals as goal
 
 pub ends_alike-requires : goal.ends_alike-requires

@@ -3,7 +3,7 @@ use Rattle.std.proofs.lemmas.List.{take_rest}
 use Rattle.std.specs.List.{prefix_len}
 use Rattle.std.specs.Str.{IsCharBoundary}
 use Rattle.starlark_grammar.specs.Margins.{is_lf}
-use Rattle.starlark_syntax.proofs.NextLines.{next_line_boundary}
+use Rattle.starlark_syntax.proofs.RestartPlaces.{next_line_boundary}
 use Rattle.starlark_syntax.proofs.restarts.next_line.Goals as goal
 use Rattle.starlark_syntax.specs.Recovery.{next_line}
 

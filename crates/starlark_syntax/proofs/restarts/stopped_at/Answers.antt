@@ -1,5 +1,5 @@
 use Rattle.std.proofs.Common.{◌≤◌, ◌∙◌, arith, refl, sym, false}
-use Rattle.starlark_syntax.proofs.NextLines.{no_margin_tab, stopped_is}
+use Rattle.starlark_syntax.proofs.RestartPlaces.{no_margin_tab, stopped_is}
 use Rattle.starlark_syntax.specs.Recovery.{is_margin_tab}
 use Rattle.starlark_reader.proofs.NextLines.{next_line_later}
 use Rattle.starlark_syntax.proofs.restarts.stopped_at.Goals as goal

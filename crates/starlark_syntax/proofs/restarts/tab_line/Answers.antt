@@ -1,6 +1,6 @@
 use Rattle.std.proofs.Common.{◌∙◌, ap, drop}
 use Rattle.std.proofs.lemmas.List.{take_rest}
-use Rattle.starlark_syntax.proofs.NextLines.{after_line_end}
+use Rattle.starlark_syntax.proofs.RestartPlaces.{after_line_end}
 use Rattle.starlark_syntax.proofs.restarts.tab_line.Goals as goal
 
 pub margin_line-requires : goal.margin_line-requires

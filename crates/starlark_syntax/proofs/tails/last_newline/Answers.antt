@@ -1,7 +1,7 @@
 use Rattle.std.proofs.Common.{◌≡◌, ◌-◌, arith, suc, ap, map, sym, take, ◌∙◌}
 use Rattle.starlark_syntax.specs.Inner.LexedTexts.{last_newline_of}
 use Rattle.starlark_token.specs.Lexemes.{lexeme_view}
-use Rattle.starlark_syntax.proofs.LexedTexts.Newlines.{one_more_is, one_more_not}
+use Rattle.starlark_syntax.proofs.LexedTexts.LastNewlines.{one_more_is, one_more_not}
 use Rattle.starlark_syntax.proofs.tails.last_newline.Goals as goal
 
 pub returns-then-is_newline-clause-value : goal.returns-then-is_newline-clause-value

@@ -1,6 +1,6 @@
 use Rattle.std.proofs.Common.{ap, ◌∙◌, count_by}
 use Rattle.starlark_text.specs.Characters.{starts_character}
-use Rattle.starlark_text.proofs.Counts.{begun_count}
+use Rattle.starlark_text.proofs.CountedCharacters.{begun_count}
 use Rattle.starlark_text.proofs.character_starts.count_characters.Goals as goal
 
 pub returns : goal.returns

@@ -1,6 +1,6 @@
 use Rattle.std.specs.Str.{IsCharBoundary}
 use Rattle.std.proofs.Common.{subst, sym, ◌-◌, ℕ}
-use Rattle.starlark_text.proofs.Steps.{boundary_before}
+use Rattle.starlark_text.proofs.CursorSteps.{boundary_before}
 use Rattle.starlark_text.proofs.cursors.place_before.Goals as goal
 
 pub returns-clause-boundary : goal.returns-clause-boundary

@@ -2,7 +2,7 @@ use Rattle.std.proofs.Common.{◌+◌, ◌∙◌, sym, ap}
 use Rattle.std.proofs.lemmas.Result.{err_from_is_err_and}
 use Rattle.starlark_text.specs.Formats.{Text}
 use Rattle.starlark_text.specs.Scanning.{ending, ending_view, name_width}
-use Rattle.starlark_text.proofs.Tokens.{open_ok, open_err, open_boundary, tail_of, slice_is}
+use Rattle.starlark_text.proofs.FormatTokens.{open_ok, open_err, open_boundary, tail_of, slice_is}
 use Rattle.starlark_text.proofs.dot_format_parser.open_token.Goals as goal
 
 pub returns-in_err-conv : goal.returns-in_err-conv

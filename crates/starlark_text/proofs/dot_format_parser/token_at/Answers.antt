@@ -1,6 +1,6 @@
 use Rattle.std.proofs.Common.{◌∙◌, sym, ap}
 use Rattle.starlark_text.specs.Scanning.{plain_width, token_found}
-use Rattle.starlark_text.proofs.Tokens.{at_open, at_close, plain_ok, plain_boundary, front_is}
+use Rattle.starlark_text.proofs.FormatTokens.{at_open, at_close, plain_ok, plain_boundary, front_is}
 use Rattle.starlark_text.proofs.dot_format_parser.token_at.Goals as goal
 
 pub returns-then-first-eq123 : goal.returns-then-first-eq123

@@ -1,5 +1,5 @@
 use Rattle.std.proofs.Common.{◌∙◌}
-use Rattle.starlark_text.proofs.Places.{char_at_place}
+use Rattle.starlark_text.proofs.CharacterOffsets.{char_at_place}
 use Rattle.starlark_text.proofs.fast_string.at.Goals as goal
 
 pub returns : goal.returns

@@ -1,7 +1,7 @@
 use Rattle.std.proofs.Common.{subst, List, ℕ, ◌<◌, count_by, MatchOption}
 use Rattle.starlark_text.specs.Characters.{starts_character}
 use Rattle.starlark_text.specs.Inner.Begins.{IsBegin}
-use Rattle.starlark_text.proofs.Places.{place_is, place_boundary_is}
+use Rattle.starlark_text.proofs.CharacterOffsets.{place_is, place_boundary_is}
 use Rattle.starlark_text.proofs.fast_string.character_place.Goals as goal
 
 pub returns-clause-value : goal.returns-clause-value

@@ -1,5 +1,5 @@
 use Rattle.std.proofs.Common.{sym, ◌∙◌}
-use Rattle.starlark_text.proofs.Ascii.{ascii_from_count, count_from_ascii}
+use Rattle.starlark_text.proofs.AsciiTexts.{ascii_from_count, count_from_ascii}
 use Rattle.starlark_text.proofs.fast_string.len.Goals as goal
 
 pub returns-clause-ascii : goal.returns-clause-ascii

@@ -1,4 +1,4 @@
--- Zeros are ASCII, so the text may be cut remainder them.
+-- Zeros are ASCII, so the text may be cut after them.
 use Rattle.std.proofs.Common.{◌≡◌, ℕ, ◌<◌, true, nat_eq, arith}
 use Rattle.starlark_grammar.proofs.Words.Ascii.{boundary_after_run}
 use Rattle.starlark_token.proofs.number_text.plain_digits.Goals as goal

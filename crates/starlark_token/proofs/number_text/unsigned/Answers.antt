@@ -1,12 +1,12 @@
 use Rattle.std.proofs.Common.{◌≡◌, true, false, get_or}
 use Rattle.starlark_grammar.specs.Words.{is_sign}
-use Rattle.starlark_token.proofs.Integers.Signs.{unsigned_signed, unsigned_plain, boundary_behind_sign}
+use Rattle.starlark_token.proofs.Integers.Signs.{unsigned_signed, unsigned_plain, boundary_after_sign}
 use Rattle.starlark_token.proofs.number_text.unsigned.Goals as goal
 
 pub range_from-requires : goal.range_from-requires
 range_from-requires c =
     let signed : is_sign (get_or c.args.text.now 0 0) ≡ true = rw (← c.as_bytes.ensures.value, ← c.begins_with_sign.ensures) c.if-begins_with_sign.true in
-    λ some. boundary_behind_sign c.args.text.now c.utf8.text signed
+    λ some. boundary_after_sign c.args.text.now c.utf8.text signed
 
 pub returns-then-begins_with_sign : goal.returns-then-begins_with_sign
 returns-then-begins_with_sign c =

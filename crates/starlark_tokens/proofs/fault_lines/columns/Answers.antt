@@ -4,7 +4,7 @@ use Rattle.std.proofs.lemmas.Iterator.Consumers.{YieldsList-end}
 use Rattle.std.proofs.lemmas.List.{map-id}
 use Rattle.std.proofs.lemmas.List.Sums.{sum_by-append}
 use Rattle.std.specs.Prelude.{sum_by}
-use Rattle.starlark_tokens.specs.Lines.{shown_width}
+use Rattle.starlark_tokens.specs.ItemLines.{shown_width}
 use Rattle.starlark_tokens.proofs.fault_lines.columns.Goals as goal
 
 pub loop-character-preserved : goal.loop-character-preserved

@@ -1,6 +1,6 @@
 use Rattle.std.proofs.Common.{◌≡◌, ◌-◌, ◌^◌, min}
 use Rattle.std.specs.Prelude.{sum_by}
-use Rattle.starlark_tokens.specs.Lines.{shown_width}
+use Rattle.starlark_tokens.specs.ItemLines.{shown_width}
 use Rattle.starlark_tokens.proofs.fault_lines.columns.Given as goal
 
 -- the columns so far

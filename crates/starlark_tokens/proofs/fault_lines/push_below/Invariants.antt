@@ -1,6 +1,6 @@
 use Rattle.std.proofs.Common.{◌≡◌, ◌++◌, string_bytes}
 use Rattle.std.specs.List.{flat_map}
-use Rattle.starlark_tokens.specs.Lines.{below}
+use Rattle.starlark_tokens.specs.ItemLines.{below}
 use Rattle.starlark_tokens.proofs.fault_lines.push_below.Given as goal
 
 -- what was yielded is put

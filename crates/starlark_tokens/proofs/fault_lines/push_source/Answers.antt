@@ -4,7 +4,7 @@ use Rattle.std.specs.Str.{chars}
 use Rattle.std.proofs.lemmas.Iterator.{YieldsList-from_chars}
 use Rattle.std.proofs.lemmas.Iterator.Consumers.{YieldsList-end}
 use Rattle.std.proofs.lemmas.List.{flat_map_more, map-id}
-use Rattle.starlark_tokens.specs.Lines.{source_char}
+use Rattle.starlark_tokens.specs.ItemLines.{source_char}
 use Rattle.starlark_tokens.proofs.fault_lines.push_source.Goals as goal
 
 pub loop-character-preserved : goal.loop-character-preserved

@@ -1,7 +1,7 @@
 use Rattle.std.proofs.Common.{◌++◌, ◌∙◌, ap, codes, string_bytes}
 use Rattle.starlark_tokens.proofs.JoinedTexts.{four}
 use Rattle.starlark_tokens.specs.JsonStrings.{json_string}
-use Rattle.starlark_tokens.specs.Lines.{reason}
+use Rattle.starlark_tokens.specs.ItemLines.{reason}
 use Rattle.starlark_tokens.specs.SarifResults.{sarif_words}
 use Rattle.starlark_tokens.proofs.sarif_results.push_sarif_words.Goals as goal
 

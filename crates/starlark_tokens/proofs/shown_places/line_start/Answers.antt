@@ -1,6 +1,6 @@
 use Rattle.std.proofs.Common.{◌-◌, ap, length, subst, sym}
 use Rattle.std.specs.Str.{IsCharBoundary, IsUtf8}
-use Rattle.starlark_tokens.proofs.Starts.{line_start_boundary}
+use Rattle.starlark_tokens.proofs.LineStarts.{line_start_boundary}
 use Rattle.starlark_tokens.proofs.shown_places.line_start.Goals as goal
 
 pub returns-clause-boundary : goal.returns-clause-boundary

@@ -2,7 +2,7 @@ use Rattle.std.proofs.Common.{◌∙◌, ◌==◌, ap, arith, drop, not, subst, 
 use Rattle.std.proofs.lemmas.List.{take_rest}
 use Rattle.std.specs.List.{prefix_len}
 use Rattle.std.specs.Str.{IsCharBoundary}
-use Rattle.starlark_tokens.proofs.Starts.{next_tab_boundary}
+use Rattle.starlark_tokens.proofs.LineStarts.{next_tab_boundary}
 use Rattle.starlark_tokens.proofs.shown_places.next_tab.Goals as goal
 
 pub returns-clause-value : goal.returns-clause-value

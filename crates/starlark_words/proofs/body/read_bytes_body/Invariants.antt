@@ -1,7 +1,7 @@
 use Rattle.std.proofs.Common.{◌-◌, ◌*◌, length}
 use Rattle.std.specs.Str.{IsCharBoundary}
-use Rattle.starlark_words.specs.Inner.Literals.{literal_view}
-use Rattle.starlark_words.proofs.Literals.BodySteps.{IsFront}
+use Rattle.starlark_words.specs.Inner.LiteralViews.{literal_view}
+use Rattle.starlark_words.proofs.LiteralBodies.BodySteps.{IsFront}
 use Rattle.starlark_words.specs.Inner.Reads.{AreReads}
 use Rattle.starlark_words.proofs.body.read_bytes_body.Given as goal
 

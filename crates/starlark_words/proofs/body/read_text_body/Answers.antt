@@ -2,10 +2,10 @@ use Rattle.std.proofs.Common.{◌≡◌, ◌+◌, ◌++◌, ◌∙◌, encode_ut
 use Rattle.std.proofs.lemmas.Str.{IsCharBoundary-start}
 use Rattle.starlark_grammar.specs.Items as grammar
 use Rattle.starlark_grammar.specs.Words.{Text}
-use Rattle.starlark_words.specs.Inner.Literals.{literal_view, stop_view, value_view}
-use Rattle.starlark_words.proofs.Literals.BodyReads.{item_reads, short_reads}
-use Rattle.starlark_words.proofs.Literals.BodyRounds.{after_run, front_item, item_boundary, item_inside, run_stops}
-use Rattle.starlark_words.proofs.Literals.BodySteps.{IsFront, front_none}
+use Rattle.starlark_words.specs.Inner.LiteralViews.{literal_view, stop_view, value_view}
+use Rattle.starlark_words.proofs.LiteralBodies.BodyReads.{item_reads, short_reads}
+use Rattle.starlark_words.proofs.LiteralBodies.BodyRounds.{after_run, front_item, item_boundary, item_inside, run_stops}
+use Rattle.starlark_words.proofs.LiteralBodies.BodySteps.{IsFront, front_none}
 use Rattle.starlark_words.proofs.body.read_text_body.Goals as goal
 
 pub loop-value-init : goal.loop-value-init

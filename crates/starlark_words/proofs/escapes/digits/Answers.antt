@@ -2,7 +2,7 @@ use Rattle.std.proofs.Common.{◌≡◌, ◌+◌, ◌*◌, ◌<◌, ◌^◌, ◌
 use Rattle.std.proofs.lemmas.Int.Digits.{digits_value_more}
 use Rattle.std.proofs.lemmas.List.Sums.{prefix_len-drop_yes}
 use Rattle.std.specs.Char.{digit_value, is_digit}
-use Rattle.starlark_words.proofs.Literals.DigitRuns.{digit_passes, one_more}
+use Rattle.starlark_words.proofs.LiteralBodies.DigitRuns.{digit_passes, one_more}
 use Rattle.starlark_words.proofs.escapes.digits.Goals as goal
 
 pub overflow_mul-number : goal.overflow_mul-number

@@ -2,8 +2,8 @@ use Rattle.std.proofs.Common.{◌≡◌, ◌∙◌, true, false, drop, sym, ap, 
 use Rattle.std.specs.List.{slice_get}
 use Rattle.starlark_grammar.specs.Items.{escape, octal}
 use Rattle.starlark_grammar.specs.Words.{is_octal_digit}
-use Rattle.starlark_words.proofs.Literals.Escapes.{with_first, escape_end, escape_feed, escape_return, escape_x, escape_u, escape_long, escape_octal, escape_other}
-use Rattle.starlark_words.proofs.Fronts.{second_at_front}
+use Rattle.starlark_words.proofs.LiteralBodies.Escapes.{with_first, escape_end, escape_feed, escape_return, escape_x, escape_u, escape_long, escape_octal, escape_other}
+use Rattle.starlark_words.proofs.PeekedBytes.{second_at_front}
 use Rattle.starlark_words.proofs.escapes.escape.Goals as goal
 
 pub returns-in_default-clause-value : goal.returns-in_default-clause-value

@@ -1,6 +1,6 @@
 use Rattle.std.proofs.Common.{◌+◌, ◌≤◌, arith, rules}
 use Rattle.std.specs.Char.{is_ascii_hexdigit}
-use Rattle.starlark_words.proofs.Literals.DigitRuns.{hex_edge, run_short}
+use Rattle.starlark_words.proofs.LiteralBodies.DigitRuns.{hex_edge, run_short}
 use Rattle.starlark_words.proofs.escapes.hexadecimal.Goals as goal
 
 pub range_from-requires : goal.range_from-requires

@@ -1,5 +1,5 @@
 use Rattle.std.proofs.Common.{◌∙◌}
-use Rattle.starlark_words.proofs.Literals.DigitRuns.{hex_same}
+use Rattle.starlark_words.proofs.LiteralBodies.DigitRuns.{hex_same}
 use Rattle.starlark_words.proofs.escapes.hexadecimal_digits.Goals as goal
 
 pub returns-clause-len : goal.returns-clause-len

@@ -1,5 +1,5 @@
-use Rattle.starlark_words.specs.Inner.Literals.{literal_view}
-use Rattle.starlark_words.proofs.Literals.ReadFronts.{short_by_three}
+use Rattle.starlark_words.specs.Inner.LiteralViews.{literal_view}
+use Rattle.starlark_words.proofs.LiteralBodies.ReadFronts.{short_by_three}
 use Rattle.starlark_words.proofs.escapes.simple_escape.Goals as goal
 
 pub returns : goal.returns

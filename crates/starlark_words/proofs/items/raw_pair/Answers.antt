@@ -2,8 +2,8 @@ use Rattle.std.proofs.Common.{◌≡◌, ◌∙◌, true, false, drop, sym, Some
 use Rattle.std.proofs.Math.Nat.{sub-zero}
 use Rattle.std.specs.List.{slice_get}
 use Rattle.starlark_grammar.specs.Items.{drops_backslash}
-use Rattle.starlark_words.proofs.Literals.Found.{raw_end, raw_dropped, raw_kept, cut_behind}
-use Rattle.starlark_words.proofs.Fronts.{first_of}
+use Rattle.starlark_words.proofs.LiteralBodies.Found.{raw_end, raw_dropped, raw_kept, cut_after}
+use Rattle.starlark_words.proofs.PeekedBytes.{first_of}
 use Rattle.starlark_words.proofs.items.raw_pair.Goals as goal
 
 pub returns-in_default-clause-value : goal.returns-in_default-clause-value
@@ -27,4 +27,4 @@ returns-else-drops_backslash-clause-value c =
     let bytes = c.as_bytes.ensures.value in
     let first : slice_get (drop 1 c.args.text.now) 0 ≡ Some c.in-Some.first = first_of _ _ _ (bytes ∙ remainder) c.in-Some.ensures.byte in
     let keeps : drops_backslash c.args.literal.kind c.args.literal.opening.quote c.in-Some.first ≡ false = sym c.drops_backslash.ensures ∙ c.if-drops_backslash.false in
-    rw (c.part-else-drops_backslash.ensures.value, c.range-else-drops_backslash.ensures.value, sub-zero, cut_behind c.args.text.now (drop 1 c.args.text.now) c.character_len-character.result c.requires, ← remainder, c.character_len-character.ensures.character, c.character_len-character.ensures.whole, remainder) (sym (raw_kept c.args.literal.kind c.args.literal.opening.quote (drop 1 c.args.text.now) c.in-Some.first first keeps))
+    rw (c.part-else-drops_backslash.ensures.value, c.range-else-drops_backslash.ensures.value, sub-zero, cut_after c.args.text.now (drop 1 c.args.text.now) c.character_len-character.result c.requires, ← remainder, c.character_len-character.ensures.character, c.character_len-character.ensures.whole, remainder) (sym (raw_kept c.args.literal.kind c.args.literal.opening.quote (drop 1 c.args.text.now) c.in-Some.first first keeps))

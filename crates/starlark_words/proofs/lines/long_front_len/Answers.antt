@@ -2,7 +2,7 @@ use Rattle.std.proofs.Common.{◌≡◌, ◌+◌, ◌-◌, ap, drop, length, ari
 use Rattle.std.specs.Int.{trailing_zeros, w64}
 use Rattle.std.proofs.lemmas.List.{length-drop, take_all}
 use Rattle.std.specs.List.{prefix_len}
-use Rattle.starlark_words.specs.Inner.Lines.{is_in_front}
+use Rattle.starlark_words.specs.Inner.LineFronts.{is_in_front}
 use Rattle.starlark_words.proofs.LaneRuns.{run_passed, step_ends, step_goes_on}
 use Rattle.starlark_words.proofs.lines.long_front_len.Goals as goal
 

@@ -1,6 +1,6 @@
 use Rattle.std.proofs.Common.{◌≡◌, ◌+◌, ◌-◌, ◌≤◌, drop, length}
 use Rattle.std.specs.List.{prefix_len}
-use Rattle.starlark_words.specs.Inner.Lines.{is_in_front}
+use Rattle.starlark_words.specs.Inner.LineFronts.{is_in_front}
 use Rattle.starlark_words.proofs.lines.short_front_len.Given as goal
 
 abbrev pub invariant-loop-len : goal.invariant-loop-len

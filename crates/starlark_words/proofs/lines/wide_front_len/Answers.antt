@@ -1,5 +1,5 @@
 use Rattle.std.proofs.Common.{arith}
-use Rattle.starlark_words.specs.Inner.Lines.{is_in_front}
+use Rattle.starlark_words.specs.Inner.LineFronts.{is_in_front}
 use Rattle.starlark_words.proofs.LaneRuns.{step_ends, step_goes_on}
 use Rattle.starlark_words.proofs.lines.wide_front_len.Goals as goal
 

@@ -2,7 +2,7 @@ use Rattle.std.proofs.Common.{◌≡◌, ◌==◌, true, false, length, take, dr
 use Rattle.std.proofs.Math.Nat.{sub-zero}
 use Rattle.starlark_grammar.specs.Words.{Text}
 use Rattle.starlark_words.specs.OneIdentifier.{IsOneIdentifier}
-use Rattle.starlark_words.proofs.Identifiers.OneIdentifier.{IsRest, no_identifier, more_behind, one_found, one_alone}
+use Rattle.starlark_words.proofs.Identifiers.OneIdentifier.{IsRest, no_identifier, more_after, one_found, one_alone}
 use Rattle.starlark_words.proofs.one_identifier.lex_exactly_one_identifier.Goals as goal
 
 pub returns-in_default-clause-value : goal.returns-in_default-clause-value
@@ -15,7 +15,7 @@ returns-then-not-is_empty-clause-value c =
     let begin : IsRest c.args.s.now c.after_skipped-rest.result.now = record { passed = c.after_skipped-rest.ensures.passed; all = c.after_skipped-rest.ensures.all } in
     let end : IsRest (drop c.in-Some.len c.after_skipped-rest.result.now) c.after_skipped.result.now = rw (← c.range_from.ensures.value) record { passed = c.after_skipped.ensures.passed; all = c.after_skipped.ensures.all } in
     let more : (length c.after_skipped.result.now == 0) ≡ false = rw (← c.is_empty.ensures) c.if-not-is_empty.true in
-    more_behind c.args.s.now c.after_skipped-rest.result.now c.after_skipped.result.now c.in-Some.len begin (sym c.in-Some.ensures.value) end more
+    more_after c.args.s.now c.after_skipped-rest.result.now c.after_skipped.result.now c.in-Some.len begin (sym c.in-Some.ensures.value) end more
 
 pub returns-in_err-from_str-clause-memory : goal.returns-in_err-from_str-clause-memory
 returns-in_err-from_str-clause-memory c =

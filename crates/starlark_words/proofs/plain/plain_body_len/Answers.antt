@@ -2,7 +2,7 @@ use Rattle.std.proofs.Common.{◌≡◌, ◌==◌, List, ℕ, get_or, length, tr
 use Rattle.starlark_grammar.specs.Items.{quote_byte}
 use Rattle.starlark_grammar.specs.Pieces.{opening_of}
 use Rattle.starlark_grammar.specs.Tokens.{Opening}
-use Rattle.starlark_words.proofs.Literals.PlainBodies.{plain_body, plain_run, run_on_line}
+use Rattle.starlark_words.proofs.LiteralBodies.PlainBodies.{plain_body, plain_run, run_on_line}
 use Rattle.starlark_words.proofs.plain.plain_body_len.Goals.{else-len-eq0-via-then-len-eq0+else-is_quote_at, else-len-eq0-via-else-len-eq0}
 use Rattle.starlark_words.proofs.plain.plain_body_len.Goals as goal
 

@@ -2,7 +2,7 @@ use Rattle.std.proofs.Common.{◌∙◌, ap, arith, drop, length, take}
 use Rattle.std.proofs.lemmas.List.{take_rest}
 use Rattle.starlark_grammar.specs.Inner.Openings.{opening_view}
 use Rattle.starlark_grammar.specs.declared.class.LiteralKind.TheVariants.{FString as OfFString}
-use Rattle.starlark_words.proofs.Literals.PlainBodies.{plain_chunk, run_on_line}
+use Rattle.starlark_words.proofs.LiteralBodies.PlainBodies.{plain_chunk, run_on_line}
 use Rattle.starlark_words.proofs.plain.plain_chunk_len.Goals as goal
 
 pub returns-clause-plain : goal.returns-clause-plain

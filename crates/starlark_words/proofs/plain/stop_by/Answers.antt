@@ -1,6 +1,6 @@
 use Rattle.std.proofs.Common.{◌∙◌, sym}
 use Rattle.starlark_grammar.specs.Inner.Openings.{opening_view}
-use Rattle.starlark_words.proofs.Literals.PlainBodies.{closed_by_three, opened_by_three}
+use Rattle.starlark_words.proofs.LiteralBodies.PlainBodies.{closed_by_three, opened_by_three}
 use Rattle.starlark_words.proofs.plain.stop_by.Goals as goal
 
 pub returns-then-closes : goal.returns-then-closes

@@ -1,9 +1,9 @@
 use Rattle.std.proofs.Common.{length, ◌≡◌}
 use Rattle.std.proofs.lemmas.Simd.{length-chunk}
 use lib.Lanes.{chunk}
-use Rattle.starlark_words.specs.Inner.Runs.{is_end}
+use Rattle.starlark_words.specs.Inner.PlainRuns.{is_end}
 use Rattle.starlark_words.proofs.LaneRuns.{lanes_counted}
-use Rattle.starlark_words.proofs.Literals.EndLanes.{end_lanes}
+use Rattle.starlark_words.proofs.LiteralBodies.EndLanes.{end_lanes}
 use Rattle.starlark_words.proofs.run_lanes.lanes_run_len.Goals as goal
 
 pub returns : goal.returns

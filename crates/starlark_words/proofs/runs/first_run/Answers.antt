@@ -2,9 +2,9 @@ use Rattle.std.proofs.Common.{◌≡◌, ◌-◌, arith, ℕ, List, take, sym, a
 use Rattle.std.proofs.lemmas.List.Folds.{length-prefix_len}
 use Rattle.std.specs.List.{prefix_len}
 use Rattle.std.specs.Str.{IsCharBoundary}
-use Rattle.starlark_words.specs.Inner.Literals.{literal_view}
-use Rattle.starlark_words.specs.Inner.Runs.{is_in_run}
-use Rattle.starlark_words.proofs.Literals.RunBytes.{run_edge}
+use Rattle.starlark_words.specs.Inner.LiteralViews.{literal_view}
+use Rattle.starlark_words.specs.Inner.PlainRuns.{is_in_run}
+use Rattle.starlark_words.proofs.LiteralBodies.RunBytes.{run_edge}
 use Rattle.starlark_words.proofs.runs.first_run.Goals as goal
 
 pub range-requires-clause-end_boundary : goal.range-requires-clause-end_boundary

@@ -1,5 +1,5 @@
 use Rattle.std.proofs.Common.{sym, ap, ◌∙◌, not}
-use Rattle.starlark_words.specs.Inner.Literals.{literal_view}
+use Rattle.starlark_words.specs.Inner.LiteralViews.{literal_view}
 use Rattle.starlark_words.proofs.runs.is_in_run.Goals as goal
 
 pub returns-then-is_ordinary : goal.returns-then-is_ordinary

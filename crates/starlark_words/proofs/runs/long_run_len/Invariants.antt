@@ -1,7 +1,7 @@
 use Rattle.std.proofs.Common.{length, ◌+◌, ◌-◌, ◌≡◌, ◌≤◌, drop}
 use Rattle.std.specs.List.{prefix_len}
-use Rattle.starlark_words.specs.Inner.Runs.{is_in_run}
-use Rattle.starlark_words.specs.Inner.Literals.{literal_view}
+use Rattle.starlark_words.specs.Inner.PlainRuns.{is_in_run}
+use Rattle.starlark_words.specs.Inner.LiteralViews.{literal_view}
 use Rattle.starlark_words.proofs.runs.long_run_len.Given as goal
 
 abbrev pub invariant-loop-at : goal.invariant-loop-at

@@ -1,10 +1,10 @@
 use Rattle.std.proofs.Common.{not, ◌≡◌, ◌-◌, ◌∙◌, ap, sym, drop, take, length, arith}
 use Rattle.std.proofs.lemmas.List.{length-drop, take_all}
 use Rattle.std.specs.List.{prefix_len}
-use Rattle.starlark_words.specs.Inner.Runs.{is_end, is_in_run}
-use Rattle.starlark_words.specs.Inner.Literals.{literal_view}
+use Rattle.starlark_words.specs.Inner.PlainRuns.{is_end, is_in_run}
+use Rattle.starlark_words.specs.Inner.LiteralViews.{literal_view}
 use Rattle.starlark_words.proofs.LaneRuns.{run_ends, run_goes_on, run_within}
-use Rattle.starlark_words.proofs.Literals.RunBytes.{same_run}
+use Rattle.starlark_words.proofs.LiteralBodies.RunBytes.{same_run}
 use Rattle.starlark_words.proofs.runs.run_len.Goals as goal
 
 pub returns-then-len-lt-LANES-clause-value : goal.returns-then-len-lt-LANES-clause-value

@@ -1,7 +1,7 @@
 use Rattle.std.proofs.Common.{◌≡◌, ◌+◌, ◌-◌, ◌≤◌, drop, length}
 use Rattle.std.specs.List.{prefix_len}
-use Rattle.starlark_words.specs.Inner.Literals.{literal_view}
-use Rattle.starlark_words.specs.Inner.Runs.{is_in_run}
+use Rattle.starlark_words.specs.Inner.LiteralViews.{literal_view}
+use Rattle.starlark_words.specs.Inner.PlainRuns.{is_in_run}
 use Rattle.starlark_words.proofs.runs.short_run_len.Given as goal
 
 abbrev pub invariant-loop-len : goal.invariant-loop-len

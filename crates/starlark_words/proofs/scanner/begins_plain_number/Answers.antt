@@ -1,5 +1,5 @@
 use Rattle.std.proofs.Common.{ap, ◌∙◌}
-use Rattle.starlark_words.specs.Inner.Words.{begins_plain_number}
+use Rattle.starlark_words.specs.Inner.ScannedWords.{begins_plain_number}
 use Rattle.starlark_words.proofs.Scan.ReadFronts.{plain_number_by_three}
 use Rattle.starlark_words.proofs.scanner.begins_plain_number.Goals as goal
 

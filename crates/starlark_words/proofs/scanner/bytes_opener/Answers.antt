@@ -1,13 +1,13 @@
 use Rattle.std.proofs.Common.{ap, ◌∙◌, arith}
-use Rattle.starlark_words.specs.Inner.Words.{quote_after}
+use Rattle.starlark_words.specs.Inner.ScannedWords.{quote_after}
 use Rattle.starlark_words.proofs.Scan.Openers.{bytes_found}
-use Rattle.starlark_words.proofs.Scan.ReadFronts.{behind_by_three}
+use Rattle.starlark_words.proofs.Scan.ReadFronts.{after_by_three}
 use Rattle.starlark_words.proofs.scanner.bytes_opener.Goals as goal
 
 pub returns-clause-word : goal.returns-clause-word
 returns-clause-word c =
-    (bytes_found c.args.text.now c.quote_after.result (λ i. omega (arith, c.type_inv.text i)) (c.quote_after.ensures ∙ ap (quote_after 98) c.requires ∙ behind_by_three 98 c.args.text.now)).0
+    (bytes_found c.args.text.now c.quote_after.result (λ i. omega (arith, c.type_inv.text i)) (c.quote_after.ensures ∙ ap (quote_after 98) c.requires ∙ after_by_three 98 c.args.text.now)).0
 
 pub returns-clause-bang : goal.returns-clause-bang
 returns-clause-bang c =
-    (bytes_found c.args.text.now c.quote_after.result (λ i. omega (arith, c.type_inv.text i)) (c.quote_after.ensures ∙ ap (quote_after 98) c.requires ∙ behind_by_three 98 c.args.text.now)).1
+    (bytes_found c.args.text.now c.quote_after.result (λ i. omega (arith, c.type_inv.text i)) (c.quote_after.ensures ∙ ap (quote_after 98) c.requires ∙ after_by_three 98 c.args.text.now)).1

@@ -1,6 +1,6 @@
 use Rattle.std.proofs.Common.{sym, ap, ◌∙◌, arith}
-use Rattle.starlark_words.specs.Inner.Words.{is_digit_alone}
-use Rattle.starlark_words.proofs.Scan.Numbers.{front_of_digit}
+use Rattle.starlark_words.specs.Inner.ScannedWords.{is_digit_alone}
+use Rattle.starlark_words.proofs.Scan.ScannedNumbers.{front_of_digit}
 use Rattle.starlark_words.proofs.Scan.ReadFronts.{digit_by_three}
 use Rattle.starlark_words.proofs.scanner.single_digit.Goals as goal
 

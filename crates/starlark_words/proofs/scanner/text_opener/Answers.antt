@@ -1,5 +1,5 @@
 use Rattle.std.proofs.Common.{ap, ◌∙◌, take, arith}
-use Rattle.starlark_words.specs.Inner.Words.{text_opener}
+use Rattle.starlark_words.specs.Inner.ScannedWords.{text_opener}
 use Rattle.starlark_words.proofs.Scan.Openers.{opener_found}
 use Rattle.starlark_words.proofs.Scan.ReadFronts.{opener_by_two}
 use Rattle.starlark_words.proofs.scanner.text_opener.Goals as goal

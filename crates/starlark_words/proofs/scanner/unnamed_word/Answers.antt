@@ -4,8 +4,8 @@ use Rattle.std.proofs.lemmas.Option.{get_or_from_slice_get}
 use Rattle.std.specs.List.{slice_get}
 use Rattle.starlark_grammar.specs.Words.{Text, begins, class_in, is_name_start}
 use Rattle.starlark_grammar.specs.Front.{longest_front}
-use Rattle.starlark_words.specs.Inner.Words.{begins_number, marks}
-use Rattle.starlark_words.proofs.Fronts.{at_front}
+use Rattle.starlark_words.specs.Inner.ScannedWords.{begins_number, marks}
+use Rattle.starlark_words.proofs.PeekedBytes.{at_front}
 use Rattle.starlark_words.proofs.Scan.ReadFronts.{mark_by_three, number_by_three}
 use Rattle.starlark_words.proofs.Scan.ByFirst.{front_empty, front_blank, front_tab, front_hash, front_single_quote, front_double_quote, front_mark}
 use Rattle.starlark_words.proofs.Scan.Bangs.{no_bang_at_word}

@@ -2,7 +2,7 @@ use Rattle.std.proofs.Common.{◌≡◌, List, ℕ, Some, refl, sym, ap, take, �
 use Rattle.std.specs.Option.{option_map}
 use Rattle.starlark_grammar.specs.Front.{longest_front}
 use Rattle.std.specs.List.{slice_get}
-use Rattle.starlark_words.specs.Inner.Words.{begins_symbol, is_mark_alone, word_view}
+use Rattle.starlark_words.specs.Inner.ScannedWords.{begins_symbol, is_mark_alone, word_view}
 use Rattle.starlark_words.proofs.Scan.ByFirst.{front_double_quote, front_single_quote}
 use Rattle.starlark_words.proofs.Scan.Marks.{mark_of}
 use Rattle.starlark_words.proofs.Scan.ReadFronts.{alone_by_two, first_by_two, mark_by_three, symbol_by_two}

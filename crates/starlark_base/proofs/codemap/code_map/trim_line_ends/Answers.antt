@@ -1,4 +1,4 @@
-use Rattle.starlark_base.proofs.LineEnds.{line_ends_within, boundary_before_line_ends}
+use Rattle.starlark_base.proofs.ShortenedSpans.{line_ends_within, boundary_before_line_ends}
 use Rattle.starlark_base.proofs.codemap.code_map.trim_line_ends.Goals as goal
 
 pub overflow_sub-text : goal.overflow_sub-text

@@ -1,7 +1,7 @@
 use Rattle.std.proofs.Common.{rules, ◌≡◌, ◌-◌, ◌+◌, ◌∙◌, ap, subst, arith, refl, ℕ, length, List}
 use Rattle.starlark_document.proofs.Splices.{edited_len}
 use Rattle.starlark_document.specs.Documents.{IsRange, edited}
-use Rattle.starlark_document.specs.Inner.Parts.{IsLexedPart, IsPart}
+use Rattle.starlark_document.specs.Inner.EditedParts.{IsLexedPart, IsEditedPart}
 use Rattle.starlark_document.specs.Inner.Segments.{text_of}
 use Rattle.starlark_document.specs.declared.segments.Segment.{Segment}
 use Rattle.starlark_document.proofs.document.Document.edit.Goals as goal
@@ -11,7 +11,7 @@ replace-requires-clause-part c =
     let segments = c.self.inside.segments.items in
     let new = edited c.args.from c.args.to c.args.text.now (text_of segments) in
     let part = c.in_ok-part.part in
-    let parts : IsPart segments new part = subst (λ (xs : List Segment). IsPart xs (edited c.args.from c.args.to c.args.text.now (text_of xs)) part) c.deref-2.ensures.value c.in_ok-part.ensures.part in
+    let parts : IsEditedPart segments new part = subst (λ (xs : List Segment). IsEditedPart xs (edited c.args.from c.args.to c.args.text.now (text_of xs)) part) c.deref-2.ensures.value c.in_ok-part.ensures.part in
     let lexed : IsLexedPart segments part c.in_ok-lexed.lexed = subst (λ (xs : List Segment). IsLexedPart xs part c.in_ok-lexed.lexed) c.deref-3.ensures.value c.in_ok-lexed.ensures in
     let range : IsRange (text_of segments) c.args.from c.args.to = subst (λ (xs : List Segment). IsRange (text_of xs) c.args.from c.args.to) c.deref.ensures.value c.in-Some.ensures.some.is_range in
     let len : c.self.inside.len - (c.args.to - c.args.from) + length c.args.text.now ≡ length new = omega (arith, edited_len (text_of segments) c.args.from c.args.to c.args.text.now range, c.self.invariant.1) in
@@ -22,7 +22,7 @@ invariant_of-self-2 c =
     let segments = c.self.inside.segments.items in
     let new = edited c.args.from c.args.to c.args.text.now (text_of segments) in
     let part = c.in_ok-part.part in
-    let parts : IsPart segments new part = subst (λ (xs : List Segment). IsPart xs (edited c.args.from c.args.to c.args.text.now (text_of xs)) part) c.deref-2.ensures.value c.in_ok-part.ensures.part in
+    let parts : IsEditedPart segments new part = subst (λ (xs : List Segment). IsEditedPart xs (edited c.args.from c.args.to c.args.text.now (text_of xs)) part) c.deref-2.ensures.value c.in_ok-part.ensures.part in
     let lexed : IsLexedPart segments part c.in_ok-lexed.lexed = subst (λ (xs : List Segment). IsLexedPart xs part c.in_ok-lexed.lexed) c.deref-3.ensures.value c.in_ok-lexed.ensures in
     let range : IsRange (text_of segments) c.args.from c.args.to = subst (λ (xs : List Segment). IsRange (text_of xs) c.args.from c.args.to) c.deref.ensures.value c.in-Some.ensures.some.is_range in
     let len : c.self.inside.len - (c.args.to - c.args.from) + length c.args.text.now ≡ length new = omega (arith, edited_len (text_of segments) c.args.from c.args.to c.args.text.now range, c.self.invariant.1) in
@@ -35,7 +35,7 @@ returns-clause-text c =
     let segments = c.self.inside.segments.items in
     let new = edited c.args.from c.args.to c.args.text.now (text_of segments) in
     let part = c.in_ok-part.part in
-    let parts : IsPart segments new part = subst (λ (xs : List Segment). IsPart xs (edited c.args.from c.args.to c.args.text.now (text_of xs)) part) c.deref-2.ensures.value c.in_ok-part.ensures.part in
+    let parts : IsEditedPart segments new part = subst (λ (xs : List Segment). IsEditedPart xs (edited c.args.from c.args.to c.args.text.now (text_of xs)) part) c.deref-2.ensures.value c.in_ok-part.ensures.part in
     let lexed : IsLexedPart segments part c.in_ok-lexed.lexed = subst (λ (xs : List Segment). IsLexedPart xs part c.in_ok-lexed.lexed) c.deref-3.ensures.value c.in_ok-lexed.ensures in
     c.in_ok-change.ensures.text new part parts refl lexed ∙ ap (λ (t : List ℕ). edited c.args.from c.args.to c.args.text.now t) c.self.view_is
 

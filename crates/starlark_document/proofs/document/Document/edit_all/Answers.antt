@@ -1,6 +1,6 @@
 use Rattle.std.proofs.Common.{ap, ◌∙◌, subst, arith, refl}
 use Rattle.starlark_document.specs.Documents.{AreEdits, text_after}
-use Rattle.starlark_document.proofs.Edits.{all_taken, made_more, stopped}
+use Rattle.starlark_document.proofs.EditLists.{all_taken, made_more, stopped}
 use Rattle.starlark_document.proofs.document.Document.edit_all.Goals as goal
 
 pub loop-index-init : goal.loop-index-init

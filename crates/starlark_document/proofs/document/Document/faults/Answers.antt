@@ -1,5 +1,5 @@
 use Rattle.std.proofs.Common.{List, ap, subst, sym, ◌∙◌}
-use Rattle.starlark_document.proofs.Found.{bounded_laid, faults_laid}
+use Rattle.starlark_document.proofs.FoundInSegments.{bounded_laid, faults_laid}
 use Rattle.starlark_document.specs.Documents.{faults_of}
 use Rattle.starlark_document.specs.Inner.Segments.{AreBounded, faults_along}
 use Rattle.starlark_document.specs.declared.segments.Segment.{Segment}

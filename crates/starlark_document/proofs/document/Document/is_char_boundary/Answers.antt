@@ -1,5 +1,5 @@
 use Rattle.std.proofs.Common.{subst, sym, true}
-use Rattle.starlark_document.proofs.Places.{HaveLens-laid}
+use Rattle.starlark_document.proofs.SegmentOffsets.{HaveLens-laid}
 use Rattle.starlark_document.specs.Inner.Segments.{HaveLens}
 use Rattle.starlark_document.proofs.document.Document.is_char_boundary.Goals as goal
 

@@ -1,5 +1,5 @@
 use Rattle.std.proofs.Common.{List, ap, subst, sym, ◌∙◌}
-use Rattle.starlark_document.proofs.Found.{bounded_laid, lexemes_laid}
+use Rattle.starlark_document.proofs.FoundInSegments.{bounded_laid, lexemes_laid}
 use Rattle.starlark_document.proofs.Iterators.{lexemes_from-start}
 use Rattle.starlark_document.specs.Documents.{lexemes_of}
 use Rattle.starlark_document.specs.Inner.Segments.{AreBounded, lexemes_from}

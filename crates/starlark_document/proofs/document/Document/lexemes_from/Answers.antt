@@ -2,11 +2,11 @@ use Rattle.std.proofs.Common.{◌≡◌, ℕ, ◌+◌, ◌<◌, List, Some, ap, 
 use Rattle.std.proofs.lemmas.List.{take_rest}
 use Rattle.std.proofs.lemmas.Option.{slice_get_read}
 use Rattle.std.specs.List.{prefix_len, slice_get}
-use Rattle.starlark_document.proofs.Found.{bounded_laid, lexemes_laid}
+use Rattle.starlark_document.proofs.FoundInSegments.{bounded_laid, lexemes_laid}
 use Rattle.starlark_document.proofs.PassedLexemes.{bounded_from, lexemes_left}
-use Rattle.starlark_document.proofs.Places.{HaveLens-laid}
+use Rattle.starlark_document.proofs.SegmentOffsets.{HaveLens-laid}
 use Rattle.starlark_document.specs.Documents.{ends_by, lexemes_of}
-use Rattle.starlark_document.specs.Inner.Parts.{IsPlaceIn}
+use Rattle.starlark_document.specs.Inner.EditedParts.{IsPlaceIn}
 use Rattle.starlark_document.specs.Inner.Segments.{AreBounded, HaveLens, lexemes_from}
 use Rattle.starlark_document.specs.declared.segments.Segment.{Segment}
 use Rattle.starlark_grammar.specs.Tokens.{Spanned}

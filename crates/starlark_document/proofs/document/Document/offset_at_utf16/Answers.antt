@@ -1,8 +1,8 @@
 use Rattle.std.proofs.Common.{◌≡◌, ◌↔◌, List, Some, ap, subst, ℕ, ◌∙◌}
 use Rattle.starlark_document.proofs.LinePlaces.{stands_exactly}
-use Rattle.starlark_document.proofs.Places.{IsUtf8-text_of}
+use Rattle.starlark_document.proofs.SegmentOffsets.{IsUtf8-text_of}
 use Rattle.starlark_document.specs.Inner.Segments.{text_of}
-use Rattle.starlark_document.specs.Places.{StandsAt}
+use Rattle.starlark_document.specs.Utf16Places.{StandsAt}
 use Rattle.starlark_document.proofs.document.Document.offset_at_utf16.Goals as goal
 
 pub returns : goal.returns

@@ -1,4 +1,4 @@
-use Rattle.starlark_grammar.proofs.Indentation.Totals.{outcome_balances}
+use Rattle.starlark_grammar.proofs.Indentation.LayoutTotals.{outcome_balances}
 use Rattle.starlark_grammar.proofs.laws.language_laws.balanced_layout.Goals as goal
 
 -- src/laws.rt:31:1

@@ -1,4 +1,4 @@
-use Rattle.starlark_grammar.proofs.Recovery.Outcomes.{faultless, faultless_recovers}
+use Rattle.starlark_grammar.proofs.Recovery.TextOutcomes.{faultless, faultless_recovers}
 use Rattle.starlark_grammar.proofs.laws.recovery_laws.faultless_texts_stay.Goals as goal
 
 pub returns-clause-outcome : goal.returns-clause-outcome

@@ -1,4 +1,4 @@
-use Rattle.starlark_grammar.proofs.Recovery.Outcomes.{lexes_on, restarts_later}
+use Rattle.starlark_grammar.proofs.Recovery.TextOutcomes.{lexes_on, restarts_later}
 use Rattle.starlark_grammar.proofs.laws.recovery_laws.faults_end_lines.Goals as goal
 
 pub returns-clause-outcomes : goal.returns-clause-outcomes

@@ -1,5 +1,5 @@
 use Rattle.starlark_grammar.proofs.Joining.CleanCuts.{cuts_join}
-use Rattle.starlark_grammar.proofs.Joining.Laws.{tabs_behind_cuts, later_faults_join, faults_join, cuts_of_joined}
+use Rattle.starlark_grammar.proofs.Joining.Laws.{tabs_after_cuts, later_faults_join, faults_join, cuts_of_joined}
 use Rattle.starlark_grammar.proofs.laws.text_laws.joins_at_clean_cuts.Goals as goal
 
 pub returns-clause-lists : goal.returns-clause-lists
@@ -15,4 +15,4 @@ pub returns-clause-cuts : goal.returns-clause-cuts
 returns-clause-cuts c = cuts_of_joined
 
 pub returns-clause-tabs : goal.returns-clause-tabs
-returns-clause-tabs c = tabs_behind_cuts
+returns-clause-tabs c = tabs_after_cuts

@@ -1,11 +1,11 @@
 use Rattle.std.proofs.Common.{◌≡◌, ◌∙◌, ◌+◌, ◌-◌, ◌≤◌, ap, arith, length, refl, rules, sym}
 use Rattle.std.specs.Prelude.{codes, string_bytes}
 use Rattle.starlark_grammar.specs.Items as items
-use Rattle.starlark_words.specs.Inner.Literals.{bytes_of, fstring_literal, stop_view, stopped_len}
+use Rattle.starlark_words.specs.Inner.LiteralViews.{bytes_of, fstring_literal, stop_view, stopped_len}
 use Rattle.starlark_grammar.specs.Inner.Openings.{opening_view}
 use Rattle.starlark_grammar.specs.Tokens.{InvalidInput, InvalidEscapeSequence, UnfinishedStringLiteral}
-use Rattle.starlark_reader.proofs.Literals.Chunks.{bad_chunk_fits, chunk_is}
-use Rattle.starlark_reader.proofs.Literals.StepReads.{closing_some}
+use Rattle.starlark_reader.proofs.ReadLiterals.Chunks.{bad_chunk_fits, chunk_is}
+use Rattle.starlark_reader.proofs.ReadLiterals.StepReads.{closing_some}
 use Rattle.starlark_reader.proofs.literal.chunks.chunk_from.Goals as goal
 
 pub overflow_sub-result : goal.overflow_sub-result

@@ -1,8 +1,8 @@
 use Rattle.std.proofs.Common.{◌∙◌, ap, sym, take}
 use Rattle.starlark_grammar.specs.Items as items
-use Rattle.starlark_words.specs.Inner.Literals.{stop_view}
+use Rattle.starlark_words.specs.Inner.LiteralViews.{stop_view}
 use Rattle.starlark_grammar.specs.Inner.Openings.{opening_view}
-use Rattle.starlark_reader.proofs.Literals.Chunks.{chunk_is}
+use Rattle.starlark_reader.proofs.ReadLiterals.Chunks.{chunk_is}
 use Rattle.starlark_reader.proofs.literal.chunks.plain_text.Goals as goal
 
 pub returns-in-OpeningBrace-clause-plain : goal.returns-in-OpeningBrace-clause-plain

@@ -1,6 +1,6 @@
 use Rattle.std.proofs.Common.{◌≡◌, ◌==◌, true, false, length, refl, sym, ◌∙◌}
 use Rattle.starlark_grammar.specs.Tokens.{EmptyEscapeSequence, InvalidEscapeSequence}
-use Rattle.starlark_reader.proofs.Literals.Pieces.{escape_none, escape_some}
+use Rattle.starlark_reader.proofs.ReadLiterals.LiteralPieces.{escape_none, escape_some}
 use Rattle.starlark_reader.proofs.literal.pieces.escape_fault.Goals as goal
 
 pub returns-then-is_empty-clause-step : goal.returns-then-is_empty-clause-step

@@ -1,11 +1,11 @@
 use Rattle.std.proofs.Common.{◌≡◌, ◌+◌, ◌-◌, ◌*◌, ◌∙◌, ap, arith, length, refl, sym}
-use Rattle.starlark_reader.proofs.Literals.StepReads.{closing_some, fault_reads}
+use Rattle.starlark_reader.proofs.ReadLiterals.StepReads.{closing_some, fault_reads}
 use Rattle.starlark_grammar.specs.Items as grammar
 use Rattle.starlark_grammar.specs.Tokens.{UnfinishedStringLiteral}
 use Rattle.starlark_words.specs.Inner.Reads.{AreReads}
-use Rattle.starlark_words.specs.Inner.Literals.{literal_view, stop_view, stopped_len}
+use Rattle.starlark_words.specs.Inner.LiteralViews.{literal_view, stop_view, stopped_len}
 use Rattle.starlark_grammar.specs.Inner.Openings.{opening_view}
-use Rattle.starlark_reader.proofs.Literals.Pieces.{bad_edges, bad_fits, bad_literal, closing_fits, if_ok, line_literal, read_after}
+use Rattle.starlark_reader.proofs.ReadLiterals.LiteralPieces.{bad_edges, bad_fits, bad_literal, closing_fits, if_ok, line_literal, read_after}
 use Rattle.starlark_reader.proofs.literal.pieces.literal_from.Goals as goal
 
 pub overflow_add-result-in-Closing : goal.overflow_add-result-in-Closing
@@ -45,7 +45,7 @@ escape_fault-requires c =
     omega (arith, fits.0, fits.1, c.range.ensures.len, c.requires)
 
 pub returns-in-BadEscape-clause-step : goal.returns-in-BadEscape-clause-step
-returns-in-BadEscape-clause-step c = if_ok _ _ c.escape_fault.result (λ step is place outside. rw (bad_literal place (literal_view c.args.literal) c.args.len c.in_ok-body.body.len c.in-BadEscape.read c.in-BadEscape.last c.args.remainder.now c.in_ok-body.ensures.body.len (sym c.in_ok-body.ensures.body.stop ∙ ap stop_view c.in-BadEscape.is), ← read_after c.args.remainder.now c.in_ok-body.body.len c.in-BadEscape.read, ← c.range.ensures.value) is) c.escape_fault.ensures.step
+returns-in-BadEscape-clause-step c = if_ok _ _ c.escape_fault.result (λ step is mode outside. rw (bad_literal mode (literal_view c.args.literal) c.args.len c.in_ok-body.body.len c.in-BadEscape.read c.in-BadEscape.last c.args.remainder.now c.in_ok-body.ensures.body.len (sym c.in_ok-body.ensures.body.stop ∙ ap stop_view c.in-BadEscape.is), ← read_after c.args.remainder.now c.in_ok-body.body.len c.in-BadEscape.read, ← c.range.ensures.value) is) c.escape_fault.ensures.step
 
 pub returns-in-BadEscape-clause-reads : goal.returns-in-BadEscape-clause-reads
 returns-in-BadEscape-clause-reads c =
@@ -71,5 +71,5 @@ returns-in-Line-clause-reads c =
     ((omega (arith, c.in_ok-body.ensures.reads.0), omega (arith, stopped, c.in_ok-body.ensures.reads.1)), omega arith)
 
 pub returns-in-Line-clause-step : goal.returns-in-Line-clause-step
-returns-in-Line-clause-step c = λ place outside.
-    (UnfinishedStringLiteral, refl, line_literal place (literal_view c.args.literal) c.args.len c.in_ok-body.body.len c.args.remainder.now c.in_ok-body.ensures.body.len (sym c.in_ok-body.ensures.body.stop ∙ ap stop_view c.in-Line.is))
+returns-in-Line-clause-step c = λ mode outside.
+    (UnfinishedStringLiteral, refl, line_literal mode (literal_view c.args.literal) c.args.len c.in_ok-body.body.len c.args.remainder.now c.in_ok-body.ensures.body.len (sym c.in_ok-body.ensures.body.stop ∙ ap stop_view c.in-Line.is))

@@ -1,8 +1,8 @@
 use Rattle.std.proofs.Common.{ap, sym, ◌∙◌}
-use Rattle.starlark_words.specs.Inner.Literals.{holds_text, bytes_of}
+use Rattle.starlark_words.specs.Inner.LiteralViews.{holds_text, bytes_of}
 use Rattle.starlark_grammar.specs.Pieces.{literal_token}
 use Rattle.starlark_token.specs.TokenViews.{Whole, token_view}
-use Rattle.starlark_reader.proofs.Literals.Pieces.{token_of_text, token_of_bytes}
+use Rattle.starlark_reader.proofs.ReadLiterals.LiteralPieces.{token_of_text, token_of_bytes}
 use Rattle.starlark_reader.proofs.literal.pieces.literal_token.Goals as goal
 
 pub returns-in-Text-clause-token : goal.returns-in-Text-clause-token

@@ -2,8 +2,8 @@ use Rattle.std.proofs.Common.{◌∷◌, List, subst, sym, ◌∙◌}
 use Rattle.std.specs.Prelude.{reverse}
 use Rattle.starlark_grammar.specs.Tokens.{FStringStart}
 use Rattle.starlark_grammar.specs.Inner.Openings.{opening_view}
-use Rattle.starlark_reader.specs.declared.counts.OpenFString.{OpenFString}
-use Rattle.starlark_reader.proofs.OpenBrackets.FStrings.{AreOpen, begun, begun_opened, begun_closed, popped}
+use Rattle.starlark_reader.specs.declared.bracket_counts.OpenFString.{OpenFString}
+use Rattle.starlark_reader.proofs.OpenBrackets.OpenFStrings.{AreOpen, begun, begun_opened, begun_closed, popped}
 use Rattle.starlark_reader.proofs.nesting.Nesting.begin_fstring.Goals as goal
 
 pub returns-clause-begins : goal.returns-clause-begins

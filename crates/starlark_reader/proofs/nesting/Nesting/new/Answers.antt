@@ -1,8 +1,8 @@
 use Rattle.std.proofs.Common.{List, [], ap, subst, sym}
 use Rattle.std.specs.Prelude.{reverse}
-use Rattle.starlark_reader.specs.declared.counts.Brackets.{Brackets}
-use Rattle.starlark_reader.specs.declared.counts.OpenFString.{OpenFString}
-use Rattle.starlark_reader.proofs.OpenBrackets.FStrings.{AreOpen, none_at_start}
+use Rattle.starlark_reader.specs.declared.bracket_counts.Brackets.{Brackets}
+use Rattle.starlark_reader.specs.declared.bracket_counts.OpenFString.{OpenFString}
+use Rattle.starlark_reader.proofs.OpenBrackets.OpenFStrings.{AreOpen, none_at_start}
 use Rattle.starlark_reader.proofs.nesting.Nesting.new.Goals as goal
 
 pub returns-clause-begins : goal.returns-clause-begins

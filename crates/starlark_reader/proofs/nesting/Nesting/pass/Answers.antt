@@ -2,10 +2,10 @@ use Rattle.std.proofs.Common.{◌≡◌, ◌<◌, ◌+◌, ◌-◌, ◌^◌, ◌
 use Rattle.std.specs.Prelude.{reverse, vec_len}
 use Rattle.starlark_token.specs.TokenViews.{Whole}
 use Rattle.starlark_reader.specs.Inner.Nesting.{brackets_of, change_by}
-use Rattle.starlark_reader.specs.contracts.changes.Change.{the_type}
-use Rattle.starlark_reader.specs.declared.counts.OpenFString.{OpenFString}
-use Rattle.starlark_reader.specs.declared.changes.Change.TheVariants as change
-use Rattle.starlark_reader.proofs.OpenBrackets.FStrings.{AreOpen, AreCounted, but_last, counted, ends_fstring, keeps_fstrings, last_of, last_set, none_onward, nothing_last, one_kept, some_onward}
+use Rattle.starlark_reader.specs.contracts.changes.NestingChange.{the_type}
+use Rattle.starlark_reader.specs.declared.bracket_counts.OpenFString.{OpenFString}
+use Rattle.starlark_reader.specs.declared.changes.NestingChange.TheVariants as change
+use Rattle.starlark_reader.proofs.OpenBrackets.OpenFStrings.{AreOpen, AreCounted, but_last, counted, ends_fstring, keeps_fstrings, last_of, last_set, none_onward, nothing_last, one_kept, some_onward}
 use Rattle.starlark_reader.proofs.nesting.Nesting.pass.Goals as goal
 use denote.Enum.Bare.{same_true, same_false}
 

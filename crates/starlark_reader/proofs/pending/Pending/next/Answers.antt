@@ -1,6 +1,6 @@
 use Rattle.std.proofs.Common.{◌∙◌, sym}
 use Rattle.std.proofs.lemmas.Bool.{ltb-true}
-use Rattle.starlark_reader.proofs.Indentation.Waiting.{after_error, comments_left}
+use Rattle.starlark_reader.proofs.TakenMargins.Waiting.{after_error, comments_left}
 use Rattle.starlark_reader.proofs.pending.Pending.next.Goals as goal
 
 pub returns-in_err-next_comment-clause-memory : goal.returns-in_err-next_comment-clause-memory

@@ -2,7 +2,7 @@ use Rattle.std.proofs.Common.{ap, ◌∙◌}
 use Rattle.starlark_grammar.specs.Tokens.{Comment}
 use Rattle.starlark_token.specs.TokenViews.{Whole, token_view}
 use Rattle.starlark_token.specs.declared.tokens.Token.TheVariants as token
-use Rattle.starlark_reader.proofs.Indentation.Waiting.{comment_taken}
+use Rattle.starlark_reader.proofs.TakenMargins.Waiting.{comment_taken}
 use Rattle.starlark_reader.proofs.pending.Pending.next_comment.Goals as goal
 
 pub returns-clause-next : goal.returns-clause-next

@@ -1,4 +1,4 @@
-use Rattle.starlark_reader.proofs.Indentation.Waiting.{comment_first}
+use Rattle.starlark_reader.proofs.TakenMargins.Waiting.{comment_first}
 use Rattle.starlark_reader.proofs.pending.Pending.pass_comment.Goals as goal
 
 pub returns-clause-next : goal.returns-clause-next

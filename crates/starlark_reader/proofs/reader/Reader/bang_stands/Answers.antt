@@ -1,8 +1,8 @@
 use Rattle.std.proofs.Common.{◌&&◌, ◌∙◌, ap, drop, refl, sym}
 use Rattle.starlark_grammar.specs.Pieces.{is_bang, takes_bang}
 use Rattle.starlark_reader.specs.Inner.Nesting.{mode_view}
-use Rattle.starlark_reader.proofs.Pieces.CodePlaces.{bang_in_three}
-use Rattle.starlark_reader.proofs.Pieces.PieceTaken.{bang_read}
+use Rattle.starlark_reader.proofs.TakenPieces.CodePlaces.{bang_in_three}
+use Rattle.starlark_reader.proofs.TakenPieces.PieceTaken.{bang_read}
 use Rattle.starlark_reader.proofs.reader.Reader.bang_stands.Goals as goal
 
 pub returns : goal.returns
@@ -14,7 +14,7 @@ returns c =
         stage = c.requires.code.stage;
         idle = c.requires.code.idle;
         code = c.requires.code.code;
-        stands = λ history kept. bang_read c.args.text.now history _ c.place.result c.follows_gap.result rest refl kept c.requires.code.code
-            c.place.ensures c.follows_gap.ensures (λ before remainder. sym yes ∙ c.bang_stands.ensures before remainder ∙ ap (λ b. takes_bang (mode_view c.place.result) before && b) front);
+        stands = λ history kept. bang_read c.args.text.now history _ c.mode.result c.follows_gap.result rest refl kept c.requires.code.code
+            c.mode.ensures c.follows_gap.ensures (λ before remainder. sym yes ∙ c.bang_stands.ensures before remainder ∙ ap (λ b. takes_bang (mode_view c.mode.result) before && b) front);
       };
     }

@@ -9,8 +9,8 @@ use Rattle.starlark_token.specs.TokenViews as views
 use Rattle.starlark_token.specs.declared.fstring_style.FStringQuote.{FStringQuote}
 use Rattle.starlark_reader.specs.declared.reader.Reader.{Reader}
 use Rattle.starlark_token.specs.declared.tokens.Token.TheVariants as token
-use Rattle.starlark_reader.proofs.Pieces.Taken.{less_taken, piece_inside, took}
-use Rattle.starlark_reader.proofs.Indentation.Waiting.{hands_one}
+use Rattle.starlark_reader.proofs.TakenPieces.Taken.{less_taken, piece_inside, took}
+use Rattle.starlark_reader.proofs.TakenMargins.Waiting.{hands_one}
 use Rattle.starlark_reader.proofs.reader.Reader.begin_fstring.Goals as goal
 
 pub overflow_add-result : goal.overflow_add-result

@@ -1,6 +1,6 @@
 use Rattle.std.proofs.Common.{arith}
 use Rattle.std.proofs.lemmas.Result.{IfOk-weaker, on_ok_weaker}
-use Rattle.starlark_reader.proofs.Pieces.ReaderReads.{state_reads}
+use Rattle.starlark_reader.proofs.TakenPieces.ReaderReads.{state_reads}
 use Rattle.starlark_reader.proofs.reader.Reader.change_width.Goals as goal
 
 pub lay_margin-requires-clause-stands : goal.lay_margin-requires-clause-stands

@@ -1,7 +1,7 @@
 use Rattle.std.proofs.Common.{[], arith, refl, Some}
 use Rattle.starlark_token.specs.TokenViews.{token_view}
 use Rattle.starlark_token.specs.declared.tokens.Token.TheVariants as token
-use Rattle.starlark_reader.proofs.Pieces.Taken.{closed, closing_hands}
+use Rattle.starlark_reader.proofs.TakenPieces.Taken.{closed, closing_hands}
 use Rattle.starlark_reader.proofs.reader.Reader.close.Goals as goal
 
 pub returns-clause-read : goal.returns-clause-read

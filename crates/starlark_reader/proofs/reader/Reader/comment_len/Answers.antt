@@ -1,5 +1,5 @@
-use Rattle.starlark_reader.proofs.Pieces.PieceTaken.{left_onward}
-use Rattle.starlark_reader.proofs.Pieces.ReaderReads.{reads_ahead}
+use Rattle.starlark_reader.proofs.TakenPieces.PieceTaken.{left_onward}
+use Rattle.starlark_reader.proofs.TakenPieces.ReaderReads.{reads_ahead}
 use Rattle.starlark_reader.proofs.reader.Reader.comment_len.Goals as goal
 
 pub range_from-requires : goal.range_from-requires

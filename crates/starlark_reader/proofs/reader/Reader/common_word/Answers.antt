@@ -1,8 +1,8 @@
 use Rattle.std.proofs.Common.{subst, sym}
 use Rattle.starlark_reader.specs.Inner.Reader.{IsAhead}
 use Rattle.starlark_reader.specs.declared.reader.Stage.{Stage}
-use Rattle.starlark_reader.proofs.Pieces.ReaderReads.{reads_ahead}
-use Rattle.starlark_reader.proofs.Pieces.PieceTaken.{left_onward}
+use Rattle.starlark_reader.proofs.TakenPieces.ReaderReads.{reads_ahead}
+use Rattle.starlark_reader.proofs.TakenPieces.PieceTaken.{left_onward}
 use Rattle.starlark_reader.proofs.reader.Reader.common_word.Goals as goal
 
 pub range_from-requires : goal.range_from-requires

@@ -1,4 +1,4 @@
-use Rattle.starlark_reader.proofs.Pieces.MarginCuts.{cut_ahead}
+use Rattle.starlark_reader.proofs.TakenPieces.MarginCuts.{cut_ahead}
 use Rattle.std.proofs.Common.{length}
 use Rattle.starlark_reader.proofs.reader.Reader.cut.Goals as goal
 

@@ -1,4 +1,4 @@
-use Rattle.starlark_reader.proofs.Pieces.PieceTaken.{left_onward}
+use Rattle.starlark_reader.proofs.TakenPieces.PieceTaken.{left_onward}
 use Rattle.starlark_reader.proofs.reader.Reader.fstring_opener.Goals as goal
 
 pub range_from-requires : goal.range_from-requires

@@ -1,5 +1,5 @@
 use Rattle.std.proofs.Common.{refl, sym, ◌∙◌}
-use Rattle.starlark_reader.proofs.Pieces.NextLexeme.{fault_next, last_next}
+use Rattle.starlark_reader.proofs.TakenPieces.NextLexeme.{fault_next, last_next}
 use Rattle.starlark_reader.proofs.reader.Reader.last.Goals as goal
 
 pub returns-in-Fault-clause-next : goal.returns-in-Fault-clause-next

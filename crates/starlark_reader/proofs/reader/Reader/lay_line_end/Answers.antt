@@ -7,12 +7,12 @@ use Rattle.starlark_token.specs.TokenViews.{token_view}
 use Rattle.starlark_token.specs.declared.tokens.Token.TheVariants as token
 use Rattle.starlark_reader.specs.declared.margins.Margin.{Margin}
 use Rattle.starlark_reader.specs.declared.reader.Reader.{Reader}
-use Rattle.starlark_reader.specs.Inner.Layout.{IsMargin}
+use Rattle.starlark_reader.specs.Inner.MarginViews.{IsMargin}
 use Rattle.starlark_reader.specs.Inner.MarginLines.{IsOfMargin}
 use Rattle.starlark_reader.specs.Inner.Pending.{lexemes_after, pending_lexemes}
-use Rattle.starlark_reader.proofs.Indentation.Laid.{behind_none, end_taken}
-use Rattle.starlark_reader.proofs.Indentation.Waiting.{nothing_left}
-use Rattle.starlark_reader.proofs.Pieces.Taken.{line_less, line_taken}
+use Rattle.starlark_reader.proofs.TakenMargins.LaidMargins.{after_none, end_taken}
+use Rattle.starlark_reader.proofs.TakenMargins.Waiting.{nothing_left}
+use Rattle.starlark_reader.proofs.TakenPieces.Taken.{line_less, line_taken}
 use Rattle.starlark_reader.proofs.reader.Reader.lay_line_end.Goals as goal
 
 content : (a b : Bool) → (not a || b) ≡ false → a ≡ true
@@ -33,7 +33,7 @@ change_width-requires-clause-within c =
     omega (arith, spaces, rest, c.requires.cut.0, c.in-Some.ensures.within)
 
 pub keep_margin-requires-clause-idle : goal.keep_margin-requires-clause-idle
-keep_margin-requires-clause-idle c = behind_none c.args.text.now c.args.self.now.pending c.requires.idle.1
+keep_margin-requires-clause-idle c = after_none c.args.text.now c.args.self.now.pending c.requires.idle.1
 
 pub returns-clause-read : goal.returns-clause-read
 unfolding token_view
@@ -70,6 +70,6 @@ pub returns-clause-onward : goal.returns-clause-onward
 returns-clause-onward c = λ newline.
     let new = c.step_to.ensures in
     let place = c.keep_margin.ensures.place in
-    let remainder = ap lexemes_after c.keep_margin.ensures.stays ∙ behind_none c.args.text.now c.args.self.now.pending c.requires.idle.1 in
+    let remainder = ap lexemes_after c.keep_margin.ensures.stays ∙ after_none c.args.text.now c.args.self.now.pending c.requires.idle.1 in
     let idle = λ (text : Text). nothing_left text c.keep_margin.new.pending (omega (arith, place.from, place.to, c.in-Some.ensures.plain)) remainder in
     (ap (λ (reader : Reader). reader.stage) new, ap (λ (reader : Reader). reader.nesting) new, λ text. ap (λ (reader : Reader). pending_lexemes text reader.pending) new ∙ idle text)

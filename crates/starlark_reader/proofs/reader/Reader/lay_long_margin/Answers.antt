@@ -2,7 +2,7 @@ use Rattle.std.proofs.Common.{◌≡◌, ◌+◌, ◌-◌, ◌∙◌, ap, arith,
 use Rattle.std.proofs.lemmas.List.{length-drop}
 use Rattle.std.proofs.lemmas.Result.{IfOk-weaker, on_ok_weaker}
 use Rattle.starlark_grammar.specs.Words.{Text}
-use Rattle.starlark_reader.proofs.Pieces.ReaderReads.{state_reads}
+use Rattle.starlark_reader.proofs.TakenPieces.ReaderReads.{state_reads}
 use Rattle.starlark_reader.proofs.reader.Reader.lay_long_margin.Goals as goal
 
 pub lay_margin-requires-clause-stands : goal.lay_margin-requires-clause-stands

@@ -1,18 +1,18 @@
 use Rattle.std.proofs.Common.{◌+◌, [], ap, arith, drop, refl}
 use Rattle.starlark_reader.specs.Inner.Pending.{owed}
-use Rattle.starlark_reader.proofs.Pieces.MarginReads.{refused_reads}
+use Rattle.starlark_reader.proofs.TakenPieces.MarginReads.{refused_reads}
 use Rattle.starlark_grammar.specs.Margins.{margin_of}
 use Rattle.starlark_token.specs.TokenViews.{token_view}
 use Rattle.starlark_token.specs.declared.tokens.Token.TheVariants as token
 use Rattle.starlark_reader.specs.declared.reader.Reader.{Reader}
-use Rattle.starlark_reader.specs.Inner.Layout.{IsMargin}
+use Rattle.starlark_reader.specs.Inner.MarginViews.{IsMargin}
 use Rattle.starlark_reader.specs.Inner.MarginLines.{IsOfMargin}
-use Rattle.starlark_reader.proofs.Indentation.Laid.{behind_none, end_refused, end_taken}
-use Rattle.starlark_reader.proofs.Pieces.Taken.{line_less, line_refused, line_taken}
+use Rattle.starlark_reader.proofs.TakenMargins.LaidMargins.{after_none, end_refused, end_taken}
+use Rattle.starlark_reader.proofs.TakenPieces.Taken.{line_less, line_refused, line_taken}
 use Rattle.starlark_reader.proofs.reader.Reader.lay_margin.Goals as goal
 
 pub take_margin-requires-clause-idle : goal.take_margin-requires-clause-idle
-take_margin-requires-clause-idle c = behind_none c.args.text.now c.args.self.now.pending c.requires.idle.1
+take_margin-requires-clause-idle c = after_none c.args.text.now c.args.self.now.pending c.requires.idle.1
 
 pub returns-then-not-branch-clause-read : goal.returns-then-not-branch-clause-read
 returns-then-not-branch-clause-read c = λ history kept stands.

@@ -3,13 +3,13 @@ use Rattle.starlark_grammar.specs.Tokens.{Fault, Spanned}
 use Rattle.starlark_token.specs.Lexemes.{lexeme_view}
 use Rattle.starlark_token.specs.TokenViews.{TokenView}
 use Rattle.starlark_reader.specs.Inner.MarginLines.{IsLinePassed}
-use Rattle.starlark_reader.specs.Inner.Reads.{HasReadAt}
+use Rattle.starlark_reader.specs.Inner.ReadBounds.{HasReadAt}
 use Rattle.starlark_reader.specs.Inner.Pending.{IsFirst, IsIdle}
 use Rattle.starlark_reader.specs.Inner.Reader.{IsAhead, IsAheadAfter}
 use Rattle.starlark_reader.specs.declared.reader.Stage.TheVariants as stage
-use Rattle.starlark_reader.proofs.Pieces.NextLexeme.{ahead_now, begin_something, lexeme_past, none_left, onward_something, over, pending_something}
-use Rattle.starlark_reader.proofs.Pieces.ReaderReads.{pending_reads, reads_ahead}
-use Rattle.starlark_reader.proofs.Indentation.Waiting.{after_error}
+use Rattle.starlark_reader.proofs.TakenPieces.NextLexeme.{ahead_now, begin_something, lexeme_past, none_left, onward_something, over, pending_something}
+use Rattle.starlark_reader.proofs.TakenPieces.ReaderReads.{pending_reads, reads_ahead}
+use Rattle.starlark_reader.proofs.TakenMargins.Waiting.{after_error}
 use Rattle.starlark_reader.proofs.reader.Reader.next.Goals as goal
 
 pub returns-in_err-lexeme-clause-memory : goal.returns-in_err-lexeme-clause-memory

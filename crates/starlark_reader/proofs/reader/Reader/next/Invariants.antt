@@ -1,7 +1,7 @@
 use Rattle.std.proofs.Common.{List, ℕ}
 use Rattle.std.specs.Prelude.{Option}
 use Rattle.starlark_reader.specs.Inner.Reader.{IsAhead, IsReady, left_to_read}
-use Rattle.starlark_reader.specs.Inner.Reads.{HasReadAt}
+use Rattle.starlark_reader.specs.Inner.ReadBounds.{HasReadAt}
 use Rattle.starlark_token.specs.TokenViews.{TokenView}
 use Rattle.starlark_grammar.specs.Tokens.{Fault, Spanned}
 use Rattle.starlark_reader.proofs.reader.Reader.next.Given as goal

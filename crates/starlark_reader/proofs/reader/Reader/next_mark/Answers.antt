@@ -1,5 +1,5 @@
 use Rattle.std.proofs.Common.{refl}
-use Rattle.starlark_reader.proofs.Pieces.NextLexeme.{mark_next}
+use Rattle.starlark_reader.proofs.TakenPieces.NextLexeme.{mark_next}
 use Rattle.starlark_reader.proofs.reader.Reader.next_mark.Goals as goal
 
 pub returns-clause-ahead : goal.returns-clause-ahead

@@ -1,27 +1,27 @@
 use Rattle.std.proofs.Common.{◌∙◌, ap, arith, false, sym, None}
 use Rattle.starlark_reader.specs.Inner.Pending.{owed}
 use Rattle.starlark_reader.specs.declared.reader.Reader.{Reader}
-use Rattle.starlark_reader.proofs.Pieces.Here.{less_onward}
-use Rattle.starlark_reader.proofs.Pieces.PieceTaken.{left_onward, nothing_here, nothing_taken, onward_ahead, silent_line_end}
+use Rattle.starlark_reader.proofs.TakenPieces.Here.{less_onward}
+use Rattle.starlark_reader.proofs.TakenPieces.PieceTaken.{left_onward, nothing_here, nothing_taken, onward_ahead, silent_line_end}
 use Rattle.starlark_reader.proofs.reader.Reader.pass_line_end.Goals as goal
 
 pub step_over-requires-clause-fits : goal.step_over-requires-clause-fits
 step_over-requires-clause-fits c =
     let left = (left_onward c.args.text.now c.args.self.now c.requires.ready.0 c.requires.ready.1 c.requires.stands.stage c.requires.ready.2).is_left in
-    let stands = silent_line_end c.args.text.now left.0 c.args.self.now c.args.len c.place.result c.is_balanced.result left.1 c.requires.stands c.place.ensures c.is_balanced.ensures (sym c.line_end_counts.ensures ∙ c.if-line_end_counts.false) in
+    let stands = silent_line_end c.args.text.now left.0 c.args.self.now c.args.len c.mode.result c.is_balanced.result left.1 c.requires.stands c.mode.ensures c.is_balanced.ensures (sym c.line_end_counts.ensures ∙ c.if-line_end_counts.false) in
     let here = nothing_here c.args.text.now left.0 c.args.self.now c.args.len false left.1 stands in
     omega (arith, here.1, c.requires.fits)
 
 pub returns-clause-ahead : goal.returns-clause-ahead
 returns-clause-ahead c = λ lexemes fault ahead.
     onward_ahead c.args.text.now c.args.self.now None c.step_over.new.self lexemes fault (λ history kept.
-    let stands = silent_line_end c.args.text.now history c.args.self.now c.args.len c.place.result c.is_balanced.result kept c.requires.stands c.place.ensures c.is_balanced.ensures (sym c.line_end_counts.ensures ∙ c.if-line_end_counts.false) in
+    let stands = silent_line_end c.args.text.now history c.args.self.now c.args.len c.mode.result c.is_balanced.result kept c.requires.stands c.mode.ensures c.is_balanced.ensures (sym c.line_end_counts.ensures ∙ c.if-line_end_counts.false) in
     nothing_taken c.args.text.now history c.args.self.now c.step_over.new.self c.args.len false c.utf8.text kept stands c.requires.stands.idle c.step_over.ensures) c.requires.stands.idle (left_onward c.args.text.now c.args.self.now lexemes fault c.requires.stands.stage ahead)
 
 pub returns-clause-less : goal.returns-clause-less
 returns-clause-less c = λ passed.
     let left = (left_onward c.args.text.now c.args.self.now c.requires.ready.0 c.requires.ready.1 c.requires.stands.stage c.requires.ready.2).is_left in
-    let stands = silent_line_end c.args.text.now left.0 c.args.self.now c.args.len c.place.result c.is_balanced.result left.1 c.requires.stands c.place.ensures c.is_balanced.ensures (sym c.line_end_counts.ensures ∙ c.if-line_end_counts.false) in
+    let stands = silent_line_end c.args.text.now left.0 c.args.self.now c.args.len c.mode.result c.is_balanced.result left.1 c.requires.stands c.mode.ensures c.is_balanced.ensures (sym c.line_end_counts.ensures ∙ c.if-line_end_counts.false) in
     let here = nothing_here c.args.text.now left.0 c.args.self.now c.args.len false left.1 stands in
     let is = c.step_over.ensures in
     rw c.requires.stands.stage (less_onward c.args.text.now c.args.self.now c.step_over.new.self c.args.len (ap (λ (reader : Reader). reader.stage) is) (ap (λ (reader : Reader). reader.at) is) here.0 here.1)
@@ -29,7 +29,7 @@ returns-clause-less c = λ passed.
 pub returns-clause-taken : goal.returns-clause-taken
 returns-clause-taken c = λ passed.
     let left = (left_onward c.args.text.now c.args.self.now c.requires.ready.0 c.requires.ready.1 c.requires.stands.stage c.requires.ready.2).is_left in
-    let stands = silent_line_end c.args.text.now left.0 c.args.self.now c.args.len c.place.result c.is_balanced.result left.1 c.requires.stands c.place.ensures c.is_balanced.ensures (sym c.line_end_counts.ensures ∙ c.if-line_end_counts.false) in
+    let stands = silent_line_end c.args.text.now left.0 c.args.self.now c.args.len c.mode.result c.is_balanced.result left.1 c.requires.stands c.mode.ensures c.is_balanced.ensures (sym c.line_end_counts.ensures ∙ c.if-line_end_counts.false) in
     let here = nothing_here c.args.text.now left.0 c.args.self.now c.args.len false left.1 stands in
     let is = c.step_over.ensures in
     (here.0, (ap (λ (reader : Reader). reader.at) is, ap (λ (reader : Reader). reader.reads) is, omega (arith, ap (λ (reader : Reader). owed reader.pending) is)), ap (λ (reader : Reader). reader.stage) is)

@@ -1,7 +1,7 @@
 use Rattle.std.proofs.Common.{ap, arith, refl}
 use Rattle.starlark_reader.specs.Inner.Pending.{owed}
 use Rattle.starlark_reader.specs.declared.reader.Reader.{Reader}
-use Rattle.starlark_reader.proofs.Pieces.PieceTaken.{left_onward, name_changes, name_here, onward_past, token_inside, token_passed}
+use Rattle.starlark_reader.proofs.TakenPieces.PieceTaken.{left_onward, name_changes, name_here, onward_past, token_inside, token_passed}
 use Rattle.starlark_reader.proofs.reader.Reader.pass_name.Goals as goal
 
 pub returns-clause-ahead : goal.returns-clause-ahead

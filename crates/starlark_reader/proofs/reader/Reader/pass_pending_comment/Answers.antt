@@ -1,5 +1,5 @@
 use Rattle.std.proofs.Common.{refl}
-use Rattle.starlark_reader.proofs.Pieces.NextLexeme.{lexeme_past}
+use Rattle.starlark_reader.proofs.TakenPieces.NextLexeme.{lexeme_past}
 use Rattle.starlark_reader.proofs.reader.Reader.pass_pending_comment.Goals as goal
 
 pub returns-clause-ahead : goal.returns-clause-ahead

@@ -4,10 +4,10 @@ use Rattle.starlark_grammar.proofs.Lists.{drop-sum}
 use Rattle.starlark_grammar.proofs.Order.Edges.{boundary_shift}
 use Rattle.starlark_grammar.specs.declared.class.Class.TheVariants as class
 use Rattle.starlark_grammar.specs.declared.class.LiteralKind.TheVariants as kind
-use Rattle.starlark_reader.proofs.Pieces.CodePlaces.{word_cut}
+use Rattle.starlark_reader.proofs.TakenPieces.CodePlaces.{word_cut}
 use Rattle.starlark_reader.specs.Inner.Pending.{owed}
 use Rattle.starlark_reader.specs.declared.reader.Reader.{Reader}
-use Rattle.starlark_reader.proofs.Pieces.PieceTaken.{left_onward, onward_past, text_changes, text_here, token_inside, token_passed}
+use Rattle.starlark_reader.proofs.TakenPieces.PieceTaken.{left_onward, onward_past, text_changes, text_here, token_inside, token_passed}
 use Rattle.starlark_reader.proofs.reader.Reader.pass_plain_text.Goals as goal
 
 pub returns-clause-ahead : goal.returns-clause-ahead

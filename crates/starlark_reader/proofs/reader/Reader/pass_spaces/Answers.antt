@@ -2,7 +2,7 @@ use Rattle.std.proofs.Common.{ap, arith, subst, None, true}
 use Rattle.starlark_reader.specs.Inner.Reader.{IsAhead}
 use Rattle.starlark_reader.specs.declared.reader.Reader.{Reader}
 use Rattle.starlark_reader.specs.declared.reader.Stage.{Stage}
-use Rattle.starlark_reader.proofs.Pieces.PieceTaken.{gap_read, nothing_here, nothing_taken, onward_ahead}
+use Rattle.starlark_reader.proofs.TakenPieces.PieceTaken.{gap_read, nothing_here, nothing_taken, onward_ahead}
 use Rattle.starlark_reader.proofs.reader.Reader.pass_spaces.Goals as goal
 
 pub step_over-requires-clause-fits : goal.step_over-requires-clause-fits

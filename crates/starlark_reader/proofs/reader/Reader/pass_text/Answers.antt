@@ -8,10 +8,10 @@ use Rattle.starlark_grammar.specs.Tokens as Token
 use Rattle.starlark_token.specs.TokenViews.{Whole}
 use Rattle.starlark_reader.specs.Inner.Nesting.{Represents}
 use Rattle.starlark_reader.specs.Inner.TextEnds.{text_end_node}
-use Rattle.starlark_reader.proofs.Pieces.ChunksTaken.{chunk_piece, onto_last, own_end, text_onto, text_past}
-use Rattle.starlark_reader.proofs.Pieces.Here.{piece_here}
-use Rattle.starlark_reader.proofs.Pieces.PieceTaken.{left_onward, onward_past}
-use Rattle.starlark_reader.proofs.Pieces.Taken.{took_past}
+use Rattle.starlark_reader.proofs.TakenPieces.ChunksTaken.{chunk_piece, onto_last, own_end, text_onto, text_past}
+use Rattle.starlark_reader.proofs.TakenPieces.Here.{piece_here}
+use Rattle.starlark_reader.proofs.TakenPieces.PieceTaken.{left_onward, onward_past}
+use Rattle.starlark_reader.proofs.TakenPieces.Taken.{took_past}
 use Rattle.starlark_reader.proofs.reader.Reader.pass_text.Goals as goal
 use Rattle.starlark_reader.proofs.reader.Reader.pass_text.Goals.{After-pass}
 

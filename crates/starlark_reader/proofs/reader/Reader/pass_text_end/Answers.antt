@@ -5,10 +5,10 @@ use Rattle.starlark_grammar.specs.Margins.{open_widths}
 use Rattle.starlark_grammar.specs.Reading.{History, tokens_onto}
 use Rattle.starlark_reader.specs.Inner.Nesting.{Represents}
 use Rattle.starlark_reader.specs.Inner.TextEnds.{text_end_node}
-use Rattle.starlark_reader.proofs.Pieces.ChunksTaken.{chunk_piece, end_hands, end_mark, onto_last, own_end, text_onto}
-use Rattle.starlark_reader.proofs.Pieces.Here.{piece_here}
-use Rattle.starlark_reader.proofs.Pieces.PieceTaken.{left_onward, onward_ahead}
-use Rattle.starlark_reader.proofs.Pieces.Taken.{took}
+use Rattle.starlark_reader.proofs.TakenPieces.ChunksTaken.{chunk_piece, end_hands, end_mark, onto_last, own_end, text_onto}
+use Rattle.starlark_reader.proofs.TakenPieces.Here.{piece_here}
+use Rattle.starlark_reader.proofs.TakenPieces.PieceTaken.{left_onward, onward_ahead}
+use Rattle.starlark_reader.proofs.TakenPieces.Taken.{took}
 use Rattle.starlark_reader.proofs.reader.Reader.pass_text_end.Goals as goal
 use Rattle.starlark_reader.proofs.reader.Reader.pass_text_end.Goals.{After-pass}
 

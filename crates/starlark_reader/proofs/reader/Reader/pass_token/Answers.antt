@@ -5,9 +5,9 @@ use Rattle.starlark_grammar.specs.Pieces.{Piece}
 use Rattle.starlark_grammar.specs.Tokens.{Token}
 use Rattle.starlark_reader.specs.Inner.Pending.{owed}
 use Rattle.starlark_reader.specs.declared.reader.Reader.{Reader}
-use Rattle.starlark_reader.proofs.Pieces.Here.{less_onward, piece_here, shown_here}
-use Rattle.starlark_reader.proofs.Pieces.Taken.{took}
-use Rattle.starlark_reader.proofs.Indentation.Waiting.{hands_one}
+use Rattle.starlark_reader.proofs.TakenPieces.Here.{less_onward, piece_here, shown_here}
+use Rattle.starlark_reader.proofs.TakenPieces.Taken.{took}
+use Rattle.starlark_reader.proofs.TakenMargins.Waiting.{hands_one}
 use Rattle.starlark_reader.proofs.reader.Reader.pass_token.Goals as goal
 
 abbrev one : ℕ → Token → Piece

@@ -3,9 +3,9 @@ use Rattle.starlark_grammar.specs.AfterFaults.{next_line}
 use Rattle.starlark_grammar.specs.Front.{language_front}
 use Rattle.starlark_grammar.specs.declared.class.Class.TheVariants as class
 use Rattle.starlark_reader.proofs.NextLines.{opener_line, rest_line}
-use Rattle.starlark_reader.proofs.Pieces.CodePlaces.{word_cut}
-use Rattle.starlark_reader.proofs.Pieces.NextLexeme.{ready_inside}
-use Rattle.starlark_reader.proofs.Pieces.ReaderReads.{other_reads, reads_ahead}
+use Rattle.starlark_reader.proofs.TakenPieces.CodePlaces.{word_cut}
+use Rattle.starlark_reader.proofs.TakenPieces.NextLexeme.{ready_inside}
+use Rattle.starlark_reader.proofs.TakenPieces.ReaderReads.{other_reads, reads_ahead}
 use Rattle.starlark_reader.proofs.reader.Reader.plain_body_len.Goals as goal
 
 pub range_from-requires : goal.range_from-requires

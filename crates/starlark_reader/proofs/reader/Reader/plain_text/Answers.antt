@@ -2,17 +2,17 @@ use Rattle.std.proofs.Common.{◌≤◌, ◌+◌, arith, length, refl}
 use Rattle.starlark_grammar.specs.AfterFaults.{next_line}
 use Rattle.starlark_grammar.specs.Words.{Text}
 use Rattle.starlark_reader.proofs.NextLines.{rest_line}
-use Rattle.starlark_reader.proofs.Pieces.NextLexeme.{ready_inside}
-use Rattle.starlark_reader.proofs.Pieces.PieceTaken.{plain_here}
-use Rattle.starlark_reader.proofs.Pieces.ReaderReads.{other_reads}
-use Rattle.starlark_reader.specs.Inner.Reads.{HasLookedHere}
+use Rattle.starlark_reader.proofs.TakenPieces.NextLexeme.{ready_inside}
+use Rattle.starlark_reader.proofs.TakenPieces.PieceTaken.{plain_here}
+use Rattle.starlark_reader.proofs.TakenPieces.ReaderReads.{other_reads}
+use Rattle.starlark_reader.specs.Inner.ReadBounds.{HasLookedHere}
 use Rattle.starlark_reader.specs.declared.reader.Reader.{Reader}
 use Rattle.starlark_reader.proofs.reader.Reader.plain_text.Goals as goal
 
 pub returns-in-InText-clause-stands : goal.returns-in-InText-clause-stands
 returns-in-InText-clause-stands c =
-    plain_here c.args.text.now c.range_from.result.now (record c.args.self.now { reads = c.plain_text.new.reads }) c.place.result c.in-InText.opening c.plain_text.result c.range_from.ensures.value (c.reads_on.ensures.stage c.if-not-reads_on.false)
-    (c.reads_on.ensures.idle c.if-not-reads_on.false c.args.text.now c.requires.ready.2.is_pending) c.in-InText.is c.place.ensures c.plain_text.ensures.plain
+    plain_here c.args.text.now c.range_from.result.now (record c.args.self.now { reads = c.plain_text.new.reads }) c.mode.result c.in-InText.opening c.plain_text.result c.range_from.ensures.value (c.reads_on.ensures.stage c.if-not-reads_on.false)
+    (c.reads_on.ensures.idle c.if-not-reads_on.false c.args.text.now c.requires.ready.2.is_pending) c.in-InText.is c.mode.ensures c.plain_text.ensures.plain
 
 -- where nothing is read
 none_looked : (text : Text) (reader : Reader) → reader.at ≤ length text → (reader.at + 0 ≤ next_line text reader.at) × HasLookedHere 0 4 reader reader

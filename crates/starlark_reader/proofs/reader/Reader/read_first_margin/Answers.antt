@@ -3,13 +3,13 @@ use Rattle.starlark_grammar.specs.Margins.{margin_of}
 use Rattle.starlark_reader.specs.declared.reader.Reader.{Reader}
 use Rattle.starlark_reader.specs.Inner.MarginLines.{IsOfMargin}
 use Rattle.starlark_reader.specs.Inner.Pending.{owed}
-use Rattle.starlark_reader.proofs.Pieces.MarginReads.{first_refused_reads}
-use Rattle.starlark_reader.proofs.Indentation.Laid.{behind_none, first_refused, first_taken, none_open}
-use Rattle.starlark_reader.proofs.Pieces.Taken.{first_ahead, margin_refused, margin_taken, new_ahead}
+use Rattle.starlark_reader.proofs.TakenPieces.MarginReads.{first_refused_reads}
+use Rattle.starlark_reader.proofs.TakenMargins.LaidMargins.{after_none, first_refused, first_taken, none_open}
+use Rattle.starlark_reader.proofs.TakenPieces.Taken.{first_ahead, margin_refused, margin_taken, new_ahead}
 use Rattle.starlark_reader.proofs.reader.Reader.read_first_margin.Goals as goal
 
 pub take_margin-requires-clause-idle : goal.take_margin-requires-clause-idle
-take_margin-requires-clause-idle c = behind_none c.args.text.now c.args.self.now.pending c.requires.idle.1
+take_margin-requires-clause-idle c = after_none c.args.text.now c.args.self.now.pending c.requires.idle.1
 
 pub returns-then-branch-clause-ahead : goal.returns-then-branch-clause-ahead
 returns-then-branch-clause-ahead c = λ lexemes fault ahead.
@@ -32,7 +32,7 @@ returns-else-branch-clause-ahead c = λ lexemes fault ahead.
     let margin = c.margin_of-margin.ensures.margin in
     let left = rw c.if-branch.false at (c.in_ok-take_margin.ensures.laid [] (margin_of text) (none_open c.args.self.now.levels is_new.levels) margin) in
     let refused = first_refused text c.args.self.now.levels c.take_margin.new.levels c.margin_of-margin.result c.take_margin.new.pending c.utf8.text margin c.in_ok-take_margin.ensures.place is_new.levels
-    c.args.self.now.pending.remainder left (behind_none text c.args.self.now.pending c.requires.idle.1) c.margin_fault-fault.result.0 c.margin_fault-fault.result.1 (c.margin_fault-fault.ensures (margin_of text) margin) in
+    c.args.self.now.pending.remainder left (after_none text c.args.self.now.pending c.requires.idle.1) c.margin_fault-fault.result.0 c.margin_fault-fault.result.1 (c.margin_fault-fault.ensures (margin_of text) margin) in
     let read = margin_refused text c.args.self.now c.refuse.new.self is_new c.margin_fault-fault.result.0 c.margin_fault-fault.result.1 (rw new refused) (ap (λ (reader : Reader). reader.stage) new) (ap (λ (reader : Reader). reader.at) new) (ap (λ (reader : Reader). reader.before) new) in
     first_ahead text c.args.self.now c.refuse.new.self lexemes fault read c.requires.idle ahead
 

@@ -1,8 +1,8 @@
 use Rattle.std.proofs.Common.{arith, refl, subst}
-use Rattle.starlark_reader.proofs.Pieces.Here.{fault_here}
-use Rattle.starlark_reader.proofs.Pieces.Taken.{failed}
-use Rattle.starlark_reader.proofs.Indentation.Waiting.{hands_none}
-use Rattle.starlark_reader.specs.Inner.Steps.{IsStep}
+use Rattle.starlark_reader.proofs.TakenPieces.Here.{fault_here}
+use Rattle.starlark_reader.proofs.TakenPieces.Taken.{failed}
+use Rattle.starlark_reader.proofs.TakenMargins.Waiting.{hands_none}
+use Rattle.starlark_reader.specs.Inner.StepViews.{IsStep}
 use Rattle.starlark_reader.specs.Inner.Reader.{step_here}
 use Rattle.starlark_reader.specs.declared.literal.pieces.Step.TheVariants as step
 use Rattle.starlark_reader.proofs.reader.Reader.take.Goals as goal

@@ -1,7 +1,7 @@
 use Rattle.std.proofs.Common.{◌+◌, ◌≤◌, length, rules, Some}
 use Rattle.starlark_token.specs.declared.tokens.Token.TheVariants as token
-use Rattle.starlark_reader.proofs.Pieces.Here.{piece_here}
-use Rattle.starlark_reader.proofs.Pieces.PieceTaken.{bang_changes, bang_step, left_onward, onward_ahead}
+use Rattle.starlark_reader.proofs.TakenPieces.Here.{piece_here}
+use Rattle.starlark_reader.proofs.TakenPieces.PieceTaken.{bang_changes, bang_step, left_onward, onward_ahead}
 use Rattle.starlark_reader.proofs.reader.Reader.take_bang.Goals as goal
 
 pub pass_token-requires-clause-stands : goal.pass_token-requires-clause-stands

@@ -5,9 +5,9 @@ use Rattle.starlark_reader.specs.Inner.Nesting.{Represents}
 use Rattle.starlark_reader.specs.Inner.TextEnds.{text_end_node}
 use Rattle.starlark_reader.specs.declared.reader.Reader.{Reader}
 use Rattle.starlark_token.specs.declared.tokens.Token.TheVariants as token
-use Rattle.starlark_reader.proofs.Pieces.ChunksTaken.{chunk_piece, end_hands, onto_last, own_end, text_hands, text_onto}
-use Rattle.starlark_reader.proofs.Pieces.Here.{less_onward, piece_here}
-use Rattle.starlark_reader.proofs.Pieces.Taken.{took}
+use Rattle.starlark_reader.proofs.TakenPieces.ChunksTaken.{chunk_piece, end_hands, onto_last, own_end, text_hands, text_onto}
+use Rattle.starlark_reader.proofs.TakenPieces.Here.{less_onward, piece_here}
+use Rattle.starlark_reader.proofs.TakenPieces.Taken.{took}
 use Rattle.starlark_reader.proofs.reader.Reader.take_chunk.Goals as goal
 use Rattle.starlark_reader.proofs.reader.Reader.take_chunk.Goals.{After-pass}
 

@@ -6,10 +6,10 @@ use Rattle.starlark_grammar.specs.Words.{class_in, language}
 use Rattle.starlark_grammar.specs.declared.class.Class.TheVariants as class
 use Rattle.starlark_token.specs.declared.tokens.Token.TheVariants as token
 use Rattle.starlark_grammar.proofs.Words.Classes.{comment_boundary}
-use Rattle.starlark_reader.proofs.Pieces.CodePlaces.{word_class, word_cut}
-use Rattle.starlark_reader.proofs.Pieces.NextLexeme.{onward_something}
-use Rattle.starlark_reader.proofs.Pieces.PieceTaken.{comment_changes, comment_step, left_onward, onward_ahead}
-use Rattle.starlark_reader.proofs.Indentation.Waiting.{after_error}
+use Rattle.starlark_reader.proofs.TakenPieces.CodePlaces.{word_class, word_cut}
+use Rattle.starlark_reader.proofs.TakenPieces.NextLexeme.{onward_something}
+use Rattle.starlark_reader.proofs.TakenPieces.PieceTaken.{comment_changes, comment_step, left_onward, onward_ahead}
+use Rattle.starlark_reader.proofs.TakenMargins.Waiting.{after_error}
 use Rattle.starlark_reader.proofs.reader.Reader.take_comment.Goals as goal
 
 pub range-word-requires-clause-end_boundary : goal.range-word-requires-clause-end_boundary

@@ -2,11 +2,11 @@ use Rattle.std.proofs.Common.{drop, sym}
 use Rattle.std.proofs.lemmas.Str.{IsUtf8-drop}
 use Rattle.starlark_grammar.specs.declared.class.Class.TheVariants as class
 use Rattle.starlark_grammar.proofs.Order.Edges.{boundary_shift}
-use Rattle.starlark_reader.proofs.Pieces.CodePlaces.{word_cut}
-use Rattle.starlark_reader.proofs.Pieces.LineEnds.{line_end_here}
-use Rattle.starlark_reader.proofs.Pieces.NextLexeme.{onward_something}
-use Rattle.starlark_reader.proofs.Pieces.PieceTaken.{counting_line_end, left_onward, onward_ahead}
-use Rattle.starlark_reader.proofs.Indentation.Waiting.{after_error}
+use Rattle.starlark_reader.proofs.TakenPieces.CodePlaces.{word_cut}
+use Rattle.starlark_reader.proofs.TakenPieces.LineEndPieces.{line_end_here}
+use Rattle.starlark_reader.proofs.TakenPieces.NextLexeme.{onward_something}
+use Rattle.starlark_reader.proofs.TakenPieces.PieceTaken.{counting_line_end, left_onward, onward_ahead}
+use Rattle.starlark_reader.proofs.TakenMargins.Waiting.{after_error}
 use Rattle.std.proofs.lemmas.Result.{IfOk-weaker, on_ok_weaker}
 use Rattle.starlark_reader.specs.Inner.Reader.{newline_of}
 use Rattle.starlark_reader.proofs.reader.Reader.take_counting_line_end.Goals as goal

@@ -6,11 +6,11 @@ use Rattle.starlark_grammar.specs.Pieces.{more_quotes, opening_of}
 use Rattle.starlark_grammar.specs.declared.class.Class.TheVariants as class
 use Rattle.starlark_grammar.specs.declared.class.LiteralKind.TheVariants as kind
 use Rattle.starlark_grammar.specs.declared.class.Opening.{Opening}
-use Rattle.starlark_reader.proofs.Indentation.Waiting.{after_error}
-use Rattle.starlark_reader.proofs.Pieces.CodePlaces.{word_cut}
-use Rattle.starlark_reader.proofs.Pieces.NextLexeme.{onward_something}
-use Rattle.starlark_reader.proofs.Pieces.PieceTaken.{fstring_step, left_onward, onward_ahead}
-use Rattle.starlark_reader.proofs.Pieces.ReaderReads.{state_reads}
+use Rattle.starlark_reader.proofs.TakenMargins.Waiting.{after_error}
+use Rattle.starlark_reader.proofs.TakenPieces.CodePlaces.{word_cut}
+use Rattle.starlark_reader.proofs.TakenPieces.NextLexeme.{onward_something}
+use Rattle.starlark_reader.proofs.TakenPieces.PieceTaken.{fstring_step, left_onward, onward_ahead}
+use Rattle.starlark_reader.proofs.TakenPieces.ReaderReads.{state_reads}
 use Rattle.starlark_reader.proofs.reader.Reader.take_fstring.Goals.{then-opening, else-opening}
 use Rattle.starlark_reader.proofs.reader.Reader.take_fstring.Goals as goal
 

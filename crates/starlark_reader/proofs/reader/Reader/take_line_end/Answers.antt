@@ -1,10 +1,10 @@
 use Rattle.std.proofs.Common.{refl, subst}
 use Rattle.std.proofs.lemmas.Result.{IfOk-weaker}
-use Rattle.starlark_reader.specs.Inner.Reads.{IsMarginRead}
+use Rattle.starlark_reader.specs.Inner.ReadBounds.{IsMarginRead}
 use Rattle.starlark_reader.specs.declared.reader.Reader.{Reader}
-use Rattle.starlark_reader.proofs.Pieces.NextLexeme.{onward_something}
-use Rattle.starlark_reader.proofs.Indentation.Waiting.{after_error}
-use Rattle.starlark_reader.proofs.Pieces.PieceTaken.{word_boundary}
+use Rattle.starlark_reader.proofs.TakenPieces.NextLexeme.{onward_something}
+use Rattle.starlark_reader.proofs.TakenMargins.Waiting.{after_error}
+use Rattle.starlark_reader.proofs.TakenPieces.PieceTaken.{word_boundary}
 use Rattle.starlark_grammar.specs.declared.class.Class.TheVariants as class
 use Rattle.starlark_reader.proofs.reader.Reader.take_line_end.Goals as goal
 

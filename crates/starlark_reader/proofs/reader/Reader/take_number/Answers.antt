@@ -3,12 +3,12 @@ use Rattle.std.proofs.Math.Nat.{sub-zero}
 use Rattle.starlark_grammar.specs.Front.{language_front}
 use Rattle.starlark_grammar.specs.Words.{class_in, language}
 use Rattle.starlark_token.specs.TokenViews.{Whole, token_view}
-use Rattle.starlark_reader.specs.Inner.Steps.{number_of}
-use Rattle.starlark_reader.proofs.Pieces.CodePlaces.{word_class, word_cut}
-use Rattle.starlark_reader.proofs.Pieces.NextLexeme.{onward_something}
-use Rattle.starlark_reader.proofs.Pieces.Numbers.{number_changes, number_step}
-use Rattle.starlark_reader.proofs.Pieces.PieceTaken.{left_onward, onward_ahead}
-use Rattle.starlark_reader.proofs.Indentation.Waiting.{after_error}
+use Rattle.starlark_reader.specs.Inner.StepViews.{number_of}
+use Rattle.starlark_reader.proofs.TakenPieces.CodePlaces.{word_class, word_cut}
+use Rattle.starlark_reader.proofs.TakenPieces.NextLexeme.{onward_something}
+use Rattle.starlark_reader.proofs.TakenPieces.TakenNumbers.{number_changes, number_step}
+use Rattle.starlark_reader.proofs.TakenPieces.PieceTaken.{left_onward, onward_ahead}
+use Rattle.starlark_reader.proofs.TakenMargins.Waiting.{after_error}
 use Rattle.starlark_reader.proofs.reader.Reader.take_number.Goals as goal
 
 pub range-requires-clause-end_boundary : goal.range-requires-clause-end_boundary

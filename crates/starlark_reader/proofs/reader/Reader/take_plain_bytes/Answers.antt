@@ -4,10 +4,10 @@ use Rattle.starlark_grammar.specs.Front.{language_front}
 use Rattle.starlark_grammar.specs.declared.class.Class.TheVariants as class
 use Rattle.starlark_grammar.specs.declared.class.LiteralKind.TheVariants as kind
 use Rattle.starlark_token.specs.declared.tokens.Token.TheVariants as token
-use Rattle.starlark_reader.proofs.Pieces.CodePlaces.{word_cut}
-use Rattle.starlark_reader.proofs.Pieces.NextLexeme.{onward_something}
-use Rattle.starlark_reader.proofs.Pieces.PieceTaken.{bytes_changes, bytes_step, left_onward, onward_ahead}
-use Rattle.starlark_reader.proofs.Indentation.Waiting.{after_error}
+use Rattle.starlark_reader.proofs.TakenPieces.CodePlaces.{word_cut}
+use Rattle.starlark_reader.proofs.TakenPieces.NextLexeme.{onward_something}
+use Rattle.starlark_reader.proofs.TakenPieces.PieceTaken.{bytes_changes, bytes_step, left_onward, onward_ahead}
+use Rattle.starlark_reader.proofs.TakenMargins.Waiting.{after_error}
 use Rattle.starlark_reader.proofs.reader.Reader.take_plain_bytes.Goals as goal
 
 pub range_from-remainder-requires : goal.range_from-remainder-requires

@@ -1,6 +1,6 @@
 use Rattle.std.proofs.Common.{◌+◌, ◌≤◌, length, rules, Some}
-use Rattle.starlark_reader.proofs.Pieces.Here.{piece_here}
-use Rattle.starlark_reader.proofs.Pieces.PieceTaken.{left_onward, onward_ahead, terminal_shown, terminal_step}
+use Rattle.starlark_reader.proofs.TakenPieces.Here.{piece_here}
+use Rattle.starlark_reader.proofs.TakenPieces.PieceTaken.{left_onward, onward_ahead, terminal_shown, terminal_step}
 use Rattle.starlark_reader.proofs.reader.Reader.take_terminal.Goals as goal
 
 pub pass_token-requires-clause-stands : goal.pass_token-requires-clause-stands

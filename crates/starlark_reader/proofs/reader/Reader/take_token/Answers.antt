@@ -2,7 +2,7 @@ use Rattle.std.proofs.Common.{ℕ, ◌+◌, ◌≤◌, ◌∷◌, [], length, ru
 use Rattle.starlark_grammar.specs.Pieces as grammar
 use Rattle.starlark_grammar.specs.Pieces.{Piece}
 use Rattle.starlark_grammar.specs.Tokens.{Token}
-use Rattle.starlark_reader.proofs.Pieces.Here.{piece_here}
+use Rattle.starlark_reader.proofs.TakenPieces.Here.{piece_here}
 use Rattle.starlark_reader.proofs.reader.Reader.take_token.Goals as goal
 
 abbrev one : ℕ → Token → Piece

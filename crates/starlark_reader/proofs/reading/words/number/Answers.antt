@@ -1,5 +1,5 @@
-use Rattle.starlark_reader.specs.Inner.Steps.{number_of}
-use Rattle.starlark_reader.proofs.Pieces.Numbers.{number_stands}
+use Rattle.starlark_reader.specs.Inner.StepViews.{number_of}
+use Rattle.starlark_reader.proofs.TakenPieces.TakenNumbers.{number_stands}
 use Rattle.starlark_reader.proofs.reading.words.number.Goals as goal
 
 pub returns-clause-step : goal.returns-clause-step

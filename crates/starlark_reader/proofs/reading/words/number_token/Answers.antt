@@ -4,7 +4,7 @@ use Rattle.starlark_grammar.specs.Tokens.{Float}
 use Rattle.starlark_grammar.specs.Words.{Text}
 use Rattle.starlark_grammar.specs.declared.class.Class.{Class}
 use Rattle.starlark_grammar.specs.declared.class.Class.TheVariants as class
-use Rattle.starlark_reader.specs.Inner.Steps.{number_of}
+use Rattle.starlark_reader.specs.Inner.StepViews.{number_of}
 use Rattle.starlark_token.specs.TokenViews.{Whole, token_view}
 use Rattle.starlark_reader.proofs.reading.words.number_token.Goals as goal
 

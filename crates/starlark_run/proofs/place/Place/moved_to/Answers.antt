@@ -1,4 +1,4 @@
-use Rattle.starlark_run.proofs.Places.{place_start}
+use Rattle.starlark_run.proofs.MovedAlong.{place_start}
 use Rattle.starlark_run.proofs.place.Place.moved_to.Goals as goal
 
 pub moved-requires-clause-here : goal.moved-requires-clause-here

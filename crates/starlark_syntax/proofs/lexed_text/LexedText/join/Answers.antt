@@ -8,9 +8,9 @@ use Rattle.starlark_syntax.specs.LexedTexts as texts
 use Rattle.starlark_syntax.specs.LexedTexts.{IsLexed, LexedView}
 use Rattle.starlark_token.specs.Lexemes.{lexeme_view, shown_lexeme}
 use Rattle.starlark_syntax.specs.Inner.LexedTexts.{AreCuts, later, later_cut}
-use Rattle.starlark_syntax.proofs.LexedTexts.Joined.{begun, cut_joined, joined_lexed, list_joined, no_fault}
+use Rattle.starlark_syntax.proofs.LexedTexts.JoinedLists.{begun, cut_joined, joined_lexed, list_joined, no_fault}
 use Rattle.starlark_syntax.proofs.LexedTexts.KeptCuts.{count_is}
-use Rattle.starlark_syntax.proofs.LexedTexts.Relexed.{count_near, cuts_joined, cuts_near}
+use Rattle.starlark_syntax.proofs.LexedTexts.RelexedOutcomes.{count_near, cuts_joined, cuts_near}
 use Rattle.starlark_syntax.proofs.LexedTexts.Within.{lexemes_near}
 use Rattle.starlark_syntax.proofs.lexed_text.LexedText.join.Goals as goal
 use Rattle.starlark_syntax.proofs.lexed_text.LexedText.join.Goals.{After-append_cuts, After-append_later}

@@ -10,16 +10,16 @@ use Rattle.starlark_syntax.specs.LexedTexts.{IsReadFrom, LexedView}
 use Rattle.starlark_syntax.specs.Exceptions.{IsFaultIn}
 use Rattle.starlark_syntax.specs.Lexer.{LexerView}
 use Rattle.starlark_token.specs.Lexemes.{lexeme_view, shown_lexeme}
-use Rattle.starlark_syntax.specs.Inner.LexedTexts.{AreCuts, IsBegin, IsPart, IsTakenBack, last_newline_of, later, later_cut, part_view}
+use Rattle.starlark_syntax.specs.Inner.LexedTexts.{AreCuts, IsBegin, IsReadPart, IsTakenBack, last_newline_of, later, later_cut, part_view}
 use Rattle.starlark_syntax.specs.declared.cuts.Cut.{Cut}
 use Rattle.starlark_token.specs.declared.tokens.Token.{Token}
-use Rattle.starlark_syntax.proofs.LexedTexts.Edits.{begin_boundary, begin_clean, begin_few, end_cut_is, read_from, relexed}
-use Rattle.starlark_syntax.proofs.LexedTexts.Parts.{fault_near, given_near}
-use Rattle.starlark_syntax.proofs.LexedTexts.Relexed.{count_near, cuts_near}
+use Rattle.starlark_syntax.proofs.LexedTexts.EditedOutcomes.{begin_boundary, begin_clean, begin_few, end_cut_is, read_from, relexed}
+use Rattle.starlark_syntax.proofs.LexedTexts.ReadParts.{fault_near, given_near}
+use Rattle.starlark_syntax.proofs.LexedTexts.RelexedOutcomes.{count_near, cuts_near}
 use Rattle.starlark_syntax.proofs.LexedTexts.Puts.{cut_stays_so, known_inside, met_known, not_some, succeeded, whole_is}
-use Rattle.starlark_syntax.proofs.LexedTexts.Joined.{no_fault}
-use Rattle.starlark_syntax.specs.Inner.LexedTexts.{IsMet, IsPartTo, IsPutIn, PartView, met_part}
-use Rattle.starlark_syntax.proofs.LexedTexts.Edits.{IsRelexed}
+use Rattle.starlark_syntax.proofs.LexedTexts.JoinedLists.{no_fault}
+use Rattle.starlark_syntax.specs.Inner.LexedTexts.{IsMet, IsReadPartTo, IsPutIn, PartView, met_part}
+use Rattle.starlark_syntax.proofs.LexedTexts.EditedOutcomes.{IsRelexed}
 use Rattle.starlark_syntax.proofs.lexed_text.LexedText.relex_with.Goals as goal
 use Rattle.starlark_syntax.proofs.lexed_text.LexedText.relex_with.Goals.{In-Some}
 
@@ -38,7 +38,7 @@ pub exception_of-requires : goal.exception_of-requires
 exception_of-requires c =
     let begin : IsBegin c.old.inside.text.now c.old.inside.cuts.items c.args.from c.begin_of-begin.result = subst (λ (xs : List Cut). IsBegin c.old.inside.text.now xs c.args.from c.begin_of-begin.result) c.deref.ensures.value (c.begin_of-begin.ensures c.old.inside.text.now (subst (AreCuts c.old.inside.text.now) (sym c.deref.ensures.value) c.old.invariant.2)) in
     let same : take c.args.from c.old.inside.text.now ≡ take c.args.from c.args.edited.now = ap (λ (v : LexedView). take c.args.from v.text) c.old.view_is ∙ c.requires.same in
-    let part : IsPart c.set_text.new.self.code_map (drop c.begin_of-begin.result.at c.args.edited.now) (part_view c.in-Ok.part) = subst (λ (t : Text). IsPart c.set_text.new.self.code_map t (part_view c.in-Ok.part)) (ap (λ (v : LexerView). v.text) c.set_text.ensures.begun.view ∙ c.range_from-rest.ensures.value) (c.in-Ok.ensures.part c.in_default-met.is) in
+    let part : IsReadPart c.set_text.new.self.code_map (drop c.begin_of-begin.result.at c.args.edited.now) (part_view c.in-Ok.part) = subst (λ (t : Text). IsReadPart c.set_text.new.self.code_map t (part_view c.in-Ok.part)) (ap (λ (v : LexerView). v.text) c.set_text.ensures.begun.view ∙ c.range_from-rest.ensures.value) (c.in-Ok.ensures.part c.in_default-met.is) in
     let short : c.begin_of-begin.result.at + length (drop c.begin_of-begin.result.at c.args.edited.now) < 2 ^ 32 = omega (arith, length-drop c.begin_of-begin.result.at c.args.edited.now, begin.before, c.requires.new.0, c.requires.fits) in
     let made = relexed c.set_text.new.self.code_map c.old.inside.text.now c.args.edited.now c.old.inside.lexemes.items c.old.inside.cuts.items c.args.from c.begin_of-begin.result (part_view c.in-Ok.part) c.kept_of-kept.result c.in-Ok.part.has_tab c.old.invariant.3.1.lexemes c.old.invariant.2 begin same c.requires.new.0 part part.tab
     c.kept_of-kept.ensures.plain
@@ -52,7 +52,7 @@ pub make_room-requires : goal.make_room-requires
 make_room-requires c =
     let begin : IsBegin c.old.inside.text.now c.old.inside.cuts.items c.args.from c.begin_of-begin.result = subst (λ (xs : List Cut). IsBegin c.old.inside.text.now xs c.args.from c.begin_of-begin.result) c.deref.ensures.value (c.begin_of-begin.ensures c.old.inside.text.now (subst (AreCuts c.old.inside.text.now) (sym c.deref.ensures.value) c.old.invariant.2)) in
     let same : take c.args.from c.old.inside.text.now ≡ take c.args.from c.args.edited.now = ap (λ (v : LexedView). take c.args.from v.text) c.old.view_is ∙ c.requires.same in
-    let part : IsPart c.set_text.new.self.code_map (drop c.begin_of-begin.result.at c.args.edited.now) (part_view c.in-Ok.part) = subst (λ (t : Text). IsPart c.set_text.new.self.code_map t (part_view c.in-Ok.part)) (ap (λ (v : LexerView). v.text) c.set_text.ensures.begun.view ∙ c.range_from-rest.ensures.value) (c.in-Ok.ensures.part c.in_default-met.is) in
+    let part : IsReadPart c.set_text.new.self.code_map (drop c.begin_of-begin.result.at c.args.edited.now) (part_view c.in-Ok.part) = subst (λ (t : Text). IsReadPart c.set_text.new.self.code_map t (part_view c.in-Ok.part)) (ap (λ (v : LexerView). v.text) c.set_text.ensures.begun.view ∙ c.range_from-rest.ensures.value) (c.in-Ok.ensures.part c.in_default-met.is) in
     let made = relexed c.set_text.new.self.code_map c.old.inside.text.now c.args.edited.now c.old.inside.lexemes.items c.old.inside.cuts.items c.args.from c.begin_of-begin.result (part_view c.in-Ok.part) c.kept_of-kept.result c.in-Ok.part.has_tab c.old.invariant.3.1.lexemes c.old.invariant.2 begin same c.requires.new.0 part part.tab
     c.kept_of-kept.ensures.plain
     (λ h e. c.kept_of-kept.ensures.comments h (ap (λ (xs : List (ℕ × Token × ℕ)). last_newline_of (map lexeme_view (take c.begin_of-begin.result.lexemes xs))) c.deref-3.ensures.value ∙ e))
@@ -72,14 +72,14 @@ make_room-requires-else-is_err-2 c =
 pub append_later-requires-clause-near : goal.append_later-requires-clause-near
 append_later-requires-clause-near c =
     let begin : IsBegin c.old.inside.text.now c.old.inside.cuts.items c.args.from c.begin_of-begin.result = subst (λ (xs : List Cut). IsBegin c.old.inside.text.now xs c.args.from c.begin_of-begin.result) c.deref.ensures.value (c.begin_of-begin.ensures c.old.inside.text.now (subst (AreCuts c.old.inside.text.now) (sym c.deref.ensures.value) c.old.invariant.2)) in
-    let part : IsPart c.set_text.new.self.code_map (drop c.begin_of-begin.result.at c.args.edited.now) (part_view c.in-Ok.part) = subst (λ (t : Text). IsPart c.set_text.new.self.code_map t (part_view c.in-Ok.part)) (ap (λ (v : LexerView). v.text) c.set_text.ensures.begun.view ∙ c.range_from-rest.ensures.value) (c.in-Ok.ensures.part c.in_default-met.is) in
+    let part : IsReadPart c.set_text.new.self.code_map (drop c.begin_of-begin.result.at c.args.edited.now) (part_view c.in-Ok.part) = subst (λ (t : Text). IsReadPart c.set_text.new.self.code_map t (part_view c.in-Ok.part)) (ap (λ (v : LexerView). v.text) c.set_text.ensures.begun.view ∙ c.range_from-rest.ensures.value) (c.in-Ok.ensures.part c.in_default-met.is) in
     let short : c.begin_of-begin.result.at + length (drop c.begin_of-begin.result.at c.args.edited.now) < 2 ^ 32 = omega (arith, length-drop c.begin_of-begin.result.at c.args.edited.now, begin.before, c.requires.new.0, c.requires.fits) in
     given_near c.set_text.new.self.code_map (drop c.begin_of-begin.result.at c.args.edited.now) c.in-Ok.part c.kept_of-kept.result.gives_more c.given_after-more.result.items part (omega (arith, short)) c.given_after-more.ensures
 
 pub append_cuts-requires-clause-near : goal.append_cuts-requires-clause-near
 append_cuts-requires-clause-near c =
     let begin : IsBegin c.old.inside.text.now c.old.inside.cuts.items c.args.from c.begin_of-begin.result = subst (λ (xs : List Cut). IsBegin c.old.inside.text.now xs c.args.from c.begin_of-begin.result) c.deref.ensures.value (c.begin_of-begin.ensures c.old.inside.text.now (subst (AreCuts c.old.inside.text.now) (sym c.deref.ensures.value) c.old.invariant.2)) in
-    let part : IsPart c.set_text.new.self.code_map (drop c.begin_of-begin.result.at c.args.edited.now) (part_view c.in-Ok.part) = subst (λ (t : Text). IsPart c.set_text.new.self.code_map t (part_view c.in-Ok.part)) (ap (λ (v : LexerView). v.text) c.set_text.ensures.begun.view ∙ c.range_from-rest.ensures.value) (c.in-Ok.ensures.part c.in_default-met.is) in
+    let part : IsReadPart c.set_text.new.self.code_map (drop c.begin_of-begin.result.at c.args.edited.now) (part_view c.in-Ok.part) = subst (λ (t : Text). IsReadPart c.set_text.new.self.code_map t (part_view c.in-Ok.part)) (ap (λ (v : LexerView). v.text) c.set_text.ensures.begun.view ∙ c.range_from-rest.ensures.value) (c.in-Ok.ensures.part c.in_default-met.is) in
     let short : c.begin_of-begin.result.at + length (drop c.begin_of-begin.result.at c.args.edited.now) < 2 ^ 32 = omega (arith, length-drop c.begin_of-begin.result.at c.args.edited.now, begin.before, c.requires.new.0, c.requires.fits) in
     cuts_near (drop c.begin_of-begin.result.at c.args.edited.now) c.in-Ok.part.cuts.items (omega (arith, short)) part.cuts.each
 
@@ -93,7 +93,7 @@ pub invariant_of-result-2 : goal.invariant_of-result-2
 invariant_of-result-2 c =
     let begin : IsBegin c.old.inside.text.now c.old.inside.cuts.items c.args.from c.begin_of-begin.result = subst (λ (xs : List Cut). IsBegin c.old.inside.text.now xs c.args.from c.begin_of-begin.result) c.deref.ensures.value (c.begin_of-begin.ensures c.old.inside.text.now (subst (AreCuts c.old.inside.text.now) (sym c.deref.ensures.value) c.old.invariant.2)) in
     let same : take c.args.from c.old.inside.text.now ≡ take c.args.from c.args.edited.now = ap (λ (v : LexedView). take c.args.from v.text) c.old.view_is ∙ c.requires.same in
-    let part : IsPart c.set_text.new.self.code_map (drop c.begin_of-begin.result.at c.args.edited.now) (part_view c.in-Ok.part) = subst (λ (t : Text). IsPart c.set_text.new.self.code_map t (part_view c.in-Ok.part)) (ap (λ (v : LexerView). v.text) c.set_text.ensures.begun.view ∙ c.range_from-rest.ensures.value) (c.in-Ok.ensures.part c.in_default-met.is) in
+    let part : IsReadPart c.set_text.new.self.code_map (drop c.begin_of-begin.result.at c.args.edited.now) (part_view c.in-Ok.part) = subst (λ (t : Text). IsReadPart c.set_text.new.self.code_map t (part_view c.in-Ok.part)) (ap (λ (v : LexerView). v.text) c.set_text.ensures.begun.view ∙ c.range_from-rest.ensures.value) (c.in-Ok.ensures.part c.in_default-met.is) in
     let made = relexed c.set_text.new.self.code_map c.old.inside.text.now c.args.edited.now c.old.inside.lexemes.items c.old.inside.cuts.items c.args.from c.begin_of-begin.result (part_view c.in-Ok.part) c.kept_of-kept.result c.in-Ok.part.has_tab c.old.invariant.3.1.lexemes c.old.invariant.2 begin same c.requires.new.0 part part.tab
     c.kept_of-kept.ensures.plain
     (λ h e. c.kept_of-kept.ensures.comments h (ap (λ (xs : List (ℕ × Token × ℕ)). last_newline_of (map lexeme_view (take c.begin_of-begin.result.lexemes xs))) c.deref-3.ensures.value ∙ e))
@@ -116,7 +116,7 @@ pub returns-clause-lexed : goal.returns-clause-lexed
 returns-clause-lexed c =
     let begin : IsBegin c.old.inside.text.now c.old.inside.cuts.items c.args.from c.begin_of-begin.result = subst (λ (xs : List Cut). IsBegin c.old.inside.text.now xs c.args.from c.begin_of-begin.result) c.deref.ensures.value (c.begin_of-begin.ensures c.old.inside.text.now (subst (AreCuts c.old.inside.text.now) (sym c.deref.ensures.value) c.old.invariant.2)) in
     let same : take c.args.from c.old.inside.text.now ≡ take c.args.from c.args.edited.now = ap (λ (v : LexedView). take c.args.from v.text) c.old.view_is ∙ c.requires.same in
-    let part : IsPart c.set_text.new.self.code_map (drop c.begin_of-begin.result.at c.args.edited.now) (part_view c.in-Ok.part) = subst (λ (t : Text). IsPart c.set_text.new.self.code_map t (part_view c.in-Ok.part)) (ap (λ (v : LexerView). v.text) c.set_text.ensures.begun.view ∙ c.range_from-rest.ensures.value) (c.in-Ok.ensures.part c.in_default-met.is) in
+    let part : IsReadPart c.set_text.new.self.code_map (drop c.begin_of-begin.result.at c.args.edited.now) (part_view c.in-Ok.part) = subst (λ (t : Text). IsReadPart c.set_text.new.self.code_map t (part_view c.in-Ok.part)) (ap (λ (v : LexerView). v.text) c.set_text.ensures.begun.view ∙ c.range_from-rest.ensures.value) (c.in-Ok.ensures.part c.in_default-met.is) in
     let made = relexed c.set_text.new.self.code_map c.old.inside.text.now c.args.edited.now c.old.inside.lexemes.items c.old.inside.cuts.items c.args.from c.begin_of-begin.result (part_view c.in-Ok.part) c.kept_of-kept.result c.in-Ok.part.has_tab c.old.invariant.3.1.lexemes c.old.invariant.2 begin same c.requires.new.0 part part.tab
     c.kept_of-kept.ensures.plain
     (λ h e. c.kept_of-kept.ensures.comments h (ap (λ (xs : List (ℕ × Token × ℕ)). last_newline_of (map lexeme_view (take c.begin_of-begin.result.lexemes xs))) c.deref-3.ensures.value ∙ e))
@@ -158,8 +158,8 @@ same_is : (c : In-Some) → take c.args.from c.old.inside.text.now ≡ take c.ar
 same_is c = ap (λ (v : LexedView). take c.args.from v.text) c.old.view_is ∙ c.requires.same
 
 -- what `read_part` says of a meeting
-met_is : (c : In-Some) → IsMet c.set_text.new.self.text.now c.after-known.result.text.now c.after-known.result.cuts.now c.in-Some.meeting × IsPartTo c.set_text.new.self.text.now c.in-Some.meeting.at (part_view c.in-Ok.part)
-met_is c = subst (λ (met : Option Meeting). IfSome met (λ meeting. IsMet c.set_text.new.self.text.now c.after-known.result.text.now c.after-known.result.cuts.now meeting × IsPartTo c.set_text.new.self.text.now meeting.at (part_view c.in-Ok.part))) c.in-Some.is c.in-Ok.ensures.met
+met_is : (c : In-Some) → IsMet c.set_text.new.self.text.now c.after-known.result.text.now c.after-known.result.cuts.now c.in-Some.meeting × IsReadPartTo c.set_text.new.self.text.now c.in-Some.meeting.at (part_view c.in-Ok.part)
+met_is c = subst (λ (met : Option Meeting). IfSome met (λ meeting. IsMet c.set_text.new.self.text.now c.after-known.result.text.now c.after-known.result.cuts.now meeting × IsReadPartTo c.set_text.new.self.text.now meeting.at (part_view c.in-Ok.part))) c.in-Some.is c.in-Ok.ensures.met
 
 put_is : (c : In-Some) → IsPutIn c.old.inside.text.now (drop c.begin_of-begin.result.at c.args.edited.now) c.old.inside.lexemes.items c.old.inside.cuts.items c.begin_of-begin.result (part_view c.in-Ok.part) c.in-Some.meeting
 put_is c =
@@ -173,7 +173,7 @@ put_is c =
       are = c.old.invariant.2;
       begins = begin;
       met = subst (λ (t : Text). IsMet t c.old.inside.text.now (drop c.begin_of-begin.result.cuts c.old.inside.cuts.items) c.in-Some.meeting) (text_is c) met.1;
-      to = subst (λ (t : Text). IsPartTo t c.in-Some.meeting.at (part_view c.in-Ok.part)) (text_is c) (met_is c).1;
+      to = subst (λ (t : Text). IsReadPartTo t c.in-Some.meeting.at (part_view c.in-Ok.part)) (text_is c) (met_is c).1;
       known_short = c.old.invariant.0;
       short = omega (arith, length-drop c.begin_of-begin.result.at c.args.edited.now, begin.before, c.requires.new.0, c.requires.fits);
     }
@@ -182,7 +182,7 @@ abbrev whole : In-Some → PartView
 whole c = met_part c.in-Some.meeting.cut (record { at = c.in-Some.meeting.at; lexemes = length c.in-Ok.part.lexemes.items }) (c.begin_of-begin.result.cuts + c.in-Some.meeting.index) c.old.inside.lexemes.items c.old.inside.cuts.items c.old.inside.is_cut (part_view c.in-Ok.part)
 
 -- what the rest comes to, and so the edited text
-whole_part : (c : In-Some) (file : SourceFile) → IsPart file (drop c.begin_of-begin.result.at c.args.edited.now) (whole c)
+whole_part : (c : In-Some) (file : SourceFile) → IsReadPart file (drop c.begin_of-begin.result.at c.args.edited.now) (whole c)
 whole_part c file = whole_is _ _ _ _ _ _ _ (put_is c) file c.old.inside.is_cut c.old.invariant.1
 
 met_relexed : (c : In-Some) → IsRelexed c.args.edited.now c.old.inside.lexemes.items c.old.inside.cuts.items c.begin_of-begin.result.at c.begin_of-begin.result.lexemes (whole c) (record { lexemes = c.begin_of-begin.result.lexemes; cuts = c.begin_of-begin.result.cuts; fault_at = c.begin_of-begin.result.at; gives_more = true })

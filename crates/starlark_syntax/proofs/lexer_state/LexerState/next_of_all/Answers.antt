@@ -3,7 +3,7 @@ use Rattle.std.proofs.lemmas.Result.{IfOk-weaker, on_err_weaker, on_ok_weaker}
 use Rattle.starlark_grammar.specs.Front.{language_front}
 use Rattle.starlark_grammar.specs.declared.class.Class.TheVariants as class
 use Rattle.starlark_grammar.specs.declared.class.LiteralKind.TheVariants as kind
-use Rattle.starlark_reader.proofs.Pieces.ReaderReads.{begun_reads, here_reads, here_taken_reads, looked_twice}
+use Rattle.starlark_reader.proofs.TakenPieces.ReaderReads.{begun_reads, here_reads, here_taken_reads, looked_twice}
 use Rattle.starlark_reader.proofs.NextLines.{next_line_inside}
 use Rattle.starlark_syntax.proofs.FoundWords.{taken_next}
 use Rattle.starlark_syntax.proofs.Reaches.{reached}

@@ -5,7 +5,7 @@ use Rattle.starlark_grammar.specs.AfterFaults.{restart}
 use Rattle.starlark_grammar.specs.Tokens.{Fault, Spanned}
 use Rattle.starlark_reader.proofs.NextLines.{restart_inside}
 use Rattle.starlark_reader.specs.Inner.Reader.{IsNext}
-use Rattle.starlark_reader.specs.Inner.Reads.{HasReadNext}
+use Rattle.starlark_reader.specs.Inner.ReadBounds.{HasReadNext}
 use Rattle.starlark_reader.specs.Searches.{search_reads}
 use Rattle.starlark_reader.specs.declared.reader.Next.{Next}
 use Rattle.starlark_reader.specs.declared.reader.Next.TheVariants as next

@@ -1,7 +1,7 @@
 use Rattle.std.proofs.Common.{◌≡◌, ap, ◌∙◌, ◌+◌, ◌≤◌, ◌^◌, arith, refl, rules, sym}
-use Rattle.starlark_reader.specs.Inner.Reads.{HasLooked}
-use Rattle.starlark_reader.proofs.Pieces.ReaderReads.{looked_reads}
-use Rattle.starlark_reader.proofs.Pieces.PieceTaken.{left_onward}
+use Rattle.starlark_reader.specs.Inner.ReadBounds.{HasLooked}
+use Rattle.starlark_reader.proofs.TakenPieces.ReaderReads.{looked_reads}
+use Rattle.starlark_reader.proofs.TakenPieces.PieceTaken.{left_onward}
 use Rattle.starlark_syntax.proofs.FoundWords.{HasPassedSince, at_word, faulty_margin, line_end_passed, passed_since, pending_newline, plain_newline}
 use Rattle.starlark_syntax.proofs.LexerReads.{fault_counts, newline_counts, nothing_looked, pending_counts}
 use Rattle.starlark_syntax.proofs.LexerStates.{same_text}

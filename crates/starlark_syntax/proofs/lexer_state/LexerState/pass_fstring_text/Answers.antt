@@ -4,8 +4,8 @@ use Rattle.starlark_grammar.specs.Tokens.{Spanned}
 use Rattle.starlark_reader.specs.Inner.Reader.{IsAheadPast}
 use Rattle.starlark_syntax.specs.Inner.LexerStates.{left_in}
 use Rattle.starlark_grammar.proofs.Order.Inside.{lexemes_few}
-use Rattle.starlark_reader.proofs.Pieces.PieceTaken.{left_onward}
-use Rattle.starlark_reader.proofs.Pieces.ReaderReads.{here_reads, here_taken_reads}
+use Rattle.starlark_reader.proofs.TakenPieces.PieceTaken.{left_onward}
+use Rattle.starlark_reader.proofs.TakenPieces.ReaderReads.{here_reads, here_taken_reads}
 use Rattle.starlark_reader.proofs.NextLines.{next_line_inside}
 use Rattle.starlark_syntax.proofs.FoundWords.{past_lexing}
 use Rattle.starlark_syntax.proofs.Reaches.{reached}

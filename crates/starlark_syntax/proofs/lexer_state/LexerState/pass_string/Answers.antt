@@ -8,7 +8,7 @@ use Rattle.starlark_syntax.specs.declared.plain_lexeme.PlainKind.TheVariants as 
 use Rattle.starlark_syntax.proofs.PlainLexemes.{plain_inside, reader_boundary, string_shown}
 use Rattle.starlark_grammar.specs.Reading.{outcome}
 use Rattle.starlark_grammar.proofs.Order.Inside.{lexemes_few}
-use Rattle.starlark_reader.proofs.Pieces.ReaderReads.{here_reads}
+use Rattle.starlark_reader.proofs.TakenPieces.ReaderReads.{here_reads}
 use Rattle.starlark_reader.proofs.NextLines.{next_line_inside}
 use Rattle.starlark_syntax.proofs.Reaches.{reached}
 use Rattle.starlark_syntax.proofs.FoundWords.{past_lexing}

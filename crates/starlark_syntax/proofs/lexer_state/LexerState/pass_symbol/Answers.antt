@@ -1,6 +1,6 @@
 use Rattle.std.proofs.Common.{◌+◌, ◌-◌, ◌*◌, ◌≤◌, ◌^◌, arith, refl, rules}
 use Rattle.starlark_grammar.proofs.Order.Inside.{lexemes_few}
-use Rattle.starlark_reader.proofs.Pieces.ReaderReads.{taken_reads}
+use Rattle.starlark_reader.proofs.TakenPieces.ReaderReads.{taken_reads}
 use Rattle.starlark_syntax.proofs.FoundWords.{past_lexing}
 use Rattle.starlark_syntax.proofs.LexerReads.{found_in_code}
 use Rattle.starlark_syntax.proofs.lexer_state.LexerState.pass_symbol.Goals as goal

@@ -5,7 +5,7 @@ use Rattle.std.specs.Str.{IsCharBoundary}
 use Rattle.starlark_text.specs.declared.dot_format_parser.FormatErrorKind.{FormatErrorKind}
 use Rattle.starlark_text.specs.Formats.{Text, Refuses}
 use Rattle.starlark_text.specs.Parsing.{IsToken, IsFault}
-use Rattle.starlark_text.proofs.Tokens.{answered, refused, token_boundary}
+use Rattle.starlark_text.proofs.FormatTokens.{answered, refused, token_boundary}
 use Rattle.starlark_text.proofs.dot_format_parser.FormatParser.next.Goals as goal
 
 pub overflow_add-self : goal.overflow_add-self

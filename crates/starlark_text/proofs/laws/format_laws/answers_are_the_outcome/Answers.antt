@@ -1,4 +1,4 @@
-use Rattle.starlark_text.proofs.Readings.{answers_outcome}
+use Rattle.starlark_text.proofs.FormatReadings.{answers_outcome}
 use Rattle.starlark_text.proofs.laws.format_laws.answers_are_the_outcome.Goals as goal
 
 pub returns : goal.returns

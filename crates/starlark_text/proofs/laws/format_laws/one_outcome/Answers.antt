@@ -1,4 +1,4 @@
-use Rattle.starlark_text.proofs.Readings.{some_outcome, one_outcome, one_reading}
+use Rattle.starlark_text.proofs.FormatReadings.{some_outcome, one_outcome, one_reading}
 use Rattle.starlark_text.proofs.laws.format_laws.one_outcome.Goals as goal
 
 pub returns-clause-some : goal.returns-clause-some

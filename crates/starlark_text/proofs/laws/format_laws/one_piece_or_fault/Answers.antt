@@ -1,4 +1,4 @@
-use Rattle.starlark_text.proofs.Readings.{something_stands, never_both, one_piece, one_fault}
+use Rattle.starlark_text.proofs.FormatReadings.{something_stands, never_both, one_piece, one_fault}
 use Rattle.starlark_text.proofs.laws.format_laws.one_piece_or_fault.Goals as goal
 
 pub returns-clause-something : goal.returns-clause-something

@@ -2,7 +2,7 @@
 use Rattle.std.proofs.Common.{false, get_or, refl}
 use Rattle.std.proofs.lemmas.Bool.{agree_below_at}
 use Rattle.starlark_grammar.specs.declared.class.TheConstants.{SYMBOLS}
-use Rattle.starlark_words.specs.Inner.Words.{has_byte_at}
+use Rattle.starlark_words.specs.Inner.ScannedWords.{has_byte_at}
 use Rattle.starlark_words.specs.declared.scanner.first.TheConstants.{SECOND}
 use Rattle.starlark_words.proofs.scanner.first.is_second.Goals as goal
 

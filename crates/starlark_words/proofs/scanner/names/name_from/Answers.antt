@@ -8,7 +8,7 @@ use Rattle.starlark_words.proofs.Scan.ByFirst.{front_named, in_name_is_ascii}
 use Rattle.starlark_words.proofs.Scan.ReadFronts.{name_goes_on}
 use Rattle.starlark_words.proofs.scanner.names.name_from.Goals as goal
 
--- the length of a name, by the run remainder its first byte
+-- the length of a name, by the run after its first byte
 whole : (text bytes : Text) (more : ℕ) → begins is_name_start text ≡ true → bytes ≡ text → more ≡ prefix_len is_in_name (drop 1 bytes) → 1 + more ≡ prefix_len is_in_name text
 whole text bytes more begins same run = ap (λ n. 1 + n) (run ∙ ap (λ (t : Text). prefix_len is_in_name (drop 1 t)) same) ∙ name_goes_on text begins
 

@@ -2,7 +2,7 @@ use Rattle.std.proofs.Common.{◌≡◌, ◌∙◌, ℕ, Bool, ap, arith, get_or
 use Rattle.std.proofs.Math.Nat.{sub-zero}
 use Rattle.std.proofs.lemmas.Str.{IsCharBoundary-after_ascii}
 use Rattle.starlark_grammar.specs.Words.{Text}
-use Rattle.starlark_words.specs.Inner.Words.{is_quote}
+use Rattle.starlark_words.specs.Inner.ScannedWords.{is_quote}
 use Rattle.starlark_words.proofs.Scan.Openers.{long_name_is_no_prefix, unquoted_is_no_opener, quote_is_within, quote_is_ascii}
 use Rattle.starlark_words.proofs.scanner.names.prefixed_opener.Goals as goal
 

@@ -6,7 +6,7 @@ use Rattle.std.specs.Char.{is_ascii_hexdigit}
 use Rattle.std.specs.List.{slice_get}
 use Rattle.starlark_grammar.specs.Words.{has_base, is_binary_digit, is_octal_digit}
 use Rattle.starlark_words.proofs.Scan.ReadFronts.{base_by_three, third_by_three}
-use Rattle.starlark_words.proofs.Scan.Numbers.{LacksDigit, hexadecimal_base, octal_base, binary_base, if_based_word, lacks_base, lacks_digit, no_third_byte, other_third_byte}
+use Rattle.starlark_words.proofs.Scan.ScannedNumbers.{LacksDigit, hexadecimal_base, octal_base, binary_base, if_based_word, lacks_base, lacks_digit, no_third_byte, other_third_byte}
 use Rattle.starlark_words.proofs.scanner.numbers.based_front.Goals as goal
 use Rattle.starlark_words.proofs.scanner.numbers.based_front.Goals.{else-has_base-via-then-has_base+else-is_ascii_hexdigit, else-has_base-via-else-has_base, else-has_base-2-via-then-has_base-2+else-is_octal_digit, else-has_base-2-via-else-has_base-2, else-has_base-3-via-then-has_base-3+else-is_binary_digit, else-has_base-3-via-else-has_base-3}
 

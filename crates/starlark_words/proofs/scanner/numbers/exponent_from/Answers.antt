@@ -1,7 +1,7 @@
 -- The length of an exponent, by its sign and its digits.
 use Rattle.std.proofs.Common.{refl, sym, ◌∙◌}
 use Rattle.std.proofs.lemmas.List.{take_rest}
-use Rattle.starlark_words.proofs.Scan.Numbers.{exponent_some, exponent_of_some}
+use Rattle.starlark_words.proofs.Scan.ScannedNumbers.{exponent_some, exponent_of_some}
 use Rattle.starlark_words.proofs.scanner.numbers.exponent_from.Goals as goal
 
 pub returns-then-digits-eq0-clause-value : goal.returns-then-digits-eq0-clause-value

@@ -1,7 +1,7 @@
 -- A fraction goes before an exponent.
 use Rattle.std.proofs.Common.{refl, sym, ap, ◌∙◌, arith}
 use Rattle.starlark_grammar.specs.Words.{begins, is_exponent_letter, is_point}
-use Rattle.starlark_words.proofs.Scan.Numbers.{exponent_none, float_end, first_some_some, fraction_none}
+use Rattle.starlark_words.proofs.Scan.ScannedNumbers.{exponent_none, float_end, first_some_some, fraction_none}
 use Rattle.starlark_words.proofs.Scan.ReadFronts.{begins_by_one}
 use Rattle.starlark_words.proofs.scanner.numbers.float_end_len.Goals as goal
 

@@ -1,7 +1,7 @@
 -- The length of a fraction, by its digits and its exponent.
 use Rattle.std.proofs.Common.{arith}
 use Rattle.std.proofs.lemmas.List.{take_rest}
-use Rattle.starlark_words.proofs.Scan.Numbers.{fraction_some}
+use Rattle.starlark_words.proofs.Scan.ScannedNumbers.{fraction_some}
 use Rattle.starlark_words.proofs.scanner.numbers.fraction_len.Goals as goal
 
 pub returns-clause-value : goal.returns-clause-value

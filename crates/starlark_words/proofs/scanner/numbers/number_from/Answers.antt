@@ -1,7 +1,7 @@
 -- A base with digits goes before digits with what makes them a float.
 use Rattle.std.proofs.Common.{refl, sym, ◌∙◌, arith}
 use Rattle.std.proofs.lemmas.List.{take_rest}
-use Rattle.starlark_words.proofs.Scan.Numbers.{number_is_long, number_language, digits_only, digits_and_more}
+use Rattle.starlark_words.proofs.Scan.ScannedNumbers.{number_is_long, number_language, digits_only, digits_and_more}
 use Rattle.starlark_words.proofs.scanner.numbers.number_from.Goals as goal
 use Rattle.starlark_words.proofs.scanner.numbers.number_from.Goals.{then-more-eq0, else-more-eq0}
 

@@ -1,5 +1,5 @@
 use Rattle.std.proofs.Common.{◌≡◌, ◌-◌, get_or, arith, ap, sym, ◌∙◌}
-use Rattle.starlark_base.proofs.LineEnds.{without_last_yes, without_last_no, without_last_none}
+use Rattle.starlark_base.proofs.ShortenedSpans.{without_last_yes, without_last_no, without_last_none}
 use Rattle.starlark_base.proofs.codemap.code_map.CodeMap.without_last.Goals as goal
 use Rattle.starlark_base.proofs.codemap.code_map.CodeMap.without_last.Goals.{else-begin-end-via-then-begin-end+else-bytes-end, else-begin-end-via-else-begin-end}
 

@@ -1,0 +1,20 @@
+-- The laws that segments rest on.
+use Rattle.starlark_document.specs.Inner.LexedFronts.{ItemsAreFound, ItemsClose, ItemsCut}
+use Rattle.starlark_document.proofs.FoundItems as items
+use Rattle.starlark_syntax.specs.Joining.{ClosedOfJoined, ClosedTextsJoin}
+use Rattle.starlark_grammar.proofs.Recovery.ClosedTexts.{closed_of_joined, closed_texts_join}
+
+pub closed_texts : ClosedTextsJoin
+closed_texts = closed_texts_join
+
+pub closed_joined : ClosedOfJoined
+closed_joined = closed_of_joined
+
+pub items_cut : ItemsCut
+items_cut = items.items_cut
+
+pub items_close : ItemsClose
+items_close = items.items_close
+
+pub items_are_found : ItemsAreFound
+items_are_found = items.items_are_found

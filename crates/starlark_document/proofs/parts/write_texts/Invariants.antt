@@ -1,7 +1,0 @@
-use Rattle.std.proofs.Common.{take}
-use Rattle.starlark_document.specs.Inner.Segments.{text_of}
-use Rattle.starlark_run.specs.Calls.{Going, Went}
-use Rattle.starlark_document.proofs.parts.write_texts.Given as goal
-
-abbrev pub invariant-loop-segment : goal.invariant-loop-segment
-invariant-loop-segment g l = Went g.W.WriteDevice.calls Going l.initial.writer l.writer (text_of (take l.segment-index l.segments))

@@ -1,0 +1,229 @@
+//! Makes segments: lexes a text from the start of a segment on.
+
+ghost use Rattle.std.specs.Prelude.{◌≡◌, ◌≤◌, ◌<◌, ◌+◌, ◌^◌, IfOk, IfSome, IsNone, IsSome, count_by, length, map, take, true};
+ghost use Rattle.starlark_document.specs.Inner.Costs.{IsTextCost, cost_sum};
+ghost use Rattle.starlark_document.specs.Inner.LexedFronts.{IsFirstSegment, IsLexedFront, last_newline_at, without_newline};
+ghost use Rattle.std.specs.Str.{IsCharBoundary};
+ghost use Rattle.starlark_document.specs.Inner.Segments.{text_in};
+ghost use Rattle.starlark_base.specs.Places.{is_lf};
+ghost use Rattle.starlark_syntax.specs.RecoveringLexer.{all_items};
+ghost use Rattle.starlark_token.specs.Lexemes.{lexeme_view};
+
+use crate::lexed_fronts::{LexedFront, SPARE_LEXEMES, is_newline};
+use crate::segments::{Content, PlacedToken, Segment};
+use starlark_syntax::codemap::CodeMap;
+use starlark_syntax::dialect::Dialect;
+use starlark_syntax::lexer::RecoveringLexer;
+use std::alloc::{AllocError, Global};
+use std::boxed::Box;
+
+/// What lexing took.
+#[derive(Clone, Copy)]
+pub struct LexingCost {
+    /// Number of bytes that were given to the lexer. A byte that was lexed twice counts twice.
+    pub lexed: usize,
+    /// How often lexing started: with each text that was given, and after each fault.
+    pub starts: usize,
+    /// Number of reads of bytes.
+    pub reads: u64,
+}
+
+impl LexingCost {
+    /// What lexing nothing takes.
+    pub fn none() -> LexingCost
+        ensures { result ≡ record { lexed = 0; starts = 0; reads = 0 } }
+    {
+        LexingCost {
+            lexed: 0,
+            starts: 0,
+            reads: 0,
+        }
+    }
+
+    /// What this lexing and another one took. The numbers saturate.
+    pub fn and(self, other: LexingCost) -> LexingCost
+        ensures { result ≡ cost_sum self other }
+    {
+        LexingCost {
+            lexed: self.lexed.saturating_add(other.lexed),
+            starts: self.starts.saturating_add(other.starts),
+            reads: self.reads.saturating_add(other.reads),
+        }
+    }
+}
+
+/// What a lexer of a text has taken so far.
+fn cost_of(lexer: &RecoveringLexer<'_>, text: &str) -> LexingCost
+    requires { lexer.now.fault_count < 2 ^ 32 }
+    ensures { result ≡ record { lexed = length text.now; starts = lexer.now.fault_count + 1; reads = lexer.now.reads } }
+{
+    LexingCost {
+        lexed: text.len(),
+        starts: lexer.fault_count() + 1,
+        reads: lexer.reads(),
+    }
+}
+
+/// The outcome of lexing a text for its first segment.
+#[derive(Drop)]
+pub struct Attempt {
+    /// The segment; `None` where none can follow the text.
+    pub segment: Option<Segment>,
+    /// What lexing it took.
+    pub cost: LexingCost,
+}
+
+/// Index of the last `Newline` of a list of lexemes, or its length if it has none.
+fn last_newline(lexemes: &[PlacedToken]) -> usize
+    ensures value { result ≡ last_newline_at (map lexeme_view lexemes.now) }
+    ensures within { result ≤ length lexemes.now }
+{
+    let mut at = lexemes.len();
+    while at > 0 {
+        at -= 1;
+        if is_newline(&lexemes[at].1) {
+            return at;
+        }
+    }
+    lexemes.len()
+}
+
+/// Number of bytes whose LFs are counted in a `u8`, which lets the compiler take 16 at a time.
+const COUNTED_AT_ONCE: usize = 128;
+
+/// Number of LF among fewer than 256 bytes.
+fn short_newline_count(bytes: &[u8]) -> u8
+    requires { length bytes.now < 2 ^ 8 }
+    ensures { result ≡ count_by is_lf bytes.now }
+{
+    let mut count = 0;
+    for byte in bytes {
+        if *byte == b'\n' {
+            count += 1;
+        }
+    }
+    count
+}
+
+/// Number of LF in a text.
+fn newline_count(text: &str) -> usize
+    ensures { result ≡ count_by is_lf text.now }
+{
+    let bytes = text.as_bytes();
+    let mut count = 0;
+    let mut at = 0;
+    while at + COUNTED_AT_ONCE <= bytes.len() {
+        count += short_newline_count(&bytes[at..at + COUNTED_AT_ONCE]) as usize;
+        at += COUNTED_AT_ONCE;
+    }
+    count + short_newline_count(&bytes[at..]) as usize
+}
+
+/// A segment of a text, with what was found in it.
+fn segment(alloc: Global, text: &str, front: LexedFront) -> Result<Segment, AllocError>
+    ensures text { IfOk result (λ segment. text_in segment ≡ text.now) }
+    ensures len { IfOk result (λ segment. segment.len ≡ length text.now) }
+    ensures lines { IfOk result (λ segment. segment.lines ≡ count_by is_lf text.now) }
+    ensures lexemes { IfOk result (λ segment. segment.content.value.lexemes.items ≡ front.lexemes.items) }
+    ensures faults { IfOk result (λ segment. segment.content.value.faults ≡ front.faults) }
+{
+    let mut lexemes = front.lexemes;
+    lexemes.shrink_to(lexemes.len().saturating_add(SPARE_LEXEMES));
+    let content = Content {
+        text: String::from_str(alloc, text)?,
+        lexemes,
+        faults: front.faults,
+    };
+    Ok(Segment {
+        len: text.len(),
+        lines: newline_count(text),
+        content: Box::new(alloc, content).map_err(|_| AllocError)?,
+    })
+}
+
+/// The segment of a text up to where it can be cut.
+fn cut_segment(alloc: Global, text: &str, front: LexedFront) -> Result<Segment, AllocError>
+    requires within { front.line_end ≤ length text.now }
+    requires boundary { IsCharBoundary text.now front.line_end }
+    ensures text { IfOk result (λ segment. text_in segment ≡ take front.line_end text.now) }
+    ensures len { IfOk result (λ segment. segment.len ≡ front.line_end) }
+    ensures lines { IfOk result (λ segment. segment.lines ≡ count_by is_lf (take front.line_end text.now)) }
+    ensures lexemes { IfOk result (λ segment. segment.content.value.lexemes.items ≡ front.lexemes.items) }
+    ensures faults { IfOk result (λ segment. segment.content.value.faults ≡ front.faults) }
+{
+    let len = front.line_end;
+    segment(alloc, &text[..len], front)
+}
+
+/// Takes the closing `Newline` out of what was found in a closed text, since another text follows.
+fn without_closing(front: LexedFront) -> LexedFront
+    ensures lexemes { map lexeme_view result.lexemes.items ≡ without_newline (map lexeme_view front.lexemes.items) }
+    ensures faults { result.faults ≡ front.faults }
+{
+    let mut open = front;
+    let at = last_newline(&open.lexemes);
+    if at < open.lexemes.len() {
+        open.lexemes.remove(at);
+    }
+    open
+}
+
+/// The segment of a whole text; `None` where the text isn't known to be closed, and another one
+/// follows it.
+fn whole_segment(
+    alloc: Global,
+    text: &str,
+    front: LexedFront,
+    is_last: bool,
+) -> Result<Option<Segment>, AllocError>
+    requires front { IsLexedFront text.now (all_items text.now) front }
+    ensures segment { IfOk result (λ found. IfSome found (IsFirstSegment text.now is_last)) }
+    ensures last { IfOk result (λ found. is_last ≡ true → IsSome found) }
+    ensures none { IfOk result (λ found. IsNone found → 0 < length text.now) }
+{
+    if is_last {
+        return Ok(Some(segment(alloc, text, front)?));
+    }
+    if text.is_empty() || front.line_end == text.len() {
+        return Ok(Some(segment(alloc, text, without_closing(front))?));
+    }
+    Ok(None)
+}
+
+/// Lexes the first segment of a text, which ends where the text can be cut, or with the text.
+///
+/// The text is the document's last, or other segments follow it. Where none can follow it, there is
+/// no segment: then it is to be lexed with more text. At first there is room for `likely_count`
+/// lexemes and some more.
+pub fn lex_segment(
+    alloc: Global,
+    file: &CodeMap,
+    text: &str,
+    is_last: bool,
+    least_len: usize,
+    likely_count: usize,
+) -> Result<Attempt, AllocError>
+    requires fits { length text.now < 2 ^ 32 }
+    ensures segment { IfOk result (λ found. IfSome found.segment (IsFirstSegment text.now is_last)) }
+    ensures last { IfOk result (λ found. is_last ≡ true → IsSome found.segment) }
+    ensures none { IfOk result (λ found. IsNone found.segment → 0 < length text.now) }
+    ensures cost { IfOk result (λ found. IsTextCost (length text.now) found.cost) }
+    ensures whole { IfOk result (λ found. IfSome found.segment (λ segment. segment.len ≡ length text.now → found.cost.starts ≡ 1 → length text.now ≤ found.cost.reads)) }
+{
+    let lexer = RecoveringLexer::new(alloc, text, &Dialect::Standard, file.dupe()?);
+    let mut lexer = lexer.map_err(|_| AllocError)?;
+    let mut front = LexedFront::new(alloc, least_len, likely_count)?;
+    while let Some(item) = lexer.next() {
+        if front.ends_before(&item)? {
+            return Ok(Attempt {
+                segment: Some(cut_segment(alloc, text, front)?),
+                cost: cost_of(&lexer, text),
+            });
+        }
+        front.take(text, item)?;
+    }
+    Ok(Attempt {
+        segment: whole_segment(alloc, text, front, is_last)?,
+        cost: cost_of(&lexer, text),
+    })
+}

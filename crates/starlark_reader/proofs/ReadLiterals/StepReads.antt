@@ -1,0 +1,41 @@
+-- Reads of a literal's bytes.
+use Rattle.std.proofs.Common.{◌≡◌, ◌≤◌, ◌+◌, ◌-◌, ◌*◌, ℕ, Bool, true, false, length, refl, arith}
+use Rattle.starlark_grammar.specs.Items.{closing_quotes}
+use Rattle.starlark_grammar.specs.Tokens.{Opening}
+use Rattle.starlark_words.specs.Inner.Reads.{AreReads, more_reads}
+use Rattle.starlark_reader.specs.Inner.ReadBounds.{AreFaultReads, AreWordReads, IsFaultAt, is_tab_error}
+use Rattle.starlark_reader.specs.declared.literal.pieces.Step.{Step}
+use Rattle.starlark_reader.specs.declared.literal.pieces.Step.TheVariants as step
+
+-- a literal is closed by one quote or by three
+pub closing_some : (opening : Opening) → (1 ≤ length (closing_quotes opening)) × (length (closing_quotes opening) ≤ 3)
+closing_some opening = by_quotes opening.is_triple refl
+  where
+    by_quotes : (is_triple : Bool) → opening.is_triple ≡ is_triple → (1 ≤ length (closing_quotes opening)) × (length (closing_quotes opening) ≤ 3)
+    by_quotes true e = rw e (omega arith, omega arith)
+    by_quotes false e = rw e (omega arith, omega arith)
+
+pub fault_reads : (passed factor more line extra begin end : ℕ) (step : Step) (before after : ℕ) → IsFaultAt begin end step → passed ≤ end → AreReads (begin - passed) (factor * (end - passed) + extra) before after → AreWordReads passed factor more line extra step before after
+fault_reads passed factor more line extra begin end (step.Fault from fault to) before after is later reads = rw (is.2, is.0, is.1) (reads, later)
+fault_reads passed factor more line extra begin end (step.Token token len) before after is later reads = absurd is
+fault_reads passed factor more line extra begin end (step.Text text text_len stop len) before after is later reads = absurd is
+
+-- the reads after an opener of one quote, with the two bytes that determine that
+pub single_reads : (passed : ℕ) (step : Step) (before between after : ℕ) → between ≡ more_reads before 2 → AreWordReads passed 9 0 0 6 step between after → AreWordReads passed 9 2 0 8 step before after
+single_reads passed (step.Token token len) before between after told reads = ((omega (arith, told, reads.0.0), omega (arith, told, reads.0.1)), reads.1)
+single_reads passed (step.Fault begin fault end) before between after told reads = by_fault (is_tab_error fault) reads
+  where
+    by_fault : (tab : Bool) → AreFaultReads tab passed 0 begin end (9 * (end - passed) + 6) between after → AreFaultReads tab passed 0 begin end (9 * (end - passed) + 8) before after
+    by_fault true reads = absurd (omega (arith, reads.2))
+    by_fault false reads = ((omega (arith, told, reads.0.0), omega (arith, told, reads.0.1)), reads.1)
+single_reads passed (step.Text text text_len stop len) before between after told reads = absurd reads
+
+-- the reads after an opener of three quotes
+pub triple_reads : (passed : ℕ) (step : Step) (before between after : ℕ) → between ≡ more_reads before 2 → AreWordReads (passed + 2) 9 0 0 6 step between after → AreWordReads passed 9 2 0 8 step before after
+triple_reads passed (step.Token token len) before between after told reads = ((omega (arith, told, reads.0.0, reads.1), omega (arith, told, reads.0.1, reads.1)), omega (arith, reads.1))
+triple_reads passed (step.Fault begin fault end) before between after told reads = by_fault (is_tab_error fault) reads
+  where
+    by_fault : (tab : Bool) → AreFaultReads tab (passed + 2) 0 begin end (9 * (end - (passed + 2)) + 6) between after → AreFaultReads tab passed 0 begin end (9 * (end - passed) + 8) before after
+    by_fault true reads = absurd (omega (arith, reads.2))
+    by_fault false reads = ((omega (arith, told, reads.0.0), omega (arith, told, reads.0.1)), omega (arith, reads.1))
+triple_reads passed (step.Text text text_len stop len) before between after told reads = absurd reads

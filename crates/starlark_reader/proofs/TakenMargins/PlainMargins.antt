@@ -1,0 +1,70 @@
+-- Margins of spaces alone, or of spaces and a CR.
+use Rattle.std.proofs.Common.{◌≡◌, ℕ, ◌+◌, ◌<◌, Bool, true, false, [], ◌∷◌, length, drop, refl, ap, ◌∙◌, sym, subst, arith, nat_eq, get_or}
+use Rattle.std.specs.Prelude.{◌==◌, not}
+use Rattle.std.specs.List.{prefix_len}
+use Rattle.std.proofs.lemmas.Bool.Decides.{nat_tests}
+use Rattle.std.proofs.lemmas.List.{drop_all, length-drop}
+use Rattle.starlark_grammar.specs.Words.{Text}
+use Rattle.starlark_grammar.specs.Margins.{begins_comment, is_content, is_lf, margin_of}
+use Rattle.starlark_reader.specs.Inner.MarginViews.{IsMargin, spaces_margin}
+use Rattle.starlark_reader.specs.declared.margins.Blanks.{Blanks}
+use Rattle.starlark_reader.specs.declared.margins.Margin.{Margin}
+use Rattle.starlark_reader.proofs.TakenMargins.Blanks.{IsPassed, all_passed, at_front, blank_passed, blanks_at, only_spaces, other_front}
+use Rattle.starlark_reader.proofs.TakenMargins.MarginLines.{last_passed, none_passed}
+
+abbrev blanks_of : ℕ → ℕ → Blanks
+blanks_of len width = record { len = len; width = width; has_tab = false }
+
+abbrev margin_found : ℕ → ℕ → Bool → Margin
+margin_found len width content = record { at = 0; blanks = blanks_of len width; is_content = content }
+
+-- the whole text is spaces
+pub spaces_alone : (text : Text) (n : ℕ) → n ≡ prefix_len (nat_eq 32) text → n ≡ length text → IsMargin (margin_of text) (margin_found n n false)
+spaces_alone text n is all =
+    let blanks = only_spaces text n is (λ less tab. absurd (omega (arith, less, all))) (λ less return. absurd (omega (arith, less, all))) in
+    let none : [] ≡ drop n text = sym (drop_all n text (omega (arith, all))) in
+    last_passed text text [] 0 (blanks_of n n) false (none_passed text) refl blanks none refl refl
+
+-- spaces, and then a byte that is no blank and begins no comment
+pub spaces_first : (text : Text) (n b : ℕ) → n ≡ prefix_len (nat_eq 32) text → n < length text → b ≡ get_or text n 0 → (b ≡ 9 → ⊥) → (b ≡ 13 → ⊥) → (b ≡ 35 → ⊥)
+    → IsMargin (margin_of text) (margin_found n n (not (nat_eq b 10)))
+spaces_first text n b is less here no_tab no_return no_hash =
+    let split = at_front text n b less here in
+    let blanks = only_spaces text n is (λ inside tab. no_tab (here ∙ tab)) (λ inside return. no_return (here ∙ return)) in
+    last_passed text text (drop n text) 0 (blanks_of n n) (not (nat_eq b 10)) (none_passed text) refl blanks refl (ap begins_comment split ∙ other b no_hash) (content b ∙ sym (ap is_content split))
+  where
+    other : (b : ℕ) → (b ≡ 35 → ⊥) → (b == 35) ≡ false
+    other b unlike = grind (arith, nat_tests)
+
+    content : (b : ℕ) → not (nat_eq b 10) ≡ not (is_lf b)
+    content b = refl
+
+-- spaces, and then content
+pub content_first : (text : Text) (n b : ℕ) → n ≡ prefix_len (nat_eq 32) text → n < length text → b ≡ get_or text n 0 → (b ≡ 9 → ⊥) → (b ≡ 13 → ⊥) → (b ≡ 35 → ⊥) → (b ≡ 10 → ⊥) → IsMargin (margin_of text) (spaces_margin n)
+content_first text n b is less here no_tab no_return no_hash no_feed =
+    subst (λ content. IsMargin (margin_of text) (margin_found n n content)) (other b no_feed) (spaces_first text n b is less here no_tab no_return no_hash)
+  where
+    other : (b : ℕ) → (b ≡ 10 → ⊥) → not (nat_eq b 10) ≡ true
+    other b unlike = grind (arith, nat_tests)
+
+-- spaces, and then an LF
+pub line_end_first : (text : Text) (n : ℕ) → n ≡ prefix_len (nat_eq 32) text → n < length text → get_or text n 0 ≡ 10 → IsMargin (margin_of text) (margin_found n n false)
+line_end_first text n is less feed = spaces_first text n 10 is less (sym feed) (λ tab. cc) (λ return. cc) (λ hash. cc)
+
+-- spaces and a CR, and then an LF or the text's end
+pub spaces_and_return : (text : Text) (n : ℕ) → n ≡ prefix_len (nat_eq 32) text → n < length text → get_or text n 0 ≡ 13 → (n + 1 < length text → get_or text (n + 1) 0 ≡ 10)
+    → IsMargin (margin_of text) (margin_found (n + 1) n false)
+spaces_and_return text n is less next feed = go (drop (n + 1) text) refl
+  where
+    passed : IsPassed text (blanks_of (n + 1) n)
+    passed = blank_passed text n false (omega (arith, is)) less next
+
+    go : (rest : Text) → drop (n + 1) text ≡ rest → IsMargin (margin_of text) (margin_found (n + 1) n false)
+    go [] e =
+        let blanks = all_passed text (blanks_of (n + 1) n) passed (ap blanks_at e) in
+        last_passed text text [] 0 (blanks_of (n + 1) n) false (none_passed text) refl blanks (sym e) refl refl
+    go (b ∷ bs) e =
+        let inside : n + 1 < length text = omega (arith, ap (λ (t : Text). length t) e, length-drop (n + 1) text) in
+        let split = at_front text (n + 1) 10 inside (sym (feed inside)) in
+        let blanks = all_passed text (blanks_of (n + 1) n) passed (ap blanks_at split ∙ other_front 10 (drop (n + 1 + 1) text) refl) in
+        last_passed text text (drop (n + 1) text) 0 (blanks_of (n + 1) n) false (none_passed text) refl blanks refl (ap begins_comment split) (sym (ap is_content split))

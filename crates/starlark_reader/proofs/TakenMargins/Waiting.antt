@@ -1,0 +1,93 @@
+-- Pending lexemes.
+use Rattle.std.proofs.Common.{arith, ◌≡◌, Bool, false, ℕ, ◌+◌, ◌-◌, ◌<◌, ◌≤◌, List, [], ◌∷◌, ◌++◌, ap, drop, sym, take, ◌∙◌, map, refl, Some, None}
+use Rattle.std.specs.Prelude.{Option, Result, Ok, Err, OnErr, option_to_list}
+use Rattle.starlark_grammar.specs.Words.{Text}
+use Rattle.starlark_grammar.specs.Margins.{comment_of, comments_from}
+use Rattle.starlark_grammar.specs.Tokens.{Comment, Lexeme, Spanned}
+use Rattle.starlark_token.specs.TokenViews.{TokenView, Whole, token_view}
+use Rattle.starlark_token.specs.Lexemes.{lexeme_view, shown_lexeme}
+use Rattle.starlark_reader.specs.Inner.Pending.{IsFirst, IsFirstAfter, IsFirstComment, IsFirstPast, IsIdle, IsPending, comment_lexeme, lexemes_after, lines_between, pending_lexemes}
+use Rattle.starlark_reader.specs.declared.comments.CommentLine.{CommentLine}
+use Rattle.starlark_reader.specs.declared.pending.AfterComments.{AfterComments}
+use Rattle.starlark_reader.specs.declared.pending.Pending.{Pending}
+use Rattle.starlark_token.specs.declared.tokens.Token.{Token}
+use Rattle.starlark_reader.proofs.TakenMargins.Pending.{no_comments, no_lines_between, some_lines}
+
+-- the first comment
+pub comment_first : (text : Text) (old : Pending) (found : CommentLine) → IsFirstComment text old.from old.to found
+    → IsFirstPast text (comment_lexeme text found.begin found.end) old (record { from = old.from + found.len; to = old.to; remainder = old.remainder; is_flat = old.is_flat })
+unfolding pending_lexemes
+comment_first text old found is =
+    let later = comments_from (old.from + found.len) (lines_between text (old.from + found.len) old.to) in
+    let all : comments_from old.from (lines_between text old.from old.to) ≡ comment_of old.from is.line ∷ later =
+    ap (comments_from old.from) is.first ∙ ap (λ n. comment_of old.from is.line ∷ comments_from (old.from + n) (lines_between text (old.from + found.len) old.to)) is.whole in (
+      is.remainder,
+      ap (λ ls. map shown_lexeme (ls ++ lexemes_after old.remainder)) all ∙ ap (λ v. v ∷ map shown_lexeme (later ++ lexemes_after old.remainder)) (sym is.comment),
+    )
+
+-- it is taken as its token
+pub comment_taken : (text : Text) (old : Pending) (found : CommentLine) (token : Token) → IsFirstComment text old.from old.to found → token_view token ≡ Whole (Comment (take (found.end - (found.begin + 1)) (drop (found.begin + 1) text)))
+    → IsFirst text old (record { from = old.from + found.len; to = old.to; remainder = old.remainder; is_flat = old.is_flat }) (Some (found.begin, token, found.end))
+comment_taken text old found token is same =
+    let past = comment_first text old found is in (
+      past.0,
+      past.1 ∙ ap (λ view. record { begin = found.begin; node = view; end = found.end } ∷ map shown_lexeme (pending_lexemes text (record { from = old.from + found.len; to = old.to; remainder = old.remainder; is_flat = old.is_flat }))) (sym same),
+    )
+
+-- if comments are pending, so is a lexeme
+pub comments_left : (text : Text) (old : Pending) → IsPending text old → old.from < old.to → pending_lexemes text old ≡ [] → ⊥
+unfolding pending_lexemes
+comments_left text old is some none = go (lines_between text old.from old.to) refl none
+  where
+    go : (ls : List Text) → lines_between text old.from old.to ≡ ls → comments_from old.from ls ++ lexemes_after old.remainder ≡ [] → ⊥
+    go [] e h = some_lines text old.from old.to some is.inside e
+    go (l ∷ ls) e h = cc
+
+-- if no comments are pending, the first lexeme is the one after them
+pub after_first : (text : Text) (old : Pending) (new : AfterComments) (flat : Bool) (found : Option (ℕ × Token × ℕ)) → IsPending text old → old.to ≤ old.from → IsFirstAfter old.remainder new found → (found ≡ None → flat ≡ old.is_flat)
+    → IsFirst text old (record { from = old.from; to = old.to; remainder = new; is_flat = flat }) found
+unfolding pending_lexemes
+after_first text old new flat None is none h same = (rw (no_lines_between text old.from old.to none) h.0, rw (h.1, same refl) refl)
+after_first text old new flat (Some found) is none h same = (is, rw (no_lines_between text old.from old.to none) h)
+
+-- no lexeme is pending if no comments are and no lexeme after them is
+pub nothing_left : (text : Text) (pending : Pending) → pending.to ≤ pending.from → lexemes_after pending.remainder ≡ [] → pending_lexemes text pending ≡ []
+unfolding pending_lexemes
+nothing_left text pending none empty = rw (no_lines_between text pending.from pending.to none, empty) refl
+
+-- a statement that holds also holds after an error
+pub after_error : {A E : Type 0} (result : Result A E) (P : Type 0) → P → OnErr result P
+after_error (Ok x) P p = tt
+after_error (Err e) P p = p
+
+-- the first lexemes are those passed, and the others are pending
+abbrev pub HandsPast : Text → List (Spanned TokenView) → Pending → List Lexeme → Type 0
+HandsPast text passed pending lexemes = IsPending text pending × (map shown_lexeme lexemes ≡ passed ++ map shown_lexeme (pending_lexemes text pending))
+
+-- the first of the lexemes may be the one given, and the others are pending
+abbrev pub Hands : Text → Option (ℕ × Token × ℕ) → Pending → List Lexeme → Type 0
+Hands text given pending lexemes = HandsPast text (map lexeme_view (option_to_list given)) pending lexemes
+
+pub passes_one : (text : Text) (pending : Pending) (lexeme : Lexeme) → IsIdle text pending → HandsPast text (shown_lexeme lexeme ∷ []) pending (lexeme ∷ [])
+passes_one text pending lexeme idle = (idle.0, ap (λ ls. shown_lexeme lexeme ∷ map shown_lexeme ls) (sym idle.1))
+
+pub hands_none : (text : Text) (pending : Pending) → IsIdle text pending → Hands text None pending []
+hands_none text pending idle = (idle.0, sym (ap (map shown_lexeme) idle.1))
+
+pub hands_one : (text : Text) (pending : Pending) (found : ℕ × Token × ℕ) (lexeme : Lexeme) → IsIdle text pending → lexeme_view found ≡ shown_lexeme lexeme → Hands text (Some found) pending (lexeme ∷ [])
+hands_one text pending found lexeme idle e = (idle.0, ap (λ v. v ∷ []) (sym e) ∙ ap (λ ls. lexeme_view found ∷ map shown_lexeme ls) (sym idle.1))
+
+-- one lexeme, and more
+pub passes_first : (text : Text) (pending : Pending) (view : Spanned TokenView) (lexeme : Lexeme) (more : List Lexeme) → IsPending text pending → view ≡ shown_lexeme lexeme → more ≡ pending_lexemes text pending → HandsPast text (view ∷ []) pending (lexeme ∷ more)
+passes_first text pending view lexeme more is e f = (is, ap (λ v. v ∷ map shown_lexeme more) (sym e) ∙ ap (λ ls. view ∷ map shown_lexeme ls) f)
+
+pub hands_first : (text : Text) (pending : Pending) (found : ℕ × Token × ℕ) (lexeme : Lexeme) (more : List Lexeme) → IsPending text pending → lexeme_view found ≡ shown_lexeme lexeme → more ≡ pending_lexemes text pending → Hands text (Some found) pending (lexeme ∷ more)
+hands_first text pending found = passes_first text pending (lexeme_view found)
+
+pub hands_later : (text : Text) (pending : Pending) (lexemes : List Lexeme) → IsPending text pending → lexemes ≡ pending_lexemes text pending → Hands text None pending lexemes
+hands_later text pending lexemes is e = (is, ap (map shown_lexeme) e)
+
+-- pending lexemes without comments before them
+pub only_after : (text : Text) (remainder : AfterComments) → (pending_lexemes text (record { from = 0; to = 0; remainder = remainder; is_flat = false }) ≡ lexemes_after remainder) × IsPending text (record { from = 0; to = 0; remainder = remainder; is_flat = false })
+unfolding pending_lexemes
+only_after text remainder = (rw (no_lines_between text 0 0 (omega arith)) refl, no_comments text 0 (omega arith))

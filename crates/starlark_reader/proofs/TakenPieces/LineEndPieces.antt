@@ -1,0 +1,88 @@
+-- A newline is the line end at the start of the text.
+use Rattle.std.proofs.Common.{◌≡◌, ℕ, zero, suc, ◌<◌, ◌==◌, ◌&&◌, Bool, true, false, [], ◌∷◌, length, take, nat_eq, refl, sym, ◌∙◌, Some, arith}
+use Rattle.std.proofs.lemmas.Bool.{and_parts, eqb-true, ltb-true}
+use Rattle.std.proofs.lemmas.List.{length-take-le}
+use Rattle.std.specs.List.{list_all, starts_with}
+use Rattle.std.specs.Prelude.{if◌then◌else◌, nat_lt}
+use Rattle.starlark_grammar.specs.AfterFaults.{line_end_len}
+use Rattle.starlark_grammar.specs.Front.{language_front}
+use Rattle.starlark_grammar.specs.Words.{Text, class_in, language, line_ends, names, openers, patterns, symbols}
+use Rattle.starlark_grammar.specs.declared.class.Class.{Class}
+use Rattle.starlark_grammar.specs.declared.class.Class.TheVariants as word
+use Rattle.starlark_grammar.proofs.Words.Classes.{language_all_fit, none_found, row_fits}
+use Rattle.starlark_grammar.proofs.Words.Fronts.{front_sound}
+use Rattle.starlark_reader.specs.Inner.PieceViews.{IsLineEnd, IsLineEndOf}
+use Rattle.starlark_reader.specs.Inner.ReadBounds.{AreReadsAfter}
+use Rattle.starlark_reader.specs.declared.reading.Piece.{Piece}
+use Rattle.starlark_reader.specs.declared.reading.Piece.TheVariants as piece
+
+-- a word that is a newline has the bytes of its line end
+abbrev is_whole : Class → Text → Bool
+is_whole word.LineEnd front = nat_lt 0 (length front) && line_end_len front == length front
+is_whole class front = true
+
+openers_whole : list_all (λ (row : Text × Class). is_whole row.1 row.0) openers ≡ true
+unfolding openers
+openers_whole = refl
+
+line_ends_whole : list_all (λ (row : Text × Class). is_whole row.1 row.0) line_ends ≡ true
+unfolding line_ends
+line_ends_whole = refl
+
+symbols_whole : list_all (λ (row : Text × Class). is_whole row.1 row.0) symbols ≡ true
+unfolding symbols
+symbols_whole = refl
+
+names_whole : list_all (λ (row : Text × Class). is_whole row.1 row.0) names ≡ true
+unfolding names
+names_whole = refl
+
+patterns_whole : (front : Text) (class : Class) → class_in patterns front ≡ Some class → is_whole class front ≡ true
+unfolding class_in patterns
+patterns_whole front class =
+    row_fits is_whole front _ word.Skipped class _ (λ h. refl)
+    (row_fits is_whole front _ word.Comment class _ (λ h. refl)
+    (row_fits is_whole front _ word.Tabs class _ (λ h. refl)
+    (row_fits is_whole front _ word.Identifier class _ (λ h. refl)
+    (row_fits is_whole front _ word.Decimal class _ (λ h. refl)
+    (row_fits is_whole front _ word.Hexadecimal class _ (λ h. refl)
+    (row_fits is_whole front _ word.Octal class _ (λ h. refl)
+    (row_fits is_whole front _ word.Binary class _ (λ h. refl)
+    (row_fits is_whole front _ word.Float class _ (λ h. refl)
+    (row_fits is_whole front _ word.Float class _ (λ h. refl) (none_found is_whole front class))))))))))
+
+pub line_end_word : (front : Text) → class_in language front ≡ Some word.LineEnd → IsLineEnd (length front) front
+line_end_word front known =
+    let parts = and_parts (nat_lt 0 (length front)) (line_end_len front == length front) (language_all_fit is_whole openers_whole line_ends_whole symbols_whole names_whole patterns_whole front word.LineEnd known) in
+    (ltb-true 0 (length front) parts.0, eqb-true (line_end_len front) (length front) parts.1)
+
+-- a line end that is a text's front begins the text
+pub line_end_front : (n : ℕ) (text : Text) → 0 < n → line_end_len (take n text) ≡ n → line_end_len text ≡ n
+line_end_front zero text some is = absurd (omega (arith, some))
+line_end_front (suc n) [] some is = absurd (omega (arith, is))
+line_end_front (suc n) (b ∷ bs) some is = go (nat_eq 10 b && true) (nat_eq 13 b) n bs is
+  where
+    go : (feed return : Bool) (n : ℕ) (bs : Text)
+        → (if feed then 1 else (if return && starts_with nat_eq (take n bs) (10 ∷ []) then 2 else 0)) ≡ suc n
+        → (if feed then 1 else (if return && starts_with nat_eq bs (10 ∷ []) then 2 else 0)) ≡ suc n
+    go true return n bs is = is
+    go false false n bs is = is
+    go false true zero bs is = absurd (omega (arith, is))
+    go false true (suc n) [] is = is
+    go false true (suc n) (c ∷ cs) is = is
+
+-- the word at the start of a text
+pub line_end_here : (text : Text) (len : ℕ) → Some (word.LineEnd, len) ≡ language_front text → IsLineEnd len text
+unfolding language_front
+line_end_here text len front =
+    let sound = front_sound (class_in language) text word.LineEnd len (sym front) in
+    let whole : line_end_len (take len text) ≡ len = (line_end_word (take len text) sound.2).1 ∙ length-take-le len text sound.1 in
+    (sound.0, line_end_front len text sound.0 whole)
+
+-- the piece of a newline after its word
+pub line_end_piece : (front : Text) (line before after : ℕ) (piece : Piece) → class_in language front ≡ Some word.LineEnd → AreReadsAfter (length front) 9 line 8 piece before after → IsLineEndOf front piece
+line_end_piece front line before after (piece.LineEnd len) known reads = let is = line_end_word front known in (omega (arith, is.0, reads.0), omega (arith, is.1, reads.0))
+line_end_piece front line before after (piece.Nothing len is_gap) known reads = tt
+line_end_piece front line before after (piece.FString opening len) known reads = tt
+line_end_piece front line before after (piece.Lexed step) known reads = tt
+line_end_piece front line before after piece.End known reads = tt

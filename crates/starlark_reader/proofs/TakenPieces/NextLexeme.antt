@@ -1,0 +1,226 @@
+-- What a reader yields next.
+use Rattle.std.proofs.Common.{◌≡◌, Bool, true, false, ℕ, zero, suc, ◌+◌, ◌<◌, ◌≤◌, length, length-append, take, arith, List, [], ◌∷◌, ◌++◌, map, drop, refl, sym, ap, subst, ◌∙◌, None, Some, ◌⊎◌, inl, inr}
+use Rattle.std.specs.Prelude.{Option, nat_lt, sum_by}
+use Rattle.starlark_grammar.specs.Words.{Text, language}
+use Rattle.starlark_grammar.specs.Tokens.{Fault, Lexeme, Outcome, Spanned}
+use Rattle.starlark_grammar.specs.Pieces.{Piece, Step, Stands, Fails, Ends}
+use Rattle.starlark_grammar.specs.Reading.{History, lexemes_along, outcome, outcome_in, outcome_of, read, read_from}
+use Rattle.starlark_token.specs.Lexemes.{fault_view, lexeme_view, shown_lexeme}
+use Rattle.starlark_reader.specs.Inner.MarginCuts.{IsAfterLines, IsCutBefore, IsMarginAhead}
+use Rattle.starlark_reader.specs.Inner.MarginLines.{IsLinePassed, IsPassedLine}
+use Rattle.starlark_reader.specs.Inner.Nesting.{bracket_count}
+use Rattle.starlark_reader.specs.Inner.Pending.{IsFirst, IsFirstPast, IsIdle, lines_between, pending_lexemes}
+use Rattle.starlark_reader.specs.Inner.Reader.{begins_with_tab, has_read_none, IsAhead, IsAheadAfter, IsAheadPast, IsInFlatMargin, IsStateAfter, IsLeft, IsOver, IsReady, IsSomething, history_of, outcome_along, remaining_outcome}
+use Rattle.starlark_token.specs.TokenViews.{TokenView}
+use Rattle.starlark_token.specs.declared.lexeme_error.LexemeError.{LexemeError}
+use Rattle.starlark_token.specs.declared.tokens.Token.{Token}
+use Rattle.starlark_reader.specs.declared.reader.Reader.{Reader}
+use Rattle.starlark_reader.specs.declared.reader.Stage.{Stage}
+use Rattle.starlark_reader.specs.declared.reader.Stage.TheVariants as stage
+use Rattle.starlark_reader.specs.declared.pending.Pending.{Pending}
+use Rattle.starlark_reader.proofs.TakenPieces.Here.{IsHere, kept_here}
+use Rattle.starlark_reader.proofs.TakenPieces.MarginCuts.{passed_cut}
+use Rattle.starlark_reader.proofs.TakenPieces.Taken.{none_before, reached_by}
+use Rattle.starlark_reader.proofs.TakenMargins.Pending.{no_lines_between}
+use Rattle.std.proofs.lemmas.Bool.{ltb-false, ltb-true}
+use Rattle.std.proofs.lemmas.List.{length-map}
+use Rattle.std.proofs.lemmas.List.Sums.{sum_by-cons}
+
+pub same_left : (text : Text) (old new : Reader) (stage : Stage) (left : Outcome) → IsHere old new → IsLeft text old stage left → IsLeft text new stage left
+same_left text old new stage.Begin left here h = (h.0, here.at ∙ h.1, rw here.nesting h.2, here.levels ∙ h.3, ap bracket_count here.nesting ∙ h.4, here.before ∙ h.5)
+same_left text old new stage.Onward left here h = (h.0, kept_here text h.0 old new here h.1, h.2 ∙ ap (λ at. remaining_outcome h.0 at (drop at text)) (sym here.at))
+same_left text old new (stage.Fault begin fault end) left here h = (h.0, h.1, h.2, rw (here.at, here.before) h.3, rw here.at h.4)
+same_left text old new stage.Closed left here h = (h.0, kept_here text (history_of text) old new here h.1)
+
+-- at each stage the reader's offset is in its text
+left_inside : (text : Text) (reader : Reader) (stage : Stage) (left : Outcome) → IsLeft text reader stage left → reader.at ≤ length text
+left_inside text reader stage.Begin left is = omega (arith, is.1)
+left_inside text reader stage.Onward left is = is.1.inside
+left_inside text reader (stage.Fault begin fault end) left is = is.4
+left_inside text reader stage.Closed left is = is.1.inside
+
+pub ready_inside : (text : Text) (reader : Reader) → IsReady text reader reader.stage → reader.at ≤ length text
+ready_inside text reader ready = left_inside text reader reader.stage ready.2.left ready.2.is_left
+
+flat_here : (old new : Reader) (now later : Stage) → IsHere old new → new.pending ≡ old.pending → later ≡ now → IsInFlatMargin old now → IsInFlatMargin new later
+flat_here old new now later here pending same is = (same ∙ is.0, here.before ∙ is.1, ap (λ (p : Pending). p.is_flat) pending ∙ is.2)
+
+-- what is ahead of a reader is ahead of one with the same state
+pub ahead_here : (text : Text) (old new : Reader) (lexemes : List (Spanned TokenView)) (fault : Option (Spanned Fault)) → IsHere old new → new.stage ≡ old.stage → new.pending ≡ old.pending → IsAhead text old old.stage lexemes fault → IsAhead text new new.stage lexemes fault
+ahead_here text old new lexemes fault here same pending ahead = record {
+  left = ahead.left;
+  is_left = same_left text old new new.stage ahead.left here (subst (λ (s : Stage). IsLeft text old s ahead.left) (sym same) ahead.is_left);
+  is_pending = rw pending ahead.is_pending;
+  ahead = ahead.ahead ∙ ap (λ (p : Pending). map shown_lexeme (pending_lexemes text p) ++ map shown_lexeme ahead.left.lexemes) (sym pending);
+  those_after = ahead.those_after;
+  cut = λ on layout flat inside.
+      subst (λ (p : Pending). IsMarginAhead text p (length lexemes)) (sym pending)
+      (ahead.cut (sym same ∙ on) (sym here.before ∙ layout) (ap (λ (p : Pending). p.is_flat) (sym pending) ∙ flat) (subst (λ (p : Pending). p.from < length text) pending inside));
+  cuts = λ x remainder cut least most.
+      let lies = ahead.cuts x remainder cut least most in
+      (flat_here old new old.stage new.stage here pending same lies.0, subst (λ (p : Pending). IsAfterLines text p x remainder (length lexemes)) (sym pending) lies.1);
+}
+
+-- where there are lines there are bytes
+lines_some : (text : Text) (from to : ℕ) → 0 < length (lines_between text from to) → from < to
+lines_some text from to some = go (nat_lt from to) refl
+  where
+    go : (b : Bool) → nat_lt from to ≡ b → from < to
+    go true e = ltb-true from to e
+    go false e = absurd (omega (arith, some, ap length (no_lines_between text from to (ltb-false from to e))))
+
+-- a cut is after one pending line fewer, once the first was passed
+after_passed : (text : Text) (old new : Pending) (at remainder ahead : ℕ) → IsPassedLine text old new → IsAfterLines text old at remainder (1 + ahead) → remainder ≤ ahead → IsAfterLines text new at remainder ahead
+after_passed text old new at remainder ahead passed is few = go is.passed is.few is.place is.count
+  where
+    go : (n : ℕ) → n ≤ length (lines_between text old.from old.to) → at ≡ old.from + sum_by (λ (line : Text). length line) (take n (lines_between text old.from old.to)) → remainder + n ≡ 1 + ahead → IsAfterLines text new at remainder ahead
+    go zero inside place count = absurd (omega (arith, count, few))
+    go (suc n) inside place count =
+        let sum = ap (λ (ls : List Text). sum_by (λ (line : Text). length line) (take (suc n) ls)) passed.first ∙ sum_by-cons (λ (line : Text). length line) passed.line (take n (lines_between text new.from new.to)) in
+        record {
+          passed = n;
+          few = omega (arith, inside, ap length passed.first);
+          place = omega (arith, place, sum, passed.from);
+          count = omega (arith, count);
+        }
+
+-- the first pending lexeme is passed
+pub lexeme_past : (text : Text) (old new : Reader) (x : Spanned TokenView) (lexemes : List (Spanned TokenView)) (fault : Option (Spanned Fault)) → IsHere old new → new.stage ≡ old.stage → IsFirstPast text x old.pending new.pending → (new.pending.is_flat ≡ true → IsPassedLine text old.pending new.pending)
+    → (old.pending.from < old.pending.to → new.pending.is_flat ≡ old.pending.is_flat) → IsAhead text old old.stage lexemes fault → IsAheadPast text x new lexemes fault
+lexeme_past text old new x lexemes fault here same first lines stays ahead = (
+  map shown_lexeme (pending_lexemes text new.pending) ++ map shown_lexeme ahead.left.lexemes,
+  ahead.ahead ∙ ap (λ vs. vs ++ map shown_lexeme ahead.left.lexemes) first.1,
+  record {
+    left = ahead.left;
+    is_left = same_left text old new new.stage ahead.left here (subst (λ (s : Stage). IsLeft text old s ahead.left) (sym same) ahead.is_left);
+    is_pending = first.0;
+    ahead = refl;
+    those_after = ahead.those_after;
+    cut = λ on layout flat inside.
+        let passed = lines flat in
+        passed_cut text old.pending new.pending (length (map shown_lexeme (pending_lexemes text new.pending) ++ map shown_lexeme ahead.left.lexemes)) ahead.is_pending passed inside
+        (subst (IsMarginAhead text old.pending) (ap length (ahead.ahead ∙ ap (λ vs. vs ++ map shown_lexeme ahead.left.lexemes) first.1)) (ahead.cut (sym same ∙ on) (sym here.before ∙ layout) passed.flat (omega (arith, passed.from, inside))));
+    cuts = λ at remainder cut least most. after_first at remainder cut least (omega (arith, most));
+  },
+  λ at cut. reached_by text new at _ (after_first at _ cut (omega (arith, length-append (map shown_lexeme (pending_lexemes text new.pending)) (map shown_lexeme ahead.left.lexemes), length-map ahead.left.lexemes shown_lexeme)) (omega arith)),
+)
+  where
+    more : List (Spanned TokenView)
+    more = map shown_lexeme (pending_lexemes text new.pending) ++ map shown_lexeme ahead.left.lexemes
+
+    all : length lexemes ≡ 1 + length more
+    all = omega (arith, ap length (ahead.ahead ∙ ap (λ vs. vs ++ map shown_lexeme ahead.left.lexemes) first.1))
+
+    after_first : (at remainder : ℕ) → IsCutBefore text at remainder → length ahead.left.lexemes ≤ remainder → remainder ≤ length more → IsInFlatMargin new new.stage × IsAfterLines text new.pending at remainder (length more)
+    after_first at remainder cut least most =
+        let lies = ahead.cuts at remainder cut least (omega (arith, most, all)) in
+        let count = lies.1.count in
+        let some : old.pending.from < old.pending.to = lines_some text old.pending.from old.pending.to (omega (arith, count, lies.1.few, most, all)) in
+        let flat = stays some ∙ lies.0.2 in
+        let passed = lines flat in (
+          (same ∙ lies.0.0, here.before ∙ lies.0.1, flat),
+          after_passed text old.pending new.pending at remainder (length more) passed (subst (IsAfterLines text old.pending at remainder) all lies.1) most,
+        )
+
+-- the first lexeme after the comments is yielded, where no comment is pending
+pub mark_next : (text : Text) (old new : Reader) (found : Option (ℕ × Token × ℕ)) (lexemes : List (Spanned TokenView)) (fault : Option (Spanned Fault)) → IsHere old new → new.stage ≡ old.stage → old.pending.to ≤ old.pending.from → IsFirst text old.pending new.pending found
+    → IsLinePassed text old.pending new.pending found → IsAhead text old old.stage lexemes fault → IsAheadAfter text found new lexemes fault
+mark_next text old new None lexemes fault here same none first lines ahead = ahead_here text old new lexemes fault here same first.1 ahead
+mark_next text old new (Some x) lexemes fault here same none first lines ahead = lexeme_past text old new (lexeme_view x) lexemes fault here same first lines (λ some. absurd (omega (arith, none, some))) ahead
+
+-- the fault is returned after the last lexeme
+pub fault_next : (text : Text) (reader : Reader) (lexemes : List (Spanned TokenView)) (fault : Option (Spanned Fault)) (begin : ℕ) (error : LexemeError) (end : ℕ) → IsIdle text reader.pending → reader.stage ≡ stage.Fault begin error end → IsAhead text reader reader.stage lexemes fault
+    → (node : Fault) × (fault_view error ≡ Some node) × (lexemes ≡ []) × (fault ≡ Some (record { begin = begin; node = node; end = end })) × (has_read_none reader ≡ begins_with_tab text)
+fault_next text reader lexemes fault begin error end idle e ahead =
+    let is = subst (λ (s : Stage). IsLeft text reader s ahead.left) e ahead.is_left in
+    let both = none_before text reader reader.stage lexemes fault _ idle ahead is.2 in
+    (is.0, is.1, both.0, both.1, is.3)
+
+pub nothing_next : (text : Text) (old new : Reader) (lexemes : List (Spanned TokenView)) (fault : Option (Spanned Fault)) → IsHere old new → IsIdle text old.pending → new.pending ≡ old.pending → old.stage ≡ stage.Closed → new.stage ≡ stage.Closed
+    → IsAhead text old old.stage lexemes fault → (lexemes ≡ []) × (fault ≡ None) × IsAhead text new new.stage [] None × IsStateAfter text (history_of text) new
+nothing_next text old new lexemes fault here idle same e e_now ahead =
+    let is = subst (λ (s : Stage). IsLeft text old s ahead.left) e ahead.is_left in
+    let kept = kept_here text (history_of text) old new here is.1 in
+    let both = none_before text old old.stage lexemes fault _ idle ahead is.0 in (
+      both.0,
+      both.1,
+      record {
+        left = record { lexemes = []; fault = None };
+        is_left = subst (λ (s : Stage). IsLeft text new s (record { lexemes = []; fault = None })) (sym e_now) (refl, kept);
+        is_pending = rw same idle.0;
+        ahead = ap (λ ls. map shown_lexeme ls ++ []) (sym (ap (pending_lexemes text) same ∙ idle.1));
+        those_after = refl;
+        cut = λ on. let over_now : stage.Closed ≡ stage.Onward = sym e_now ∙ on in cc;
+        cuts = λ x remainder cut least most. absurd (omega (arith, most));
+      },
+      kept,
+    )
+
+-- Something is ahead of a text that isn't read to its end.
+
+some_lexeme : (xs : List Lexeme) (y : Lexeme) (ys : List Lexeme) → map shown_lexeme (xs ++ y ∷ ys) ≡ [] → ⊥
+some_lexeme [] y ys e = cc
+some_lexeme (x ∷ xs) y ys e = cc
+
+along_something : (history : History) (at : ℕ) (pieces : List Piece) (last : Step) → map shown_lexeme (outcome_along history at pieces last).lexemes ≡ [] → (outcome_along history at pieces last).fault ≡ None → ⊥
+along_something history at pieces (Stands piece) e none = some_lexeme (lexemes_along at pieces) _ _ e
+along_something history at pieces (Fails fault) e none = cc
+along_something history at pieces Ends e none = some_lexeme (lexemes_along at pieces) _ _ e
+
+rest_something : (history : History) (at : ℕ) (text : Text) → map shown_lexeme (remaining_outcome history at text).lexemes ≡ [] → (remaining_outcome history at text).fault ≡ None → ⊥
+unfolding remaining_outcome
+rest_something history at text e none = along_something history at (read_from language history 0 text).pieces (read_from language history 0 text).last e none
+
+whole_something : (text : Text) → map shown_lexeme (outcome text).lexemes ≡ [] → (outcome text).fault ≡ None → ⊥
+unfolding outcome outcome_in
+whole_something text e none = go (read language text).pieces (read language text).last e none
+  where
+    go : (pieces : List Piece) (last : Step) → map shown_lexeme (outcome_of text pieces last).lexemes ≡ [] → (outcome_of text pieces last).fault ≡ None → ⊥
+    go pieces (Stands piece) e none = some_lexeme (lexemes_along 0 pieces) _ _ e
+    go pieces (Fails fault) e none = cc
+    go pieces Ends e none = some_lexeme (lexemes_along 0 pieces) _ _ e
+
+pub begin_something : (text : Text) (reader : Reader) (lexemes : List (Spanned TokenView)) (fault : Option (Spanned Fault)) → IsIdle text reader.pending → reader.stage ≡ stage.Begin → IsAhead text reader reader.stage lexemes fault → IsSomething lexemes fault
+begin_something text reader lexemes fault idle e ahead =
+    let is = subst (λ (s : Stage). IsLeft text reader s ahead.left) e ahead.is_left in
+    let both = none_before text reader reader.stage lexemes fault (outcome text) idle ahead is.0 in
+    λ empty faultless. whole_something text (sym both.0 ∙ empty) (sym both.1 ∙ faultless)
+
+pub onward_something : (text : Text) (reader : Reader) (lexemes : List (Spanned TokenView)) (fault : Option (Spanned Fault)) → IsIdle text reader.pending → reader.stage ≡ stage.Onward → IsAhead text reader reader.stage lexemes fault → IsSomething lexemes fault
+onward_something text reader lexemes fault idle e ahead =
+    let is = subst (λ (s : Stage). IsLeft text reader s ahead.left) e ahead.is_left in
+    let both = none_before text reader reader.stage lexemes fault _ idle ahead is.2 in
+    λ empty faultless. rest_something is.0 reader.at (drop reader.at text) (sym both.0 ∙ empty) (sym both.1 ∙ faultless)
+
+-- something is ahead if a lexeme is pending
+pub pending_something : (text : Text) (reader : Reader) (lexemes : List (Spanned TokenView)) (fault : Option (Spanned Fault)) → (pending_lexemes text reader.pending ≡ [] → ⊥) → IsAhead text reader reader.stage lexemes fault → IsSomething lexemes fault
+pending_something text reader lexemes fault some ahead = λ empty faultless. go (pending_lexemes text reader.pending) refl (sym ahead.ahead ∙ empty)
+  where
+    go : (ls : List Lexeme) → pending_lexemes text reader.pending ≡ ls → map shown_lexeme ls ++ map shown_lexeme ahead.left.lexemes ≡ [] → ⊥
+    go [] e h = some e
+    go (l ∷ ls) e h = cc
+
+-- no lexeme is pending if none was taken
+pub none_left : (text : Text) (old : Reader) (new : Pending) (found : Option (ℕ × Token × ℕ)) → ((x : ℕ × Token × ℕ) → found ≡ Some x → ⊥) → IsFirst text old.pending new found → IsReady text old old.stage → IsIdle text old.pending × (new ≡ old.pending)
+none_left text old new None none first ready = ((ready.2.is_pending, first.0), first.1)
+none_left text old new (Some x) none first ready = absurd (none x refl)
+
+-- what was ahead is still ahead
+pub ahead_now : (text : Text) (old : Reader) (new : Pending) (now : Stage) (lexemes : List (Spanned TokenView)) (fault : Option (Spanned Fault)) → new ≡ old.pending → old.stage ≡ now → IsAhead text old old.stage lexemes fault → IsAhead text (record old { pending = new }) now lexemes fault
+ahead_now text old new now lexemes fault same e ahead =
+    subst (λ (s : Stage). IsAhead text (record old { pending = new }) s lexemes fault) e (ahead_here text old (record old { pending = new }) lexemes fault (record { at = refl; nesting = refl; levels = refl; before = refl }) refl same ahead)
+
+-- all pieces are read at a fault and at the end
+pub over : (now : Stage) → ((begin : ℕ) × (error : LexemeError) × (end : ℕ) × (now ≡ stage.Fault begin error end)) ⊎ (now ≡ stage.Closed) → IsOver now
+over now (inl at_fault) = subst IsOver (sym at_fault.3) tt
+over now (inr closed) = subst IsOver (sym closed) tt
+
+pub last_next : (text : Text) (old new : Reader) (lexemes : List (Spanned TokenView)) (fault : Option (Spanned Fault)) → IsHere old new → IsIdle text old.pending → new.pending ≡ old.pending → IsOver old.stage → ((begin : ℕ) (error : LexemeError) (end : ℕ) → old.stage ≡ stage.Fault begin error end → ⊥)
+    → new.stage ≡ stage.Closed → IsAhead text old old.stage lexemes fault → (lexemes ≡ []) × (fault ≡ None) × IsAhead text new new.stage [] None × IsStateAfter text (history_of text) new
+last_next text old new lexemes fault here idle same all none e_now ahead = by old.stage refl all
+  where
+    by : (now : Stage) → old.stage ≡ now → IsOver now → (lexemes ≡ []) × (fault ≡ None) × IsAhead text new new.stage [] None × IsStateAfter text (history_of text) new
+    by stage.Begin e h = absurd h
+    by stage.Onward e h = absurd h
+    by (stage.Fault begin error end) e h = absurd (none begin error end e)
+    by stage.Closed e h = nothing_next text old new lexemes fault here idle same e e_now ahead

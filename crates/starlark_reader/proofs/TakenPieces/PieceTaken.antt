@@ -1,0 +1,350 @@
+-- What a reader does with the piece at its offset.
+use Rattle.std.proofs.Common.{◌≡◌, ◌≢◌, ℕ, ◌+◌, ◌≤◌, ◌==◌, ◌&&◌, Bool, true, false, List, [], ◌∷◌, length, drop, refl, sym, ap, ◌∙◌, subst, arith, append-nil, take, None}
+use Rattle.std.specs.Prelude.{IfOk, Ok, Err, Result, Option, String, Vec, string_bytes, if◌then◌else◌}
+use Rattle.std.specs.Str.{IsCharBoundary, IsUtf8}
+use Rattle.std.specs.declared.alloc.Global.{Global}
+use Rattle.starlark_grammar.specs.Words.{Text, language}
+use Rattle.starlark_grammar.specs.Numbers.{integer_of}
+use Rattle.starlark_grammar.specs.Tokens as Tokens
+use Rattle.starlark_grammar.specs.Tokens.{Fault, Spanned, moved}
+use Rattle.starlark_grammar.specs.declared.class.Class.TheVariants as class
+use Rattle.starlark_grammar.specs.declared.class.LiteralKind.{LiteralKind}
+use Rattle.starlark_grammar.specs.declared.class.LiteralKind.TheVariants.{Text as OfText, Bytes as OfBytes, FString as OfFString}
+use Rattle.starlark_grammar.specs.declared.class.Quote.{Quote}
+use Rattle.starlark_grammar.specs.declared.class.Terminal.{Terminal}
+use Rattle.starlark_grammar.specs.declared.class.Terminal.TheVariants as terminals
+use Rattle.starlark_grammar.specs.Depths.{AtTop, InText, Mode}
+use Rattle.starlark_words.specs.Inner.LiteralViews.{IsPlainBody}
+use Rattle.starlark_grammar.specs.Inner.Openings.{opening_view}
+use Rattle.starlark_grammar.specs.declared.class.Opening.{Opening}
+use Rattle.starlark_words.specs.Inner.ScannedWords.{IsDigitAt}
+use Rattle.std.proofs.lemmas.Str.{IsUtf8-drop}
+use Rattle.starlark_grammar.proofs.Order.Edges.{boundary_shift}
+use Rattle.starlark_reader.proofs.ReadLiterals.LiteralPieces.{opener_plain}
+use Rattle.starlark_reader.proofs.OpenBrackets.OpenFStrings.{keeps, one_kept}
+use Rattle.starlark_token.specs.Lexemes.{shown_lexeme}
+use Rattle.starlark_reader.specs.Inner.StepViews.{IsPlainText, IsStep, text_step}
+use Rattle.starlark_reader.specs.Inner.Nesting.{Represents, change_by, is_fstring_start, mode_view}
+use Rattle.starlark_reader.specs.declared.literal.chunks.PlainText.{PlainText}
+use Rattle.starlark_reader.specs.declared.literal.pieces.Step.TheVariants as step
+use Rattle.starlark_reader.specs.declared.reader.Stage.{Stage}
+use Rattle.starlark_token.specs.declared.tokens.Token.TheVariants as token
+use Rattle.starlark_grammar.specs.Depths.{is_balanced, mode_after}
+use Rattle.starlark_grammar.specs.Margins.{open_widths}
+use Rattle.starlark_grammar.specs.Pieces as pieces
+use Rattle.starlark_grammar.specs.Pieces.{Piece, Situation, Stands, step_at}
+use Rattle.starlark_grammar.specs.Reading.{History, next_step, situation}
+use Rattle.starlark_reader.specs.Inner.Pending.{IsIdle}
+use Rattle.starlark_token.specs.declared.tokens.Token.{Token}
+use Rattle.starlark_words.specs.declared.scanner.word.Word.{Word}
+use Rattle.starlark_reader.specs.Inner.PieceViews.{IsAfter, IsPiece, is_code, nothing_of}
+use Rattle.starlark_reader.specs.Inner.Reader.{IsAhead, IsAheadAfter, IsAheadPast, IsBangHere, IsInCode, IsPlainTextHere, IsStateAfter, IsRead, IsReadPast, IsReady, IsTokenOf, IsWordHere, before_view, left_here, silent_sort, step_here}
+use Rattle.starlark_token.specs.TokenViews.{TokenView, Whole, token_view}
+use Rattle.starlark_reader.specs.declared.nesting.LexerMode.{LexerMode}
+use Rattle.starlark_reader.specs.declared.nesting.LexerMode.TheVariants as modes
+use Rattle.starlark_reader.specs.declared.changes.NestingChange.TheVariants as change
+use Rattle.starlark_reader.specs.declared.reading.Piece as code
+use Rattle.starlark_reader.specs.declared.reader.Before as sort
+use Rattle.starlark_reader.specs.declared.reader.Before.TheVariants as before
+use Rattle.starlark_reader.specs.declared.reader.Reader.{Reader}
+use Rattle.starlark_reader.specs.declared.reader.Stage.TheVariants as stage
+use Rattle.starlark_reader.proofs.TakenPieces.CodePlaces.{bang_at, in_text, word_at, word_cut, word_len}
+use Rattle.starlark_reader.proofs.TakenPieces.Here.{piece_here, shown_own}
+use Rattle.starlark_reader.proofs.TakenPieces.Taken.{none_before, past_ahead, read_ahead, took, took_past}
+use Rattle.starlark_reader.proofs.TakenMargins.Waiting.{HandsPast, hands_none, passes_one}
+
+-- the piece that was read is the step at the reader's offset
+pub piece_read : (text : Text) (history : History) (reader : Reader) (mode : LexerMode) (balanced follows_gap : Bool) (rest : Text) (piece : code.Piece) → rest ≡ drop reader.at text → IsStateAfter text history reader
+    → ((tokens : List Rattle.starlark_grammar.specs.Tokens.Token) → Represents tokens reader.nesting → mode_view mode ≡ mode_after tokens)
+    → ((tokens : List Rattle.starlark_grammar.specs.Tokens.Token) → Represents tokens reader.nesting → balanced ≡ is_balanced tokens)
+    → ((before : pieces.Before) → before_view reader.before ≡ before → IsAfter follows_gap before)
+    → ((s : Situation) → s.mode ≡ mode_view mode → s.is_balanced ≡ balanced → IsAfter follows_gap s.before → IsPiece s.levels rest (step_at language s rest) piece)
+    → IsPiece (open_widths history.widths) (drop reader.at text) (step_here text history reader) piece
+unfolding next_step situation
+piece_read text history reader mode balanced follows_gap rest piece e kept here count gap is =
+    subst (λ (t : Text). IsPiece (open_widths history.widths) t (step_at language (situation history) t) piece) e (is (situation history) (sym (here history.tokens kept.nesting)) (sym (count history.tokens kept.nesting)) (gap history.before kept.before))
+
+-- whether the piece right before is a skipped one
+abbrev is_gap_sort : sort.Before → Bool
+is_gap_sort before.Gap = true
+is_gap_sort sort = false
+
+after_sort : (sort : sort.Before) (before : pieces.Before) → before_view sort ≡ before → IsAfter (is_gap_sort sort) before
+after_sort before.Layout before is = subst (IsAfter false) is refl
+after_sort before.Gap before is = subst (IsAfter true) is refl
+after_sort before.Other before is = subst (IsAfter false) is refl
+
+-- the gap that was read is the step at the reader's offset
+pub gap_read : (text : Text) (history : History) (reader : Reader) (rest : Text) (len : ℕ) → rest ≡ drop reader.at text → IsStateAfter text history reader → IsInCode reader
+    → ((s : Situation) (follows_gap : Bool) → is_code s.mode ≡ true → IsAfter follows_gap s.before → step_at language s rest ≡ pieces.gap len)
+    → step_here text history reader ≡ pieces.gap len
+unfolding next_step situation
+gap_read text history reader rest len e kept code is =
+    subst (λ (t : Text). step_at language (situation history) t ≡ pieces.gap len) e (is (situation history) (is_gap_sort reader.before) (code history.tokens kept.nesting) (after_sort reader.before history.before kept.before))
+
+-- the f-string text without escapes that was read is the step at the reader's offset
+plain_read : (text rest : Text) (history : History) (reader : Reader) (opening : Opening) (found : PlainText) → rest ≡ drop reader.at text → IsStateAfter text history reader → mode_after history.tokens ≡ InText (opening_view opening)
+    → IsPlainText opening rest found → step_here text history reader ≡ text_step found.len (take found.len (drop reader.at text)) found.stop found.stop_len
+unfolding next_step situation
+plain_read text rest history reader opening found e kept mode is =
+    subst (λ (t : Text). step_at language (situation history) t ≡ text_step found.len (take found.len t) found.stop found.stop_len) e
+    (in_text (is_gap_sort reader.before) (situation history) rest (opening_view opening) (after_sort reader.before history.before kept.before) mode ∙ is.stands)
+
+pub plain_here : (text rest : Text) (reader : Reader) (mode : LexerMode) (opening : Opening) (found : Result PlainText ℕ) → rest ≡ drop reader.at text → reader.stage ≡ stage.Onward → IsIdle text reader.pending → mode ≡ modes.InText opening
+    → ((tokens : List Tokens.Token) → Represents tokens reader.nesting → mode_view mode ≡ mode_after tokens) → IfOk found (IsPlainText opening rest) → IfOk found (IsPlainTextHere text reader)
+plain_here text rest reader mode opening (Err run) e on idle in_text here is = tt
+plain_here text rest reader mode opening (Ok found) e on idle in_text here is = record {
+  stage = on;
+  idle = idle;
+  boundary = subst (λ (t : Text). IsCharBoundary t found.len) e is.boundary;
+  stands = λ history kept. plain_read text rest history reader opening found e kept (sym (here history.tokens kept.nesting) ∙ ap mode_view in_text) is;
+}
+
+-- the step of a word at the reader's offset
+pub word_read : (text : Text) (history : History) (reader : Reader) (word : Word) → IsStateAfter text history reader → IsWordHere text reader word
+    → step_here text history reader ≡ pieces.word_step (situation history) word.class (take word.len (drop reader.at text)) (drop word.len (drop reader.at text))
+unfolding next_step situation
+word_read text history reader word kept here =
+    word_at (is_gap_sort reader.before) (situation history) (drop reader.at text) (mode_after history.tokens) word.class word.len (here.code history.tokens kept.nesting) (after_sort reader.before history.before kept.before) refl (sym here.front) here.bang
+
+pub name_here : (text : Text) (history : History) (reader : Reader) (len : ℕ) → IsStateAfter text history reader → IsWordHere text reader (record { class = class.Identifier; len = len }) → step_here text history reader ≡ pieces.token len (Tokens.Identifier (take len (drop reader.at text)))
+name_here text history reader len kept here =
+    word_read text history reader (record { class = class.Identifier; len = len }) kept here ∙ ap (λ n. pieces.token n (Tokens.Identifier (take len (drop reader.at text)))) (word_len (drop reader.at text) class.Identifier len (sym here.front))
+
+pub comment_step : (text : Text) (history : History) (reader : Reader) (len : ℕ) (value : String Global) → IsStateAfter text history reader → IsWordHere text reader (record { class = class.Comment; len = len })
+    → string_bytes value ≡ drop 1 (take len (drop reader.at text)) → IsStep (step_here text history reader) (step.Token (token.Comment value) len)
+unfolding token_view
+comment_step text history reader len value kept here is = (
+  Tokens.Comment (drop 1 (take len (drop reader.at text))),
+  ap (λ t. Whole (Tokens.Comment t)) is,
+  refl,
+  word_read text history reader (record { class = class.Comment; len = len }) kept here ∙ ap (λ n. pieces.token n (Tokens.Comment (drop 1 (take len (drop reader.at text))))) (word_len (drop reader.at text) class.Comment len (sym here.front)),
+)
+
+-- bytes and comments change neither brackets nor f-strings
+pub bytes_changes : (value : Vec ℕ Global) → change_by (token_view (token.Bytes value)) ≡ change.Nothing
+unfolding token_view change_by
+bytes_changes value = refl
+
+pub comment_changes : (value : String Global) → change_by (token_view (token.Comment value)) ≡ change.Nothing
+unfolding token_view change_by
+comment_changes value = refl
+
+-- an integer of one digit changes neither brackets nor f-strings
+pub digit_changes : (found : Token) (digit : ℕ) → token_view found ≡ Whole (Tokens.Int (integer_of 10 ((digit + 48) ∷ []))) → change_by (token_view found) ≡ change.Nothing
+unfolding change_by
+digit_changes found digit view = ap change_by view
+
+-- the step of an integer of one digit
+digit_word : (s : Situation) (digit : ℕ) (word remainder : Text) → word ≡ (digit + 48) ∷ [] → pieces.word_step s class.Decimal word remainder ≡ pieces.token 1 (Tokens.Int (integer_of 10 word))
+digit_word s digit word remainder e = rw e (rw (and_false (digit + 48 == 48)) refl)
+  where
+    and_false : (x : Bool) → (x && false) ≡ false
+    and_false true = refl
+    and_false false = refl
+
+pub digit_step : (text : Text) (history : History) (reader : Reader) (digit : ℕ) (found : Token) → IsStateAfter text history reader → IsWordHere text reader (record { class = class.Decimal; len = 1 })
+    → IsDigitAt digit (drop reader.at text) → token_view found ≡ Whole (Tokens.Int (integer_of 10 ((digit + 48) ∷ []))) → IsStep (step_here text history reader) (step.Token found 1)
+digit_step text history reader digit found kept here at view = (
+  Tokens.Int (integer_of 10 (take 1 (drop reader.at text))),
+  view ∙ ap (λ t. Whole (Tokens.Int (integer_of 10 t))) (sym at.1),
+  refl,
+  word_read text history reader (record { class = class.Decimal; len = 1 }) kept here ∙ digit_word (situation history) digit (take 1 (drop reader.at text)) (drop 1 (drop reader.at text)) at.1,
+)
+
+-- a bang at the reader's offset, by its mode and the piece before
+pub bang_read : (text : Text) (history : History) (reader : Reader) (mode : LexerMode) (follows_gap : Bool) (rest : Text) → rest ≡ drop reader.at text → IsStateAfter text history reader → IsInCode reader
+    → ((tokens : List Tokens.Token) → Represents tokens reader.nesting → mode_view mode ≡ mode_after tokens)
+    → ((before : pieces.Before) → before_view reader.before ≡ before → IsAfter follows_gap before)
+    → ((before : pieces.Before) → IsAfter follows_gap before → true ≡ (pieces.takes_bang (mode_view mode) before && pieces.is_bang rest))
+    → step_here text history reader ≡ pieces.token 1 Tokens.FStringBang
+unfolding next_step situation
+bang_read text history reader mode follows_gap rest e kept code here gap bang =
+    let remainder = gap history.before kept.before in
+    let at = here history.tokens kept.nesting in
+    subst (λ (t : Text). step_at language (situation history) t ≡ pieces.token 1 Tokens.FStringBang) e
+    (bang_at follows_gap (situation history) rest (mode_view mode) (ap is_code at ∙ code history.tokens kept.nesting) remainder (sym at) (sym (bang history.before remainder)))
+
+pub bang_step : (text : Text) (history : History) (reader : Reader) → IsStateAfter text history reader → IsBangHere text reader → IsStep (step_here text history reader) (step.Token token.FStringBang 1)
+unfolding token_view
+bang_step text history reader kept here = (Tokens.FStringBang, refl, refl, here.stands history kept)
+
+pub bang_changes : change_by (token_view token.FStringBang) ≡ change.Nothing
+unfolding change_by token_view
+bang_changes = refl
+
+-- a literal without escapes that one quote closes
+plain_opener : (mode : Mode) (kind : LiteralKind) (is_raw : Bool) (quote : Quote) (begin count : ℕ) (remainder : Text) → kind ≢ OfFString → IsPlainBody kind is_raw quote remainder count
+    → pieces.opener mode kind (pieces.opening_of is_raw quote remainder) begin remainder ≡ pieces.token (begin + count + 1) (pieces.literal_token kind (take count remainder))
+plain_opener mode kind is_raw quote begin count remainder other plain =
+    opener_plain mode kind (pieces.opening_of is_raw quote remainder) begin remainder other plain.single ∙ ap (λ opening. pieces.literal mode kind opening begin remainder) same ∙ closed
+  where
+    single : Tokens.Opening
+    single = record { is_raw = is_raw; quote = quote; is_triple = false }
+
+    same : pieces.opening_of is_raw quote remainder ≡ single
+    same = ap (λ (triple : Bool). record { is_raw = is_raw; quote = quote; is_triple = triple }) plain.single
+
+    closed : pieces.literal mode kind single begin remainder ≡ pieces.token (begin + count + 1) (pieces.literal_token kind (take count remainder))
+    closed = rw (plain.stop, plain.len, plain.value) refl
+
+plain_front : (text : Text) (history : History) (reader : Reader) (kind : LiteralKind) (is_raw : Bool) (quote : Quote) (len count : ℕ) → kind ≢ OfFString → IsStateAfter text history reader
+    → IsWordHere text reader (record { class = class.Opener kind is_raw quote; len = len }) → IsPlainBody kind is_raw quote (drop len (drop reader.at text)) count
+    → step_here text history reader ≡ pieces.token (len + count + 1) (pieces.literal_token kind (take count (drop len (drop reader.at text))))
+unfolding situation
+plain_front text history reader kind is_raw quote len count other kept here plain =
+    word_read text history reader (record { class = class.Opener kind is_raw quote; len = len }) kept here
+    ∙ ap (λ n. pieces.opener (mode_after history.tokens) kind (pieces.opening_of is_raw quote (drop len (drop reader.at text))) n (drop len (drop reader.at text))) (word_len (drop reader.at text) (class.Opener kind is_raw quote) len (sym here.front))
+    ∙ plain_opener (mode_after history.tokens) kind is_raw quote len count (drop len (drop reader.at text)) other plain
+
+pub text_here : (text : Text) (history : History) (reader : Reader) (is_raw : Bool) (quote : Quote) (len count : ℕ) → IsStateAfter text history reader
+    → IsWordHere text reader (record { class = class.Opener OfText is_raw quote; len = len }) → IsPlainBody OfText is_raw quote (drop len (drop reader.at text)) count
+    → step_here text history reader ≡ pieces.token (len + count + 1) (Tokens.String (take count (drop len (drop reader.at text))))
+text_here text history reader is_raw quote len count kept here plain = plain_front text history reader OfText is_raw quote len count (λ e. cc) kept here plain
+
+pub bytes_step : (text : Text) (history : History) (reader : Reader) (quote : Quote) (count : ℕ) (value : Vec ℕ Global) → IsStateAfter text history reader
+    → IsWordHere text reader (record { class = class.Opener OfBytes false quote; len = 2 }) → IsPlainBody OfBytes false quote (drop 2 (drop reader.at text)) count
+    → value.items ≡ take count (drop 2 (drop reader.at text)) → IsStep (step_here text history reader) (step.Token (token.Bytes value) (2 + count + 1))
+unfolding token_view situation
+bytes_step text history reader quote count value kept here plain is = (
+  Tokens.Bytes (take count (drop 2 (drop reader.at text))),
+  ap (λ t. Whole (Tokens.Bytes t)) is,
+  refl,
+  plain_front text history reader OfBytes false quote 2 count (λ e. cc) kept here plain,
+)
+
+pub terminal_step : (text : Text) (history : History) (reader : Reader) (terminal : Terminal) (len : ℕ) (found : Token) → IsStateAfter text history reader → IsWordHere text reader (record { class = class.Fixed terminal; len = len })
+    → ((before : List Tokens.Token) → Represents before reader.nesting → token_view found ≡ Whole (pieces.terminal_token (mode_after before) terminal))
+    → ((before : List Tokens.Token) → Represents before reader.nesting → is_fstring_start (pieces.terminal_token (mode_after before) terminal) ≡ false)
+    → IsStep (step_here text history reader) (step.Token found len)
+unfolding situation
+terminal_step text history reader terminal len found kept here view own = (
+  pieces.terminal_token (mode_after history.tokens) terminal,
+  view history.tokens kept.nesting,
+  own history.tokens kept.nesting,
+  word_read text history reader (record { class = class.Fixed terminal; len = len }) kept here
+      ∙ ap (λ n. pieces.token n (pieces.terminal_token (mode_after history.tokens) terminal)) (word_len (drop reader.at text) (class.Fixed terminal) len (sym here.front)),
+)
+
+-- the step of an f-string's start, from its opener and the text after that
+pub fstring_step : (text : Text) (history : History) (reader : Reader) (quote : Quote) (opening : Tokens.Opening) (len : ℕ) → IsStateAfter text history reader → IsWordHere text reader (record { class = class.Opener OfFString false quote; len = 2 })
+    → opening ≡ pieces.opening_of false quote (drop 2 (drop reader.at text)) → len ≡ 2 + pieces.more_quotes opening
+    → step_here text history reader ≡ pieces.token len (Tokens.FStringStart opening)
+unfolding situation
+fstring_step text history reader quote opening len kept here is whole =
+    word_read text history reader (record { class = class.Opener OfFString false quote; len = 2 }) kept here
+    ∙ ap (λ n. pieces.opener (mode_after history.tokens) OfFString (pieces.opening_of false quote (drop 2 (drop reader.at text))) n (drop 2 (drop reader.at text))) (word_len (drop reader.at text) (class.Opener OfFString false quote) 2 (sym here.front))
+    ∙ ap (λ o. pieces.token (2 + pieces.more_quotes o) (Tokens.FStringStart o)) (sym is) ∙ ap (λ n. pieces.token n (Tokens.FStringStart opening)) (sym whole)
+
+-- the step of a newline at the reader's offset, which counts or doesn't
+pub line_end_step : (text : Text) (history : History) (reader : Reader) (len : ℕ) → IsStateAfter text history reader → IsWordHere text reader (record { class = class.LineEnd; len = len })
+    → step_here text history reader ≡ (if pieces.counts (mode_after history.tokens) (is_balanced history.tokens) then pieces.line_end len (open_widths history.widths) (drop len (drop reader.at text)) else pieces.piece len [])
+unfolding situation
+line_end_step text history reader len kept here =
+    word_read text history reader (record { class = class.LineEnd; len = len }) kept here
+    ∙ ap (λ n. if pieces.counts (mode_after history.tokens) (is_balanced history.tokens) then pieces.line_end n (open_widths history.widths) (drop len (drop reader.at text)) else pieces.piece n []) (word_len (drop reader.at text) class.LineEnd len (sym here.front))
+
+-- a newline that doesn't count yields no lexeme
+pub silent_line_end : (text : Text) (history : History) (reader : Reader) (len : ℕ) (mode : LexerMode) (balanced : Bool) → IsStateAfter text history reader → IsWordHere text reader (record { class = class.LineEnd; len = len })
+    → ((before : List Tokens.Token) → Represents before reader.nesting → mode_view mode ≡ mode_after before)
+    → ((before : List Tokens.Token) → Represents before reader.nesting → balanced ≡ is_balanced before)
+    → pieces.counts (mode_view mode) balanced ≡ false → step_here text history reader ≡ nothing_of len false
+silent_line_end text history reader len mode balanced kept here at count silent =
+    line_end_step text history reader len kept here
+    ∙ ap (λ (b : Bool). if b then pieces.line_end len (open_widths history.widths) (drop len (drop reader.at text)) else pieces.piece len [])
+    (ap (λ m. pieces.counts m (is_balanced history.tokens)) (sym (at history.tokens kept.nesting)) ∙ ap (pieces.counts (mode_view mode)) (sym (count history.tokens kept.nesting)) ∙ silent)
+
+-- a newline that counts takes its margin with it
+pub counting_line_end : (text : Text) (history : History) (reader : Reader) (len : ℕ) → IsStateAfter text history reader → IsWordHere text reader (record { class = class.LineEnd; len = len })
+    → ((before : List Tokens.Token) → Represents before reader.nesting → pieces.counts (mode_after before) (is_balanced before) ≡ true)
+    → step_here text history reader ≡ pieces.line_end len (open_widths history.widths) (drop len (drop reader.at text))
+counting_line_end text history reader len kept here counts =
+    line_end_step text history reader len kept here
+    ∙ ap (λ (b : Bool). if b then pieces.line_end len (open_widths history.widths) (drop len (drop reader.at text)) else pieces.piece len []) (counts history.tokens kept.nesting)
+
+-- what is left after the reader's offset
+pub left_onward : (text : Text) (reader : Reader) (lexemes : List (Spanned TokenView)) (fault : Option (Spanned Fault)) → reader.stage ≡ stage.Onward → IsAhead text reader reader.stage lexemes fault → IsAhead text reader stage.Onward lexemes fault
+left_onward text reader lexemes fault on ahead = subst (λ (s : Stage). IsAhead text reader s lexemes fault) on ahead
+
+-- what is ahead once one lexeme was passed here, whatever the history
+pub onward_past : (text : Text) (old : Reader) (lexeme : Spanned TokenView) (new : Reader) (lexemes : List (Spanned TokenView)) (fault : Option (Spanned Fault)) → ((history : History) → IsStateAfter text history old → IsReadPast text (left_here text history old) (lexeme ∷ []) new)
+    → IsIdle text old.pending → IsAhead text old stage.Onward lexemes fault → IsAheadPast text lexeme new lexemes fault
+onward_past text old lexeme new lexemes fault read idle ahead =
+    let history = ahead.is_left.0 in
+    let both = none_before text old stage.Onward lexemes fault (left_here text history old) idle ahead ahead.is_left.2 in
+    past_ahead text (left_here text history old) lexeme new lexemes fault (read history ahead.is_left.1) both.0 both.1
+
+-- what is ahead is still ahead after the piece here is read, whatever the history
+pub onward_ahead : (text : Text) (old : Reader) (given : Option (ℕ × Token × ℕ)) (new : Reader) (lexemes : List (Spanned TokenView)) (fault : Option (Spanned Fault)) → ((history : History) → IsStateAfter text history old → IsRead text (left_here text history old) given new)
+    → IsIdle text old.pending → IsAhead text old stage.Onward lexemes fault → IsAheadAfter text given new lexemes fault
+onward_ahead text old given new lexemes fault read idle ahead =
+    let history = ahead.is_left.0 in
+    let both = none_before text old stage.Onward lexemes fault (left_here text history old) idle ahead ahead.is_left.2 in
+    read_ahead text (left_here text history old) given new lexemes fault (read history ahead.is_left.1) both.0 both.1
+
+abbrev pub nothing_piece : ℕ → Bool → Piece
+nothing_piece len true = record { len = len; lexemes = []; width = None; sort = pieces.Gap }
+nothing_piece len false = record { len = len; lexemes = []; width = None; sort = pieces.Other }
+
+pub nothing_stands : (len : ℕ) (is_gap : Bool) → nothing_of len is_gap ≡ Stands (nothing_piece len is_gap)
+nothing_stands len true = refl
+nothing_stands len false = refl
+
+nothing_len : (len : ℕ) (is_gap : Bool) → (nothing_piece len is_gap).len ≡ len
+nothing_len len true = refl
+nothing_len len false = refl
+
+-- a piece without lexemes is not empty, and is in the text
+pub nothing_here : (text : Text) (history : History) (reader : Reader) (len : ℕ) (is_gap : Bool) → IsStateAfter text history reader → step_here text history reader ≡ nothing_of len is_gap → (1 ≤ len) × (reader.at + len ≤ length text)
+nothing_here text history reader len is_gap kept stands =
+    let here = piece_here text history reader (nothing_piece len is_gap) kept (stands ∙ nothing_stands len is_gap) in
+    let same = nothing_len len is_gap in
+    (omega (arith, here.0, same), omega (arith, here.1, same))
+
+-- a piece without lexemes changes only the offset and the kind of the piece before it
+pub nothing_taken : (text : Text) (history : History) (old new : Reader) (len : ℕ) (is_gap : Bool) → IsUtf8 text → IsStateAfter text history old → step_here text history old ≡ nothing_of len is_gap → IsIdle text old.pending
+    → new ≡ record old { at = old.at + len; before = silent_sort is_gap; stage = stage.Onward } → IsRead text (left_here text history old) None new
+nothing_taken text history old new len true utf8 kept stands idle is =
+    let here = piece_here text history old (nothing_piece len true) kept stands in
+    rw is (took text history old None _ (nothing_piece len true) utf8 kept stands refl kept.nesting (kept.levels ∙ ap open_widths (sym (append-nil history.widths))) refl refl (omega (arith, kept.few, here.0)) refl (hands_none text old.pending idle))
+nothing_taken text history old new len false utf8 kept stands idle is =
+    let here = piece_here text history old (nothing_piece len false) kept stands in
+    rw is (took text history old None _ (nothing_piece len false) utf8 kept stands refl kept.nesting (kept.levels ∙ ap open_widths (sym (append-nil history.widths))) refl refl (omega (arith, kept.few, here.0)) refl (hands_none text old.pending idle))
+
+-- a token that changes neither brackets nor f-strings
+abbrev pub one_token : ℕ → Tokens.Token → Piece
+one_token len node = record { len = len; lexemes = record { begin = 0; node = node; end = len } ∷ []; width = None; sort = pieces.Other }
+
+pub token_inside : (text : Text) (history : History) (reader : Reader) (len : ℕ) (node : Tokens.Token) → IsStateAfter text history reader → step_here text history reader ≡ pieces.token len node → (1 ≤ len) × (reader.at + len ≤ length text)
+token_inside text history reader len node kept stands = piece_here text history reader (one_token len node) kept stands
+
+pub token_passed : (text : Text) (history : History) (old new : Reader) (len : ℕ) (node : Tokens.Token) → IsUtf8 text → IsStateAfter text history old → step_here text history old ≡ pieces.token len node → IsIdle text old.pending → is_fstring_start node ≡ false
+    → keeps node ≡ true → change_by (Whole node) ≡ change.Nothing → new ≡ record old { at = old.at + len; before = before.Other; stage = stage.Onward } → IsReadPast text (left_here text history old) (record { begin = old.at; node = Whole node; end = old.at + len } ∷ []) new
+token_passed text history old new len node utf8 kept stands idle own keeps none is =
+    let here = piece_here text history old (one_token len node) kept stands in
+    let start : old.at + 0 ≡ old.at = omega arith in
+    let shown : shown_lexeme (moved old.at (record { begin = 0; node = node; end = len })) ≡ record { begin = old.at; node = Whole node; end = old.at + len } = rw (start, shown_own node own) refl in
+    rw is (took_past text history old (record { begin = old.at; node = Whole node; end = old.at + len } ∷ []) _ (one_token len node) utf8 kept stands refl
+    (one_kept node history.tokens old.nesting keeps none kept.nesting)
+    (kept.levels ∙ ap open_widths (sym (append-nil history.widths))) refl refl (omega (arith, kept.few, here.0)) refl
+    (subst (λ (view : Spanned TokenView). HandsPast text (view ∷ []) old.pending (moved old.at (record { begin = 0; node = node; end = len }) ∷ [])) shown (passes_one text old.pending (moved old.at (record { begin = 0; node = node; end = len })) idle)))
+
+-- names and texts change neither brackets nor f-strings
+pub name_changes : (name : Text) → change_by (Whole (Tokens.Identifier name)) ≡ change.Nothing
+unfolding change_by
+name_changes name = refl
+
+pub text_changes : (value : Text) → change_by (Whole (Tokens.String value)) ≡ change.Nothing
+unfolding change_by
+text_changes value = refl
+
+-- the token of a keyword or symbol, in any mode
+pub terminal_shown : (mode : Mode) (terminal : Terminal) (view : TokenView) → view ≡ Whole (pieces.terminal_token mode terminal) → IsTokenOf terminal view
+terminal_shown AtTop terminals.ClosingCurly view is = rw is refl
+terminal_shown mode terminal view is = rw is refl
+
+-- a word at the reader's offset ends at a character boundary
+pub word_boundary : (text : Text) (reader : Reader) (word : Word) → IsUtf8 text → IsReady text reader reader.stage → IsWordHere text reader word → IsCharBoundary text (reader.at + word.len)
+word_boundary text reader word utf8 ready here =
+    let left = (left_onward text reader ready.0 ready.1 here.stage ready.2).is_left in
+    boundary_shift text reader.at word.len left.1.boundary (word_cut (drop reader.at text) word.class word.len (IsUtf8-drop text reader.at utf8 left.1.boundary) (sym here.front))

@@ -1,0 +1,509 @@
+-- A reader before and after a piece.
+use Rattle.std.proofs.Common.{◌≡◌, ℕ, zero, suc, ◌+◌, ◌≤◌, ◌<◌, Bool, true, false, not, List, [], ◌∷◌, ◌++◌, length, drop, take, map, refl, ap, ◌∙◌, sym, subst, Option, Some, None, arith, append-nil, length-append, nat_lt}
+use Rattle.std.specs.Prelude.{⊤, ◌==◌, ◌&&◌, if◌then◌else◌, count_by, option_to_list, replicate, sum_by}
+use Rattle.std.specs.List.{AllByRecursion}
+use Rattle.std.specs.Str.{IsCharBoundary, IsUtf8}
+use Rattle.std.proofs.lemmas.Bool.{and_parts, eqb-true}
+use Rattle.std.proofs.lemmas.List.Sums.{sum_by-cons}
+use Rattle.std.proofs.lemmas.List.{length-drop, length-map, map-append}
+use Rattle.std.proofs.lemmas.Str.{IsCharBoundary-start, IsUtf8-drop}
+use Rattle.starlark_grammar.specs.Words.{Text, language}
+use Rattle.starlark_grammar.specs.Tokens.{Lexeme, Outcome, Spanned, moved}
+use Rattle.starlark_grammar.specs.Tokens as grammar
+use Rattle.starlark_grammar.specs.Margins.{Margin, comment_lines, comments_from, fits, has_tab, indentation, is_content, is_widest, margin_len, margin_of, open_widths, width_of}
+use Rattle.starlark_grammar.specs.Pieces.{Ends, Fails, Layout, Piece, Stands, first_margin, line_end, margin_step}
+use Rattle.starlark_grammar.specs.Cuts.{is_layout}
+use Rattle.starlark_grammar.specs.Reading.{History, after, after_all, closing, next_step, pieces_len, nothing, outcome, tokens_onto}
+use Rattle.starlark_grammar.specs.Longest.{IsReading}
+use Rattle.starlark_token.specs.Lexemes.{fault_view, lexeme_view, shown_lexeme}
+use Rattle.starlark_reader.specs.Inner.MarginViews.{IsRefused, IsTaken}
+use Rattle.starlark_reader.specs.Inner.Pending.{IsIdle, IsPending, lines_between, pending_lexemes}
+use Rattle.starlark_reader.specs.Inner.Nesting.{Represents, bracket_count, change_by}
+use Rattle.starlark_reader.specs.Inner.MarginCuts.{IsAfterLines, IsCutBefore}
+use Rattle.starlark_reader.specs.Inner.MarginLines.{IsOfMargin}
+use Rattle.starlark_reader.specs.Inner.Reader.{begins_with_tab, has_read_none, IsAhead, IsAheadAfter, IsAheadPast, IsCutAhead, HoldsCuts, IsInFlatMargin, IsReached, IsReadTo, IsStateAfter, IsLeft, IsRead, IsReadPast, before_view, history_from, history_of, left_here, left_to_read, remaining_outcome, step_here}
+use Rattle.starlark_token.specs.TokenViews.{TokenView, Whole, token_view}
+use Rattle.starlark_token.specs.declared.lexeme_error.LexemeError.{LexemeError}
+use Rattle.starlark_reader.specs.declared.nesting.Nesting.{Nesting}
+use Rattle.starlark_reader.specs.declared.changes.NestingChange.TheVariants as change
+use Rattle.starlark_reader.specs.declared.reader.Before.TheVariants as sort
+use Rattle.starlark_reader.specs.declared.reader.Reader.{Reader}
+use Rattle.starlark_reader.specs.declared.reader.Stage.{Stage}
+use Rattle.starlark_reader.specs.declared.reader.Stage.TheVariants as stage
+use Rattle.starlark_reader.specs.declared.pending.Pending.{Pending}
+use Rattle.starlark_token.specs.declared.tokens.Token.{Token}
+use Rattle.starlark_grammar.proofs.Order.WholeTexts.{piece_bounded}
+use Rattle.starlark_reader.proofs.TakenMargins.CommentLines.{margin_comments}
+use Rattle.starlark_grammar.proofs.Order.Edges.{boundary_shift}
+use Rattle.starlark_grammar.proofs.Lists.{drop-sum}
+use Rattle.starlark_reader.proofs.TakenPieces.Here.{IsHere, after_some, kept_here}
+use Rattle.starlark_reader.proofs.TakenPieces.Onward.{GoesOn, first_fails, first_stands, history_ends, history_first, history_onward, margin_first, onward_ends, onward_fails, onward_stands}
+use Rattle.starlark_grammar.proofs.Reading.Readings.{one_least, piece_fits, started}
+use Rattle.starlark_grammar.proofs.Joining.Tabs.{margin_tab, tab, tab_of}
+use Rattle.starlark_reader.proofs.OpenBrackets.OpenFStrings.{keeps, one_kept}
+use Rattle.starlark_grammar.proofs.Reading.Steps.{Each, is_nothing}
+use Rattle.starlark_grammar.proofs.Choices.{either}
+use Rattle.starlark_reader.proofs.TakenPieces.MarginCuts.{cut_of_piece, first_ahead_cut, first_cut, line_ahead_cut, line_cut, none_at_end, none_at_fault, read_first, read_more}
+use Rattle.starlark_grammar.proofs.Joining.KeptPlaces.{IsInMargin}
+use Rattle.starlark_grammar.proofs.Joining.LaidCuts.{AfterComments, First, MarginAt, line_laid}
+use Rattle.starlark_reader.proofs.TakenMargins.Waiting.{Hands, HandsPast, hands_first, hands_later}
+
+-- a state is always after the first margin of the text
+begun : (text : Text) (history : History) (reader : Reader) → IsStateAfter text history reader → is_nothing history.before ≡ false
+begun text history reader kept = (after_some reader.before history.before kept.before).0
+
+-- Layout
+
+-- whether a token changes neither brackets nor f-strings: one of layout, or an f-string text
+abbrev pub is_quiet : grammar.Token → Bool
+is_quiet (grammar.FStringText value) = true
+is_quiet grammar.Newline = true
+is_quiet (grammar.Comment text) = true
+is_quiet grammar.Indent = true
+is_quiet grammar.Dedent = true
+is_quiet node = false
+
+abbrev pub AllQuiet : List Lexeme → Type 0
+AllQuiet lexemes = AllByRecursion (λ (lexeme : Lexeme). is_quiet lexeme.node ≡ true) lexemes
+
+quiet_changes : (node : grammar.Token) → is_quiet node ≡ true → change_by (Whole node) ≡ change.Nothing
+unfolding change_by
+quiet_changes (grammar.FStringText value) h = refl
+quiet_changes grammar.Newline h = refl
+quiet_changes (grammar.Comment text) h = refl
+quiet_changes grammar.Indent h = refl
+quiet_changes grammar.Dedent h = refl
+quiet_changes node h = cc
+
+quiet_keeps : (node : grammar.Token) → is_quiet node ≡ true → keeps node ≡ true
+quiet_keeps (grammar.FStringText value) h = refl
+quiet_keeps grammar.Newline h = refl
+quiet_keeps (grammar.Comment text) h = refl
+quiet_keeps grammar.Indent h = refl
+quiet_keeps grammar.Dedent h = refl
+quiet_keeps node h = cc
+
+-- tokens of layout and f-string texts leave brackets and f-strings unchanged
+pub quiet_kept : (lexemes : List Lexeme) (tokens : List grammar.Token) (nesting : Nesting) → AllQuiet lexemes → Represents tokens nesting → Represents (tokens_onto tokens lexemes) nesting
+quiet_kept [] tokens nesting h same = same
+quiet_kept (lexeme ∷ lexemes) tokens nesting h same = quiet_kept lexemes (lexeme.node ∷ tokens) nesting h.1 (one_kept lexeme.node tokens nesting (quiet_keeps lexeme.node h.0) (quiet_changes lexeme.node h.0) same)
+
+quiet_both : (one other : List Lexeme) → AllQuiet one → AllQuiet other → AllQuiet (one ++ other)
+quiet_both [] other h k = k
+quiet_both (lexeme ∷ one) other h k = (h.0, quiet_both one other h.1 k)
+
+quiet_moved : (n : ℕ) (lexemes : List Lexeme) → AllQuiet lexemes → AllQuiet (map (moved n) lexemes)
+quiet_moved n [] h = tt
+quiet_moved n (lexeme ∷ lexemes) h = (h.0, quiet_moved n lexemes h.1)
+
+dedents_quiet : (at count : ℕ) → AllQuiet (replicate count (record { begin = at; node = grammar.Dedent; end = at }))
+dedents_quiet at zero = tt
+dedents_quiet at (suc count) = (refl, dedents_quiet at count)
+
+comments_quiet : (at : ℕ) (lines : List Text) → AllQuiet (comments_from at lines)
+comments_quiet at [] = tt
+comments_quiet at (line ∷ more) = (refl, comments_quiet (at + length line) more)
+
+indentation_is_quiet : (levels : List ℕ) (margin : Margin) → AllQuiet (indentation levels margin)
+unfolding indentation
+indentation_is_quiet levels margin = go (nat_lt 0 (width_of margin) && is_widest (width_of margin) levels)
+  where
+    go : (opens : Bool) → AllQuiet (if opens then record { begin = margin.at; node = grammar.Indent; end = margin_len margin } ∷ [] else replicate (count_by (nat_lt (width_of margin)) levels) (record { begin = margin.at; node = grammar.Dedent; end = margin.at }))
+    go true = (refl, tt)
+    go false = dedents_quiet margin.at (count_by (nat_lt (width_of margin)) levels)
+
+-- a margin with or without a newline before it: tokens of layout alone
+pub record IsLayout (piece : Piece) : Type 0 where
+  pub tokens : AllQuiet piece.lexemes
+  pub sort : piece.sort ≡ Layout
+
+margin_is_quiet : (len : ℕ) (line : List Lexeme) (levels : List ℕ) (text : Text) → AllQuiet line → Each IsLayout (λ fault. ⊤) (margin_step len line levels (margin_of text))
+unfolding margin_step
+margin_is_quiet len line levels text h =
+    either (Each IsLayout (λ fault. ⊤)) (not (is_content (margin_of text).remainder)) _ _ (record { tokens = all [] tt; sort = refl })
+    (either (Each IsLayout (λ fault. ⊤)) (has_tab (margin_of text)) _ _ tt
+    (either (Each IsLayout (λ fault. ⊤)) (fits (width_of (margin_of text)) levels) _ _ (record { tokens = all (indentation levels (margin_of text)) (indentation_is_quiet levels (margin_of text)); sort = refl }) tt))
+  where
+    comments : AllQuiet (margin_of text).comments
+    comments = subst AllQuiet (sym (margin_comments text)) (comments_quiet 0 (comment_lines text))
+
+    all : (more : List Lexeme) → AllQuiet more → AllQuiet (line ++ map (moved len) ((margin_of text).comments ++ more))
+    all more k = quiet_both line (map (moved len) ((margin_of text).comments ++ more)) h (quiet_moved len ((margin_of text).comments ++ more) (quiet_both (margin_of text).comments more comments k))
+
+pub line_is_quiet : (len : ℕ) (levels : List ℕ) (remainder : Text) (piece : Piece) → line_end len levels remainder ≡ Stands piece → IsLayout piece
+line_is_quiet len levels remainder piece e = subst (Each IsLayout (λ fault. ⊤)) e (margin_is_quiet len (record { begin = 0; node = grammar.Newline; end = len } ∷ []) levels remainder (refl, tt))
+
+pub first_is_quiet : (text : Text) (piece : Piece) → first_margin text ≡ Stands piece → IsLayout piece
+first_is_quiet text piece e = subst (Each IsLayout (λ fault. ⊤)) e (margin_is_quiet 0 [] [] text tt)
+
+-- A piece
+
+-- the state after one more piece
+kept_after : (text : Text) (history : History) (at : ℕ) (new : Reader) (piece : Piece) → IsUtf8 text → IsCharBoundary text at → next_step language history (drop at text) ≡ Stands piece
+    → Represents (tokens_onto history.tokens piece.lexemes) new.nesting → new.levels ≡ open_widths (history.widths ++ option_to_list piece.width) → before_view new.before ≡ piece.sort → new.at ≡ at + piece.len → bracket_count new.nesting ≤ new.at
+    → history_from (after history piece) (drop piece.len (drop at text)) ≡ history_of text → IsReadTo text (after history piece) new.at → IsStateAfter text (after history piece) new
+unfolding after
+kept_after text history at new piece utf8 here stands nesting levels before is_at few onward read =
+    let found = piece_bounded history (drop at text) piece (IsUtf8-drop text at utf8 here) stands in
+    let end : IsCharBoundary text (at + piece.len) = boundary_shift text at piece.len here found.1 in
+    let last : at + piece.len ≤ length text = end.0 in
+    record {
+      nesting = nesting;
+      levels = levels;
+      before = before;
+      inside = omega (arith, last, is_at);
+      boundary = subst (IsCharBoundary text) (sym is_at) end;
+      few = few;
+      onward = ap (history_from (after history piece)) (ap (λ n. drop n text) is_at ∙ drop-sum at piece.len text) ∙ onward;
+      read = read;
+    }
+
+-- the cuts after a piece that was read: whether its offset is one, and where each is
+pub record AreCutsBehind (text : Text) (history : History) (at : ℕ) (piece : Piece) (new : Reader) : Type 0 where
+  pub cut : IsCutAhead text new stage.Onward (length (pending_lexemes text new.pending) + length (remaining_outcome (after history piece) (at + piece.len) (drop piece.len (drop at text))).lexemes)
+  pub cuts : HoldsCuts text new stage.Onward (length (remaining_outcome (after history piece) (at + piece.len) (drop piece.len (drop at text))).lexemes) (length piece.lexemes + length (remaining_outcome (after history piece) (at + piece.len) (drop piece.len (drop at text))).lexemes)
+      (length (pending_lexemes text new.pending) + length (remaining_outcome (after history piece) (at + piece.len) (drop piece.len (drop at text))).lexemes)
+
+-- a piece was read, and the rest is left after it
+read_piece : (text : Text) (whole : Outcome) (history : History) (at : ℕ) (given : List (Spanned TokenView)) (new : Reader) (piece : Piece) → GoesOn at piece whole (remaining_outcome (after history piece) (at + piece.len) (drop piece.len (drop at text)))
+    → IsStateAfter text (after history piece) new → new.at ≡ at + piece.len → new.stage ≡ stage.Onward → HandsPast text given new.pending (map (moved at) piece.lexemes) → AreCutsBehind text history at piece new → IsReadPast text whole given new
+read_piece text whole history at given new piece goes kept is_at is_onward hands cuts =
+    let remainder : drop piece.len (drop at text) ≡ drop new.at text = sym (drop-sum at piece.len text) ∙ ap (λ n. drop n text) (sym is_at) in
+    let rest = remaining_outcome (after history piece) (at + piece.len) (drop piece.len (drop at text)) in
+    let left : rest ≡ remaining_outcome (after history piece) new.at (drop new.at text) = ap (λ n. remaining_outcome (after history piece) n (drop piece.len (drop at text))) (sym is_at) ∙ ap (remaining_outcome (after history piece) new.at) remainder in
+    record {
+      lexemes = map (moved at) piece.lexemes;
+      left = rest;
+      is_left = subst (λ now. IsLeft text new now rest) (sym is_onward) (after history piece, kept, left);
+      parts = goes.lexemes;
+      fault = goes.fault;
+      is_pending = hands.0;
+      yielded_count = hands.1;
+      cut = subst (λ now. IsCutAhead text new now (length (pending_lexemes text new.pending) + length rest.lexemes)) (sym is_onward) cuts.cut;
+      cuts = subst (λ now. HoldsCuts text new now (length rest.lexemes) (length (map (moved at) piece.lexemes) + length rest.lexemes) (length (pending_lexemes text new.pending) + length rest.lexemes)) (sym is_onward)
+          (subst (λ n. HoldsCuts text new stage.Onward (length rest.lexemes) (n + length rest.lexemes) (length (pending_lexemes text new.pending) + length rest.lexemes)) (sym (length-map piece.lexemes (moved at))) cuts.cuts);
+    }
+
+took_by : (text : Text) (history : History) (old : Reader) (given : List (Spanned TokenView)) (new : Reader) (piece : Piece) → IsUtf8 text → IsStateAfter text history old → step_here text history old ≡ Stands piece → AreCutsBehind text history old.at piece new
+    → Represents (tokens_onto history.tokens piece.lexemes) new.nesting → new.levels ≡ open_widths (history.widths ++ option_to_list piece.width) → before_view new.before ≡ piece.sort → new.at ≡ old.at + piece.len → bracket_count new.nesting ≤ new.at
+    → new.stage ≡ stage.Onward → HandsPast text given new.pending (map (moved old.at) piece.lexemes) → IsReadPast text (left_here text history old) given new
+took_by text history old given new piece utf8 kept stands cuts nesting levels before is_at few is_onward hands =
+    read_piece text (left_here text history old) history old.at given new piece (onward_stands history old.at (drop old.at text) piece (begun text history old kept) stands)
+    (kept_after text history old.at new piece utf8 kept.boundary stands nesting levels before is_at few (sym (history_onward history (drop old.at text) piece (begun text history old kept) stands) ∙ kept.onward) (read_more text history old.at new.at piece kept.read stands is_at)) is_at is_onward hands cuts
+
+-- no cut is in a piece that is no margin
+no_cut_in : (text : Text) (history : History) (at : ℕ) (piece : Piece) (read : IsReadTo text history at) → is_nothing history.before ≡ false → next_step language history (drop at text) ≡ Stands piece → is_layout piece.sort ≡ false
+    → (x : ℕ) → IsInMargin text x read.pieces → ⊥
+no_cut_in text history at piece read begun stands other x found = by found.n found.margin
+  where
+    by : (n : ℕ) → MarginAt text read.pieces n → ⊥
+    by n (First none zero_len) = let both : true ≡ false = ap (λ (ps : List Piece). is_nothing (after_all nothing ps).before) (sym none) ∙ ap (λ (h : History). is_nothing h.before) read.is_history ∙ begun in cc
+    by n (AfterComments started counted front) =
+        let here = ap (λ (h : History). next_step language h (drop (pieces_len read.pieces) text)) read.is_history ∙ ap (λ n. next_step language history (drop n text)) read.reach ∙ stands in
+        let line = (line_laid (after_all nothing read.pieces) (drop (pieces_len read.pieces) text) n started counted front).step in
+        let layout = line_is_quiet n (open_widths (after_all nothing read.pieces).widths) (drop n (drop (pieces_len read.pieces) text)) piece (sym line ∙ here) in
+        let both : true ≡ false = sym (ap is_layout layout.sort) ∙ other in
+        cc
+
+-- a piece that is no margin
+pub took_past : (text : Text) (history : History) (old : Reader) (passed : List (Spanned TokenView)) (new : Reader) (piece : Piece) → IsUtf8 text → IsStateAfter text history old → step_here text history old ≡ Stands piece → is_layout piece.sort ≡ false
+    → Represents (tokens_onto history.tokens piece.lexemes) new.nesting → new.levels ≡ open_widths (history.widths ++ option_to_list piece.width) → before_view new.before ≡ piece.sort → new.at ≡ old.at + piece.len → bracket_count new.nesting ≤ new.at
+    → new.stage ≡ stage.Onward → HandsPast text passed new.pending (map (moved old.at) piece.lexemes) → IsReadPast text (left_here text history old) passed new
+took_past text history old passed new piece utf8 kept stands other nesting levels before =
+    took_by text history old passed new piece utf8 kept stands
+    (record {
+      cut = λ on layout flat inside. let both : true ≡ false = ap is_layout (sym (ap before_view layout) ∙ before) ∙ other in cc;
+      cuts = λ x remainder cut least most.
+          absurd (no_cut_in text history old.at piece kept.read (begun text history old kept) stands other x (cut_of_piece text history old.at piece kept.read (begun text history old kept) stands x remainder cut least most));
+    })
+    nesting levels before
+
+pub took : (text : Text) (history : History) (old : Reader) (given : Option (ℕ × Token × ℕ)) (new : Reader) (piece : Piece) → IsUtf8 text → IsStateAfter text history old → step_here text history old ≡ Stands piece → is_layout piece.sort ≡ false
+    → Represents (tokens_onto history.tokens piece.lexemes) new.nesting → new.levels ≡ open_widths (history.widths ++ option_to_list piece.width) → before_view new.before ≡ piece.sort → new.at ≡ old.at + piece.len → bracket_count new.nesting ≤ new.at
+    → new.stage ≡ stage.Onward → Hands text given new.pending (map (moved old.at) piece.lexemes) → IsRead text (left_here text history old) given new
+took text history old given new piece = took_past text history old (map lexeme_view (option_to_list given)) new piece
+
+took_first : (text : Text) (new : Reader) (piece : Piece) → IsUtf8 text → first_margin text ≡ Stands piece → AreCutsBehind text nothing 0 piece new
+    → Represents (tokens_onto [] piece.lexemes) new.nesting → new.levels ≡ open_widths ([] ++ option_to_list piece.width) → before_view new.before ≡ piece.sort → new.at ≡ 0 + piece.len → bracket_count new.nesting ≤ new.at
+    → new.stage ≡ stage.Onward → Hands text None new.pending (map (moved 0) piece.lexemes) → IsRead text (outcome text) None new
+took_first text new piece utf8 stands cuts nesting levels before is_at few is_onward hands =
+    read_piece text (outcome text) nothing 0 [] new piece (first_stands text piece stands)
+    (kept_after text nothing 0 new piece utf8 (IsCharBoundary-start text utf8) (margin_first text ∙ stands) nesting levels before is_at few (sym (history_first text piece stands)) (read_first text new.at piece stands is_at)) is_at is_onward hands cuts
+
+pub piece_inside : (text : Text) (history : History) (old : Reader) (piece : Piece) → IsStateAfter text history old → step_here text history old ≡ Stands piece → (old.at < old.at + piece.len) × (old.at + piece.len ≤ length text)
+piece_inside text history old piece kept stands =
+    let fits = piece_fits language history (drop old.at text) piece stands in
+    let least = one_least history.before (begun text history old kept) in
+    let some = fits.some in
+    let inside = fits.inside in
+    let here = kept.inside in
+    (omega (arith, least, some), omega (arith, inside, here, length-drop old.at text))
+
+-- The text's first margin
+
+and_false : (b : Bool) → (b && false) ≡ false
+and_false true = refl
+and_false false = refl
+
+not_zero : (n : ℕ) → 0 < n → (n == 0) ≡ false
+not_zero zero some = absurd (omega (arith, some))
+not_zero (suc n) some = go (suc n == 0) refl
+  where
+    go : (b : Bool) → (suc n == 0) ≡ b → b ≡ false
+    go true e = absurd (omega (arith, eqb-true (suc n) 0 e))
+    go false e = refl
+
+-- a first margin without fault has no tab before content
+pub no_tab : (text : Text) (piece : Piece) → first_margin text ≡ Stands piece → begins_with_tab text ≡ false
+no_tab text piece stands = go (begins_with_tab text) refl
+  where
+    go : (tabbed : Bool) → begins_with_tab text ≡ tabbed → tabbed ≡ false
+    go false e = refl
+    go true e =
+        let parts = and_parts (is_content (margin_of text).remainder) (has_tab (margin_of text)) e in
+        let both : Stands piece ≡ Fails tab = sym stands ∙ margin_tab 0 [] [] (margin_of text) (record { content = parts.0; is = parts.1 }) in
+        cc
+
+-- where something was read, the first margin has no tab before content
+state_begun : (text : Text) (history : History) (reader : Reader) → IsStateAfter text history reader → has_read_none reader ≡ begins_with_tab text
+unfolding after
+state_begun text history reader kept = go kept.read.pieces kept.read.reads kept.read.is_history kept.read.reach
+  where
+    unread : (piece : Piece) (pieces : List Piece) → IsReading language nothing text (piece ∷ pieces) → after_all nothing (piece ∷ pieces) ≡ history → pieces_len (piece ∷ pieces) ≡ reader.at → has_read_none reader ≡ false
+    unread piece [] reads same reach =
+        let layout : before_view reader.before ≡ Layout = kept.before ∙ ap (λ (h : History). h.before) (sym same) ∙ (first_is_quiet text piece (sym (margin_first text) ∙ reads.0)).sort in
+        ap (λ b. reader.at == 0 && not (is_layout b)) layout ∙ and_false (reader.at == 0)
+    unread piece (next ∷ pieces) reads same reach =
+        let first = piece_fits language nothing text piece reads.0 in
+        let least = one_least (after nothing piece).before (started nothing piece first.sort) in
+        let some = (piece_fits language (after nothing piece) (drop piece.len text) next reads.1.0).some in
+        ap (λ b. b && not (is_layout (before_view reader.before))) (not_zero reader.at (omega (arith, reach, sum_by-cons (λ (piece : Piece). piece.len) piece (next ∷ pieces), sum_by-cons (λ (piece : Piece). piece.len) next pieces, least, some)))
+
+    go : (pieces : List Piece) → IsReading language nothing text pieces → after_all nothing pieces ≡ history → pieces_len pieces ≡ reader.at → has_read_none reader ≡ begins_with_tab text
+    go [] reads same reach = let both : true ≡ false = ap (λ (h : History). is_nothing h.before) same ∙ begun text history reader kept in cc
+    go (piece ∷ pieces) reads same reach = unread piece pieces reads same reach ∙ sym (no_tab text piece (sym (margin_first text) ∙ reads.0))
+
+-- `has_read_none` depends on the offset and the kind of the piece before
+same_place : (old new : Reader) → new.at ≡ old.at → new.before ≡ old.before → has_read_none new ≡ has_read_none old
+same_place old new at before = ap (λ n. n == 0 && not (is_layout (before_view new.before))) at ∙ ap (λ b. old.at == 0 && not (is_layout (before_view b))) before
+
+-- A fault
+
+-- a fault was read, by the lexemes before it
+read_fault : (text : Text) (whole : Outcome) (at : ℕ) (lexemes : List Lexeme) (new : Reader) (fault : Spanned grammar.Fault) (error : LexemeError) → whole ≡ record { lexemes = lexemes; fault = Some (moved at fault) }
+    → fault_view error ≡ Some fault.node → new.stage ≡ stage.Fault (at + fault.begin) error (at + fault.end) → Hands text None new.pending lexemes → has_read_none new ≡ begins_with_tab text
+    → new.at ≤ length text → ((x remainder : ℕ) → IsCutBefore text x remainder → remainder < length lexemes → ⊥) → IsRead text whole None new
+read_fault text whole at lexemes new fault error left view is hands place inside none = record {
+  lexemes = lexemes;
+  left = record { lexemes = []; fault = Some (moved at fault) };
+  is_left = subst (λ now. IsLeft text new now (record { lexemes = []; fault = Some (moved at fault) })) (sym is) (fault.node, view, refl, place, inside);
+  parts = ap (λ (o : Outcome). o.lexemes) left ∙ sym (append-nil lexemes);
+  fault = ap (λ (o : Outcome). o.fault) left;
+  is_pending = hands.0;
+  yielded_count = hands.1;
+  cut = λ on. let over : stage.Fault (at + fault.begin) error (at + fault.end) ≡ stage.Onward = sym is ∙ on in cc;
+  cuts = λ x remainder cut least most. absurd (none x remainder cut (omega (arith, most)));
+}
+
+pub failed : (text : Text) (history : History) (old new : Reader) (fault : Spanned grammar.Fault) (error : LexemeError) → IsStateAfter text history old → step_here text history old ≡ Fails fault → fault_view error ≡ Some fault.node
+    → new.stage ≡ stage.Fault (old.at + fault.begin) error (old.at + fault.end) → Hands text None new.pending [] → new.at ≡ old.at → new.before ≡ old.before → IsRead text (left_here text history old) None new
+failed text history old new fault error kept fails view is hands at before =
+    read_fault text (left_here text history old) old.at [] new fault error (onward_fails history old.at (drop old.at text) fault (begun text history old kept) fails) view is hands (same_place old new at before ∙ state_begun text history old kept) (omega (arith, at, kept.inside)) (λ x remainder cut most. omega (arith, most))
+
+pub failed_first : (text : Text) (new : Reader) (fault : Spanned grammar.Fault) (error : LexemeError) → first_margin text ≡ Fails fault → fault_view error ≡ Some fault.node
+    → new.stage ≡ stage.Fault (0 + fault.begin) error (0 + fault.end) → Hands text None new.pending (margin_of text).comments → new.at ≡ 0 → new.before ≡ sort.Other → IsRead text (outcome text) None new
+failed_first text new fault error fails view is hands at before =
+    let has = tab_of (margin_of text) fault fails in
+    let tabbed : begins_with_tab text ≡ true = rw (has.content, has.is) refl in
+    let none : has_read_none new ≡ true = rw (at, before) refl in
+    read_fault text (outcome text) 0 (margin_of text).comments new fault error (first_fails text fault fails) view is hands (none ∙ sym tabbed) (omega (arith, at)) (λ x remainder cut most. none_at_fault text fault fails x remainder cut)
+
+-- The text's end
+
+pub closed : (text : Text) (history : History) (old : Reader) (given : Option (ℕ × Token × ℕ)) (new : Reader) → IsHere old new → IsStateAfter text history old → step_here text history old ≡ Ends → Hands text given new.pending (closing old.at history) → new.stage ≡ stage.Closed → IsRead text (left_here text history old) given new
+closed text history old given new here kept ends hands is =
+    let whole = sym (history_ends history (drop old.at text) (begun text history old kept) ends) ∙ kept.onward in
+    let left = onward_ends history old.at (drop old.at text) (begun text history old kept) ends in
+    record {
+      lexemes = closing old.at history;
+      left = record { lexemes = []; fault = None };
+      is_left = subst (λ now. IsLeft text new now (record { lexemes = []; fault = None })) (sym is) (refl, subst (λ (h : History). IsStateAfter text h new) whole (kept_here text history old new here kept));
+      parts = ap (λ (o : Outcome). o.lexemes) left ∙ sym (append-nil (closing old.at history));
+      fault = ap (λ (o : Outcome). o.fault) left;
+      is_pending = hands.0;
+      yielded_count = hands.1;
+      cut = λ on. let over : stage.Closed ≡ stage.Onward = sym is ∙ on in cc;
+      cuts = λ x remainder cut least most. absurd (none_at_end text history old.at kept.read (begun text history old kept) ends x remainder cut (omega (arith, most, ap (λ (o : Outcome). length o.lexemes) left)));
+    }
+
+-- the lexemes that close a text
+pub closing_hands : (text : Text) (history : History) (at count : ℕ) (levels : List ℕ) (pending : Pending) (found : Token) → token_view found ≡ Whole grammar.Newline → levels ≡ open_widths history.widths → count ≡ length levels
+    → (pending_lexemes text pending ≡ replicate count (record { begin = at; node = grammar.Dedent; end = at })) × IsPending text pending → Hands text (Some (at, found, at)) pending (closing at history)
+closing_hands text history at count levels pending found is open_now counted waits =
+    let total : count ≡ length (open_widths history.widths) = counted ∙ ap (λ (ws : List ℕ). length ws) open_now in
+    hands_first text pending (at, found, at) (record { begin = at; node = grammar.Newline; end = at }) (replicate (length (open_widths history.widths)) (record { begin = at; node = grammar.Dedent; end = at })) waits.1
+    (ap (λ view. record { begin = at; node = view; end = at }) is) (sym (waits.0 ∙ ap (λ n. replicate n (record { begin = at; node = grammar.Dedent; end = at })) total))
+
+-- What is ahead, where something was read
+
+-- a cut before all pending lines is reached
+pub reached_by : (text : Text) (reader : Reader) (at ahead : ℕ) → IsInFlatMargin reader reader.stage × IsAfterLines text reader.pending at ahead ahead → IsReached reader at
+reached_by text reader at ahead is =
+    let none : is.1.passed ≡ 0 = omega (arith, is.1.count) in
+    (is.0, omega (arith, is.1.place, ap (λ n. sum_by (λ (line : Text). length line) (take n (lines_between text reader.pending.from reader.pending.to))) none))
+
+both_count : (one other : List Lexeme) → length one + length other ≡ length (map shown_lexeme one ++ map shown_lexeme other)
+both_count one other = omega (arith, length-append (map shown_lexeme one) (map shown_lexeme other), length-map one shown_lexeme, length-map other shown_lexeme)
+
+-- what is ahead after one lexeme was passed
+pub past_ahead : (text : Text) (whole : Outcome) (lexeme : Spanned TokenView) (new : Reader) (lexemes : List (Spanned TokenView)) (fault : Option (Spanned grammar.Fault)) → IsReadPast text whole (lexeme ∷ []) new
+    → lexemes ≡ map shown_lexeme whole.lexemes → fault ≡ whole.fault → IsAheadPast text lexeme new lexemes fault
+past_ahead text whole lexeme new lexemes fault read ahead remainder = (
+  map shown_lexeme (pending_lexemes text new.pending) ++ map shown_lexeme read.left.lexemes,
+  parts ∙ ap (λ vs. vs ++ map shown_lexeme read.left.lexemes) read.yielded_count,
+  record {
+    left = read.left;
+    is_left = read.is_left;
+    is_pending = read.is_pending;
+    ahead = refl;
+    those_after = remainder ∙ read.fault;
+    cut = subst (IsCutAhead text new new.stage) (both_count (pending_lexemes text new.pending) read.left.lexemes) read.cut;
+    cuts = subst (λ n. HoldsCuts text new new.stage (length read.left.lexemes) n n) (both_count (pending_lexemes text new.pending) read.left.lexemes)
+        (λ at remainder cut least most. read.cuts at remainder cut least (omega (arith, most, one_first)));
+  },
+  λ at cut.
+      let count = both_count (pending_lexemes text new.pending) read.left.lexemes in
+      reached_by text new at (length (map shown_lexeme (pending_lexemes text new.pending) ++ map shown_lexeme read.left.lexemes))
+      (subst (λ n. IsInFlatMargin new new.stage × IsAfterLines text new.pending at (length (map shown_lexeme (pending_lexemes text new.pending) ++ map shown_lexeme read.left.lexemes)) n) count
+      (read.cuts at _ cut (omega (arith, count)) (omega (arith, count, one_first)))),
+)
+  where
+    parts : lexemes ≡ map shown_lexeme read.lexemes ++ map shown_lexeme read.left.lexemes
+    parts = ahead ∙ ap (λ ls. map shown_lexeme ls) read.parts ∙ map-append shown_lexeme read.lexemes read.left.lexemes
+
+    one_first : length read.lexemes ≡ 1 + length (pending_lexemes text new.pending)
+    one_first = omega (arith, ap length read.yielded_count, length-map read.lexemes shown_lexeme, length-map (pending_lexemes text new.pending) shown_lexeme)
+
+pub read_ahead : (text : Text) (whole : Outcome) (given : Option (ℕ × Token × ℕ)) (new : Reader) (lexemes : List (Spanned TokenView)) (fault : Option (Spanned grammar.Fault)) → IsRead text whole given new
+    → lexemes ≡ map shown_lexeme whole.lexemes → fault ≡ whole.fault → IsAheadAfter text given new lexemes fault
+read_ahead text whole (Some found) new lexemes fault read ahead remainder = past_ahead text whole (lexeme_view found) new lexemes fault read ahead remainder
+read_ahead text whole None new lexemes fault read ahead remainder =
+    let all : lexemes ≡ map shown_lexeme (pending_lexemes text new.pending) ++ map shown_lexeme read.left.lexemes =
+    ahead ∙ ap (λ ls. map shown_lexeme ls) read.parts ∙ map-append shown_lexeme read.lexemes read.left.lexemes ∙ ap (λ vs. vs ++ map shown_lexeme read.left.lexemes) read.yielded_count in
+    record {
+      left = read.left;
+      is_left = read.is_left;
+      is_pending = read.is_pending;
+      ahead = all;
+      those_after = remainder ∙ read.fault;
+      cut = subst (IsCutAhead text new new.stage) (both_count (pending_lexemes text new.pending) read.left.lexemes ∙ ap length (sym all)) read.cut;
+      cuts = subst (λ n. HoldsCuts text new new.stage (length read.left.lexemes) n n) (both_count (pending_lexemes text new.pending) read.left.lexemes ∙ ap length (sym all))
+          (λ x remainder cut least most. read.cuts x remainder cut least (omega (arith, most, ap length read.yielded_count, length-map read.lexemes shown_lexeme, length-map (pending_lexemes text new.pending) shown_lexeme)));
+    }
+
+-- Less is left to read
+
+pub less_taken : (text : Text) (history : History) (old new : Reader) (piece : Piece) → IsStateAfter text history old → step_here text history old ≡ Stands piece → new.stage ≡ stage.Onward → new.at ≡ old.at + piece.len → left_to_read text new new.stage < left_to_read text old stage.Onward
+less_taken text history old new piece kept stands is is_at =
+    let inside = piece_inside text history old piece kept stands in
+    let onward : left_to_read text new stage.Onward < left_to_read text old stage.Onward = omega (arith, inside.0, inside.1, is_at) in
+    subst (λ now. left_to_read text new now < left_to_read text old stage.Onward) (sym is) onward
+
+pub less_failed : (text : Text) (old new : Reader) (begin : ℕ) (error : LexemeError) (end : ℕ) → new.stage ≡ stage.Fault begin error end → left_to_read text new new.stage < left_to_read text old stage.Onward
+less_failed text old new begin error end is =
+    let one : left_to_read text new (stage.Fault begin error end) < left_to_read text old stage.Onward = omega arith in
+    subst (λ now. left_to_read text new now < left_to_read text old stage.Onward) (sym is) one
+
+pub less_closed : (text : Text) (old new : Reader) → new.stage ≡ stage.Closed → left_to_read text new new.stage < left_to_read text old stage.Onward
+less_closed text old new is =
+    let none : left_to_read text new stage.Closed < left_to_read text old stage.Onward = omega arith in
+    subst (λ now. left_to_read text new now < left_to_read text old stage.Onward) (sym is) none
+
+-- Margins, as they were read
+
+none_open : (levels : List ℕ) → (length levels == 0) ≡ true → levels ≡ []
+none_open [] h = refl
+none_open (level ∷ levels) h = absurd (omega (arith, eqb-true (length (level ∷ levels)) 0 h))
+
+module _ (text : Text) (history : History) (old : Reader) (len : ℕ) (kept : IsStateAfter text history old)
+    (here : step_here text history old ≡ line_end len (open_widths history.widths) (drop len (drop old.at text))) where
+  -- the lexeme of the newline
+  abbrev given_line : List Lexeme
+  given_line = record { begin = old.at; node = grammar.Newline; end = old.at + len } ∷ []
+
+  -- the step here, by the text after the newline
+  line_here : step_here text history old ≡ line_end len (open_widths history.widths) (drop (old.at + len) text)
+  line_here = here ∙ ap (line_end len (open_widths history.widths)) (sym (drop-sum old.at len text))
+
+  pub line_less : {levels : List ℕ} {pending : Pending} {whole : ℕ} (new : Reader) → IsTaken text old.at (line_end len (open_widths history.widths) (drop (old.at + len) text)) given_line history.widths levels pending whole
+      → new.stage ≡ stage.Onward → new.at ≡ old.at + whole → left_to_read text new new.stage < left_to_read text old stage.Onward
+  line_less new taken is is_at = less_taken text history old new taken.piece kept (line_here ∙ taken.stands) is (is_at ∙ ap (λ n. old.at + n) (sym taken.whole))
+
+  pub line_taken : (new : Reader) (whole : ℕ) (found : Token) → token_view found ≡ Whole grammar.Newline → IsUtf8 text → IsTaken text old.at (line_end len (open_widths history.widths) (drop (old.at + len) text)) given_line history.widths new.levels new.pending whole
+      → IsOfMargin (old.at + len) (margin_of (drop (old.at + len) text)).at old.levels new.pending → new.nesting ≡ old.nesting → new.before ≡ sort.Layout → new.at ≡ old.at + whole → new.stage ≡ stage.Onward → IsRead text (left_here text history old) (Some (old.at, found, old.at + len)) new
+  line_taken new whole found is utf8 taken of nesting before is_at is_onward =
+      let stands : step_here text history old ≡ Stands taken.piece = line_here ∙ taken.stands in
+      let layout = line_is_quiet len (open_widths history.widths) (drop (old.at + len) text) taken.piece taken.stands in
+      let few : bracket_count old.nesting ≤ new.at = omega (arith, kept.few, is_at) in
+      let hands : Hands text (Some (old.at, found, old.at + len)) new.pending (map (moved old.at) taken.piece.lexemes) =
+      rw taken.lexemes (hands_first text new.pending (old.at, found, old.at + len) (record { begin = old.at; node = grammar.Newline; end = old.at + len }) (pending_lexemes text new.pending) taken.is_pending
+      (ap (λ view. record { begin = old.at; node = view; end = old.at + len }) is) refl) in
+      let cuts : AreCutsBehind text history old.at taken.piece new = record {
+        cut = λ on layout_now flat inside.
+            line_ahead_cut text history old.at len taken.piece kept.read (begun text history old kept) stands taken.stands (ap is_layout layout.sort) (sym kept.levels ∙ none_open old.levels (sym of.flat ∙ flat)) old.levels (record { begin = old.at; node = grammar.Newline; end = old.at + len }) new.pending of taken.lexemes;
+        cuts = λ x remainder cut least most.
+            let lies = line_cut text history old.at len taken.piece kept.read (begun text history old kept) stands taken.stands (ap is_layout layout.sort) old.levels (record { begin = old.at; node = grammar.Newline; end = old.at + len }) new.pending of taken.lexemes x remainder cut least most in
+            ((refl, before, of.flat ∙ ap (λ (levels : List ℕ). length levels == 0) (kept.levels ∙ lies.0)), lies.1);
+      } in
+      took_by text history old (lexeme_view (old.at, found, old.at + len) ∷ []) new taken.piece utf8 kept stands cuts
+      (rw nesting (quiet_kept taken.piece.lexemes history.tokens old.nesting layout.tokens kept.nesting)) taken.open_now (ap before_view before ∙ sym layout.sort) (is_at ∙ ap (λ n. old.at + n) (sym taken.whole)) (rw nesting few) is_onward hands
+
+  pub line_refused : (new : Reader) (error : LexemeError) (end : ℕ) → IsRefused text (line_end len (open_widths history.widths) (drop (old.at + len) text)) [] history.widths new.levels new.pending error end
+      → new.stage ≡ stage.Fault (old.at + 0) error (old.at + end) → new.at ≡ old.at → new.before ≡ old.before → IsRead text (left_here text history old) None new
+  line_refused new error end refused is at before =
+      failed text history old new (record { begin = 0; node = refused.node; end = end }) error kept (line_here ∙ refused.stands) refused.is is (hands_later text new.pending [] refused.is_pending refused.lexemes) at before
+
+-- a reader that has read nothing
+pub record IsNew (reader : Reader) : Type 0 where
+  pub at : reader.at ≡ 0
+  pub nesting : Represents [] reader.nesting
+  pub levels : reader.levels ≡ []
+  pub few : bracket_count reader.nesting ≡ 0
+  pub before : reader.before ≡ sort.Other
+
+module _ (text : Text) (old new : Reader) (is_new : IsNew old) where
+  pub margin_taken : (whole : ℕ) → IsUtf8 text → IsTaken text 0 (first_margin text) [] [] new.levels new.pending whole
+      → IsOfMargin 0 (margin_of (drop 0 text)).at old.levels new.pending → new.nesting ≡ old.nesting → new.before ≡ sort.Layout → new.at ≡ old.at + whole → new.stage ≡ stage.Onward → IsRead text (outcome text) None new
+  margin_taken whole utf8 taken of nesting before is_at is_onward =
+      let layout = first_is_quiet text taken.piece taken.stands in
+      let few : bracket_count old.nesting ≤ new.at = omega (arith, is_new.few) in
+      let end : new.at ≡ 0 + taken.piece.len = omega (arith, is_at, is_new.at, taken.whole) in
+      let cuts : AreCutsBehind text nothing 0 taken.piece new = record {
+        cut = λ on layout_now flat inside. first_ahead_cut text old.levels taken.piece new.pending taken.stands of taken.lexemes;
+        cuts = λ x remainder cut least most.
+            ((refl, before, of.flat ∙ ap (λ (levels : List ℕ). length levels == 0) is_new.levels), first_cut text old.levels taken.piece new.pending taken.stands of taken.lexemes x remainder cut least most);
+      } in
+      took_first text new taken.piece utf8 taken.stands cuts
+      (rw nesting (quiet_kept taken.piece.lexemes [] old.nesting layout.tokens is_new.nesting)) taken.open_now (ap before_view before ∙ sym layout.sort) end (rw nesting few) is_onward (hands_later text new.pending _ taken.is_pending taken.lexemes)
+
+  pub margin_refused : (error : LexemeError) (end : ℕ) → IsRefused text (first_margin text) (margin_of text).comments [] new.levels new.pending error end
+      → new.stage ≡ stage.Fault (old.at + 0) error (old.at + end) → new.at ≡ old.at → new.before ≡ old.before → IsRead text (outcome text) None new
+  margin_refused error end refused is at before =
+      failed_first text new (record { begin = 0; node = refused.node; end = end }) error refused.stands refused.is (is ∙ ap (λ n. stage.Fault (n + 0) error (n + end)) is_new.at) (hands_later text new.pending _ refused.is_pending refused.lexemes) (at ∙ is_new.at) (before ∙ is_new.before)
+
+-- what is ahead where no lexeme is pending
+pub none_before : (text : Text) (reader : Reader) (now : Stage) (lexemes : List (Spanned TokenView)) (fault : Option (Spanned grammar.Fault)) (left : Outcome) → IsIdle text reader.pending → (ahead : IsAhead text reader now lexemes fault) → ahead.left ≡ left
+    → (lexemes ≡ map shown_lexeme left.lexemes) × (fault ≡ left.fault)
+none_before text reader now lexemes fault left idle ahead e = (
+  ahead.ahead ∙ ap (λ ls. map shown_lexeme ls ++ map shown_lexeme ahead.left.lexemes) idle.1 ∙ ap (λ (o : Outcome). map shown_lexeme o.lexemes) e,
+  ahead.those_after ∙ ap (λ (o : Outcome). o.fault) e,
+)
+
+-- the outcome of a text is ahead, where something was read from its start on
+pub first_ahead : (text : Text) (old new : Reader) (lexemes : List (Spanned TokenView)) (fault : Option (Spanned grammar.Fault)) → IsRead text (outcome text) None new → IsIdle text old.pending → IsAhead text old stage.Begin lexemes fault → IsAhead text new new.stage lexemes fault
+first_ahead text old new lexemes fault read idle ahead =
+    let both = none_before text old stage.Begin lexemes fault (outcome text) idle ahead ahead.is_left.0 in
+    read_ahead text (outcome text) None new lexemes fault read both.0 both.1
+
+pub new_ahead : (text : Text) (old : Reader) (lexemes : List (Spanned TokenView)) (fault : Option (Spanned grammar.Fault)) → IsAhead text old stage.Begin lexemes fault → IsNew old
+new_ahead text old lexemes fault ahead = record { at = ahead.is_left.1; nesting = ahead.is_left.2; levels = ahead.is_left.3; few = ahead.is_left.4; before = ahead.is_left.5 }

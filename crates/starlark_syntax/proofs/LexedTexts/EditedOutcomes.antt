@@ -1,0 +1,384 @@
+-- What a text comes to after an edit.
+use Rattle.std.proofs.Common.{◌≡◌, ℕ, suc, zero, ◌+◌, ◌-◌, ◌*◌, ◌<◌, ◌≤◌, Bool, true, false, List, [], ◌∷◌, ◌++◌, map, take, drop, length, refl, ap, sym, subst, ◌∙◌, arith, Some, None, inl, inr, ◌⊎◌, append-nil, length-append}
+use Rattle.std.specs.Prelude.{Option, ◌&&◌, ◌||◌, ◌==◌, if◌then◌else◌, nat_lt, option_map, slice_get, slice_index_or}
+use Rattle.std.specs.List.{AllByRecursion}
+use Rattle.std.specs.Str.{IsCharBoundary, IsUtf8}
+use Rattle.std.proofs.lemmas.Str.{IsCharBoundary-start}
+use Rattle.std.proofs.Math.Seq.{take-append_seam}
+use Rattle.std.proofs.lemmas.Bool.{and_parts, lt-ltb}
+use Rattle.std.proofs.lemmas.List.{length-map, length-take, length-take-le, map-append, take-append-drop, take-map}
+use Rattle.std.proofs.lemmas.Option.{slice_get_cases}
+use Rattle.starlark_base.specs.Sources.{SourceFile}
+use Rattle.starlark_grammar.specs.Words.{Text, language}
+use Rattle.starlark_grammar.specs.Tokens.{Fault, InvalidTab, Lexeme, Newline, Outcome, Spanned, moved}
+use Rattle.starlark_grammar.specs.Margins.{has_tab, is_content, margin_of}
+use Rattle.starlark_grammar.specs.Pieces.{Fails}
+use Rattle.starlark_grammar.specs.Reading.{nothing, outcome, pieces_len, read}
+use Rattle.starlark_grammar.specs.Cuts.{is_clean_cut, is_kept_cut, tabbed, without_closing}
+use Rattle.starlark_grammar.specs.TextLaws.{HasFirstMargin}
+use Rattle.starlark_grammar.proofs.Joining.CleanCuts.{cuts_join}
+use Rattle.starlark_grammar.proofs.Joining.Laws.{kept_cuts_keep}
+use Rattle.starlark_grammar.proofs.Joining.LineCuts.{kept_parts}
+use Rattle.starlark_grammar.proofs.Joining.Tabs.{HasTab, after_tab, first_margin_is, first_step, margin_tab, outcome_by, tab, tab_longest}
+use Rattle.starlark_grammar.proofs.Reading.Readings.{one_longest, read_is}
+use Rattle.starlark_token.specs.Lexemes.{lexeme_view, shown_lexeme}
+use Rattle.starlark_syntax.specs.Inner.LexedTexts.{AreBeyond, AreCuts, IsBegin, IsCutOf, IsReadPart, IsTakenBack, PartView, holds_cut, last_newline_of, later, later_cut}
+use Rattle.starlark_syntax.specs.declared.cuts.Begin.{Begin}
+use Rattle.starlark_syntax.specs.declared.cuts.Cut.{Cut}
+use Rattle.starlark_syntax.specs.declared.tails.Kept.{Kept}
+use Rattle.starlark_token.specs.declared.tokens.Token.{Token}
+use Rattle.starlark_token.specs.TokenViews.{TokenView}
+use Rattle.starlark_syntax.proofs.LexedTexts.RelexStarts.{all_take, all_up_to}
+use Rattle.starlark_syntax.proofs.LexedTexts.HeldCuts.{all_nearer, held_as, held_front, held_joined, held_right, kept_in, kept_some}
+use Rattle.starlark_syntax.proofs.LexedTexts.JoinedLists.{cut_joined, shown_later, viewed_later}
+use Rattle.starlark_syntax.proofs.LexedTexts.KeptCuts.{reach_joined, take_less as take_within}
+use Rattle.starlark_syntax.proofs.LexedTexts.LastNewlines.{FoundNewline, none_shown, some_shown}
+use Rattle.starlark_syntax.proofs.LexedTexts.ReadParts.{unmoved_fault}
+use Rattle.starlark_syntax.specs.LexedTexts.{IsReadFrom, LexedView}
+use Rattle.starlark_syntax.proofs.LexedTexts.RelexedOutcomes.{above_later, all_both, all_later, all_stay, cut_boundary, rising_both, rising_later, rising_take, some_cut}
+use Rattle.starlark_reader.proofs.TakenPieces.Onward.{first_fails}
+
+-- What is kept and what is put after it are what a text comes to.
+pub record IsRelexed (edited : Text) (ls : List (ℕ × Token × ℕ)) (cuts : List Cut) (at count : ℕ) (part : PartView) (kept : Kept) : Type 0 where
+  pub lexemes : map lexeme_view (take kept.lexemes ls ++ map (later at) (if kept.gives_more then part.lexemes else [])) ≡ map shown_lexeme (outcome edited).lexemes
+  pub fault : (outcome edited).fault ≡ option_map (moved kept.fault_at) (outcome (drop at edited)).fault
+  pub are_cuts : AreCuts edited (take kept.cuts cuts ++ map (later_cut at count) part.cuts)
+  pub near : kept.fault_at ≤ at
+  pub few : kept.lexemes ≤ length ls
+
+unmoved : {A : Type 0} (xs : List (Spanned A)) → map (moved 0) xs ≡ xs
+unmoved [] = refl
+unmoved (x ∷ xs) =
+    let begin : 0 + x.begin ≡ x.begin = omega arith in
+    let end : 0 + x.end ≡ x.end = omega arith in
+    rw (begin, end, unmoved xs) refl
+
+same_cuts : (cuts : List Cut) → map (later_cut 0 0) cuts ≡ cuts
+same_cuts [] = refl
+same_cuts (cut ∷ cuts) =
+    let at : 0 + cut.at ≡ cut.at = omega arith in
+    let lexemes : 0 + cut.lexemes ≡ cut.lexemes = omega arith in
+    rw (at, lexemes, same_cuts cuts) refl
+
+abbrev begin_at : Option (Spanned Fault) → ℕ
+begin_at None = 0
+begin_at (Some fault) = fault.begin
+
+-- Lexed from the text's begin on
+pub relexed_start : (file : SourceFile) (old edited : Text) (ls : List (ℕ × Token × ℕ)) (cuts : List Cut) (part : PartView) (count : ℕ) → AreCuts old cuts → AllByRecursion (λ (cut : Cut). cut.at ≤ 0) (take count cuts) → IsReadPart file edited part
+    → IsRelexed edited ls cuts 0 0 part (record { lexemes = 0; cuts = count; fault_at = 0; gives_more = true })
+relexed_start file old edited ls cuts part count are up_to is = record {
+  lexemes = viewed_later 0 part.lexemes ∙ unmoved (map lexeme_view part.lexemes) ∙ is.lexemes;
+  fault = sym (unmoved_fault (outcome edited).fault);
+  are_cuts = record {
+    each = all_both (IsCutOf edited) (take count cuts) _ (all_stay old edited 0 0 (take count cuts) refl (omega arith) (omega arith) (omega arith) (all_take (IsCutOf old) count cuts are.each) up_to) (subst (AllByRecursion (IsCutOf edited)) (sym (same_cuts part.cuts)) is.cuts.each);
+    order = rising_both 0 (take count cuts) _ (rising_take count cuts are.order) (rising_later 0 0 part.cuts is.cuts.order) up_to (above_later edited 0 0 part.cuts is.cuts.each);
+    all = λ x kept. held_right x (take count cuts) _ (subst (λ (found : List Cut). holds_cut x found ≡ true) (sym (same_cuts part.cuts)) (is.cuts.all x kept));
+  };
+  near = omega arith;
+  few = omega arith;
+}
+
+-- Lexed from a kept cut on
+module _ (file : SourceFile) (old edited : Text) (ls : List (ℕ × Token × ℕ)) (cuts : List Cut) (part : PartView) (at count : ℕ) (lexed : map lexeme_view ls ≡ map shown_lexeme (outcome old).lexemes) (are : AreCuts old cuts)
+    (is : IsCutOf old (record { at = at; lexemes = count })) (same : take at old ≡ take at edited) (inside : at ≤ length edited) (is_part : IsReadPart file (drop at edited) part) where
+  front : Text
+  front = take at edited
+
+  rest : Text
+  rest = drop at edited
+
+  whole : take at edited ++ drop at edited ≡ edited
+  whole = take-append-drop at edited
+
+  len : length (take at edited) ≡ at
+  len = length-take-le at edited inside
+
+  clean : is_clean_cut (take at edited) ≡ true
+  clean = ap is_clean_cut (sym same) ∙ (kept_parts old at is.is_kept).1
+
+  count_is : length (without_closing (outcome (take at edited)).lexemes) ≡ count
+  count_is = sym (is.lexemes ∙ ap (λ (t : Text). length (without_closing (outcome t).lexemes)) same)
+
+  -- the lexemes that are kept
+  kept_views : map lexeme_view (take count ls) ≡ map shown_lexeme (without_closing (outcome (take at edited)).lexemes)
+  kept_views =
+      let law = kept_cuts_keep old at is.is_kept in
+      sym (take-map lexeme_view count ls) ∙ ap (take count) lexed ∙ take-map shown_lexeme count (outcome old).lexemes
+      ∙ ap (λ xs. map shown_lexeme (take count xs)) law.1
+      ∙ ap (λ k. map shown_lexeme (take k (without_closing (outcome (take at old)).lexemes ++ law.0))) is.lexemes
+      ∙ ap (map shown_lexeme) (take-append_seam (without_closing (outcome (take at old)).lexemes) law.0)
+      ∙ ap (λ (t : Text). map shown_lexeme (without_closing (outcome t).lexemes)) same
+
+  pub few : count ≤ length ls
+  few =
+      omega (arith, ap length kept_views, length-map (take count ls) lexeme_view, length-map (without_closing (outcome (take at edited)).lexemes) shown_lexeme, count_is, length-take count ls)
+
+  -- all of them, and those of what was read
+  all_views : (outcome edited).lexemes ≡ without_closing (outcome (take at edited)).lexemes ++ map (moved at) (outcome (drop at edited)).lexemes
+      → map lexeme_view (take count ls ++ map (later at) part.lexemes) ≡ map shown_lexeme (outcome edited).lexemes
+  all_views e =
+      map-append lexeme_view (take count ls) (map (later at) part.lexemes)
+      ∙ ap (λ vs. vs ++ map lexeme_view (map (later at) part.lexemes)) kept_views
+      ∙ ap (λ vs. map shown_lexeme (without_closing (outcome (take at edited)).lexemes) ++ vs) (viewed_later at part.lexemes ∙ ap (map (moved at)) is_part.lexemes ∙ sym (shown_later at (outcome (drop at edited)).lexemes))
+      ∙ sym (map-append shown_lexeme (without_closing (outcome (take at edited)).lexemes) (map (moved at) (outcome (drop at edited)).lexemes))
+      ∙ ap (map shown_lexeme) (sym e)
+
+  -- a cut of the new text at or before the one that is read from is an old one, among the first where the others lie after it
+  held_old : (x to n : ℕ) → x ≤ at → x ≤ to → AreBeyond cuts to n → is_clean_cut (take x edited) ≡ true → holds_cut x (take n cuts) ≡ true
+  held_old x to n before less beyond there = held_front x to n cuts (are.all x (kept_in old edited at x same is.is_kept before there)) beyond less
+
+  -- where the margin at the cut has no fault
+  pub relexed_cut : (kept_cuts : ℕ) → AllByRecursion (λ (cut : Cut). cut.at ≤ at) (take kept_cuts cuts) → AreBeyond cuts at kept_cuts → HasFirstMargin language (drop at edited)
+      → IsRelexed edited ls cuts at count part (record { lexemes = count; cuts = kept_cuts; fault_at = at; gives_more = true })
+  relexed_cut kept_cuts up_to beyond margin =
+      let joined = ap outcome (sym whole) ∙ cuts_join (take at edited) (drop at edited) clean margin in
+      let reach : pieces_len (read language edited).pieces ≡ length (take at edited) + pieces_len (read language (drop at edited)).pieces = ap (λ (t : Text). pieces_len (read language t).pieces) (sym whole) ∙ reach_joined (take at edited) (drop at edited) clean margin in
+      let remainder = all_later (take at edited) (drop at edited) part.cuts clean margin is_part.cuts.each in
+      record {
+        lexemes = all_views (ap (λ (o : Outcome). o.lexemes) joined ∙ ap (λ n. without_closing (outcome (take at edited)).lexemes ++ map (moved n) (outcome (drop at edited)).lexemes) len);
+        fault = ap (λ (o : Outcome). o.fault) joined ∙ ap (λ n. option_map (moved n) (outcome (drop at edited)).fault) len;
+        are_cuts = record {
+          each = all_both (IsCutOf edited) (take kept_cuts cuts) _ (all_stay old edited at at (take kept_cuts cuts) same inside (omega arith) (omega (arith, reach, len)) (all_take (IsCutOf old) kept_cuts cuts are.each) up_to)
+              (subst (λ n. AllByRecursion (IsCutOf edited) (map (later_cut at n) part.cuts)) count_is
+              (subst (λ n. AllByRecursion (IsCutOf edited) (map (later_cut n (length (without_closing (outcome (take at edited)).lexemes))) part.cuts)) len
+              (subst (λ (t : Text). AllByRecursion (IsCutOf t) (map (later_cut (length (take at edited)) (length (without_closing (outcome (take at edited)).lexemes))) part.cuts)) whole remainder)));
+          order = rising_both at (take kept_cuts cuts) _ (rising_take kept_cuts cuts are.order) (rising_later at count part.cuts is_part.cuts.order) up_to (above_later (drop at edited) at count part.cuts is_part.cuts.each);
+          all = λ x kept. subst (λ n. holds_cut x (take kept_cuts cuts ++ map (later_cut n count) part.cuts) ≡ true) len
+              (held_joined (take at edited) (drop at edited) (take kept_cuts cuts) part.cuts count clean margin
+              (λ x less there. held_old x at kept_cuts (omega (arith, less, len)) (omega (arith, less, len)) beyond (ap is_clean_cut (sym (take_within x at edited (omega (arith, less, len)))) ∙ there))
+              is_part.cuts.all x (ap (λ (t : Text). is_kept_cut t x) whole ∙ kept));
+        };
+        near = omega arith;
+        few = few;
+      }
+
+  module _ (has : HasTab (margin_of (drop at edited))) where
+    fails : outcome (drop at edited) ≡ record { lexemes = (margin_of (drop at edited)).comments; fault = Some (moved 0 tab) }
+    fails = first_fails (drop at edited) tab (margin_tab 0 [] [] (margin_of (drop at edited)) has)
+
+    -- no cut lies in a text whose first margin has a fault
+    none_read : (read language (drop at edited)).pieces ≡ []
+    none_read = (one_longest language nothing (drop at edited) _ _ _ _ (read_is language (drop at edited)) (tab_longest (drop at edited) [] tt (first_step (drop at edited) ∙ margin_tab 0 [] [] (margin_of (drop at edited)) has))).0
+
+    no_cuts : (found : List Cut) → AllByRecursion (IsCutOf (drop at edited)) found → found ≡ []
+    no_cuts [] each = refl
+    no_cuts (cut ∷ found) each =
+        let parts = kept_parts (drop at edited) cut.at each.0.is_kept in
+        absurd (omega (arith, parts.0, ap pieces_len none_read, some_cut (take cut.at (drop at edited)) parts.1, length-take cut.at (drop at edited)))
+
+    tabs : outcome edited ≡ tabbed (length (take at edited)) (without_closing (outcome (take at edited)).lexemes) (margin_of (drop at edited)).comments
+    tabs = ap outcome (sym whole) ∙ (after_tab (take at edited) (drop at edited) clean has).is
+
+    -- the reading goes as far as the fault
+    tab_reach : (fault : Spanned Fault) → (outcome edited).fault ≡ Some fault → pieces_len (read language edited).pieces ≡ fault.begin
+    tab_reach fault found =
+        let bt = after_tab (take at edited) (drop at edited) clean has in
+        let reading = one_longest language nothing (take at edited ++ drop at edited) _ _ _ _ (read_is language (take at edited ++ drop at edited)) bt.longest in
+        let begin = ap (λ (o : Outcome). begin_at o.fault) (sym (outcome_by (take at edited ++ drop at edited) bt.front (Fails tab) bt.longest) ∙ ap outcome whole) ∙ ap begin_at found in
+        let reach : pieces_len (read language edited).pieces ≡ pieces_len bt.front = ap (λ (t : Text). pieces_len (read language t).pieces) (sym whole) ∙ ap pieces_len reading.0 in
+        let here : pieces_len bt.front + 0 ≡ fault.begin = begin in
+        omega (arith, reach, here)
+
+    -- where it has a tab, after comments alone
+    pub relexed_comments : last_newline_of (map lexeme_view (take count ls)) ≡ None → IsRelexed edited ls cuts at count part (record { lexemes = count; cuts = 0; fault_at = 0; gives_more = true })
+    relexed_comments none =
+        let before = none_shown (without_closing (outcome (take at edited)).lexemes) (ap last_newline_of (sym kept_views) ∙ none) in
+        let all : outcome edited ≡ record { lexemes = without_closing (outcome (take at edited)).lexemes ++ map (moved (length (take at edited))) (margin_of (drop at edited)).comments; fault = Some (record { begin = 0; node = InvalidTab; end = 0 }) } = tabs ∙ rw before refl in
+        record {
+          lexemes = all_views (ap (λ (o : Outcome). o.lexemes) all ∙ ap (λ n. without_closing (outcome (take at edited)).lexemes ++ map (moved n) (margin_of (drop at edited)).comments) len
+              ∙ ap (λ (o : Outcome). without_closing (outcome (take at edited)).lexemes ++ map (moved at) o.lexemes) (sym fails));
+          fault = ap (λ (o : Outcome). o.fault) all ∙ ap (λ (o : Outcome). option_map (moved 0) o.fault) (sym fails);
+          are_cuts = subst (λ (found : List Cut). AreCuts edited (map (later_cut at count) found)) (sym (no_cuts part.cuts is_part.cuts.each))
+              (record { each = tt; order = tt; all = λ x kept. absurd (omega (arith, kept_some edited x kept, (kept_parts edited x kept).0, tab_reach (record { begin = 0; node = InvalidTab; end = 0 }) (ap (λ (o : Outcome). o.fault) all))) });
+          near = omega arith;
+          few = few;
+        }
+
+    -- the place of a lexeme that is kept
+    same_place : (xs : List (ℕ × Token × ℕ)) (lexemes : List Lexeme) (k : ℕ) (x : ℕ × Token × ℕ) (d : Lexeme) → map lexeme_view xs ≡ map shown_lexeme lexemes → slice_get xs k ≡ Some x → x.0 ≡ (slice_index_or lexemes k d).begin
+    same_place [] lexemes k x d e f = cc
+    same_place (y ∷ xs) [] k x d e f = cc
+    same_place (y ∷ xs) (l ∷ lexemes) zero x d e f =
+        let first : lexeme_view y ≡ shown_lexeme l = cc in
+        let one : y ≡ x = cc in
+        ap (λ (z : ℕ × Token × ℕ). z.0) (sym one) ∙ ap (λ (s : Spanned TokenView). s.begin) first
+    same_place (y ∷ xs) (l ∷ lexemes) (suc k) x d e f =
+        let more : map lexeme_view xs ≡ map shown_lexeme lexemes = cc in
+        same_place xs lexemes k x d more f
+
+    get_take : (n k : ℕ) (xs : List (ℕ × Token × ℕ)) → k < n → slice_get (take n xs) k ≡ slice_get xs k
+    get_take zero k xs h = absurd (omega (arith, h))
+    get_take (suc n) k [] h = refl
+    get_take (suc n) zero (x ∷ xs) h = refl
+    get_take (suc n) (suc k) (x ∷ xs) h = get_take n k xs (omega (arith, h))
+
+    take_less : (k n : ℕ) (xs : List (ℕ × Token × ℕ)) → k ≤ n → take k (take n xs) ≡ take k xs
+    take_less zero n xs h = refl
+    take_less (suc k) zero xs h = absurd (omega (arith, h))
+    take_less (suc k) (suc n) [] h = refl
+    take_less (suc k) (suc n) (x ∷ xs) h = ap (λ ys. x ∷ ys) (take_less k n xs (omega (arith, h)))
+
+    -- where it has a tab, after a `Newline`
+    pub relexed_line : (last : ℕ) (kept : Kept) → last_newline_of (map lexeme_view (take count ls)) ≡ Some last → IsTakenBack ls cuts last kept → IsRelexed edited ls cuts at count part kept
+    relexed_line last kept some taken =
+        let lexemes = without_closing (outcome (take at edited)).lexemes in
+        let found = some_shown lexemes last (ap last_newline_of (sym kept_views) ∙ some) in
+        let less : last < count = omega (arith, found.inside, count_is) in
+        let all : outcome edited ≡ record { lexemes = take last lexemes; fault = Some (record { begin = found.begin; node = InvalidTab; end = found.begin }) } = tabs ∙ rw found.is refl in
+        let placed : kept.fault_at ≡ found.begin = place lexemes found (slice_get_cases ls last).1 less in
+        let bt = after_tab (take at edited) (drop at edited) clean has in
+        let reading = one_longest language nothing (take at edited ++ drop at edited) _ _ _ _ (read_is language (take at edited ++ drop at edited)) bt.longest in
+        let fault = ap (λ (o : Outcome). begin_at o.fault) (sym (outcome_by (take at edited ++ drop at edited) bt.front (Fails tab) bt.longest) ∙ ap outcome whole ∙ all) in
+        let reach : pieces_len (read language edited).pieces ≡ pieces_len bt.front = ap (λ (t : Text). pieces_len (read language t).pieces) (sym whole) ∙ ap pieces_len reading.0 in
+        let here : pieces_len bt.front + 0 ≡ found.begin = fault in
+        let up_to : AllByRecursion (λ (cut : Cut). cut.at ≤ kept.fault_at) (take kept.cuts cuts) = all_up_to cuts kept.fault_at kept.cuts (record { at = 0; lexemes = 0 }) are.order taken.few taken.up_to in
+        let near : kept.fault_at ≤ at = omega (arith, placed, here, bt.less, len) in
+        let nil : map (later_cut at count) part.cuts ≡ [] = ap (map (later_cut at count)) (no_cuts part.cuts is_part.cuts.each) in
+        record {
+          lexemes = rw (taken.count, taken.gives_none) (ap (map lexeme_view) (append-nil (take last ls) ∙ sym (take_less last count ls (omega (arith, less)))) ∙ sym (take-map lexeme_view last (take count ls)) ∙ ap (take last) kept_views ∙ take-map shown_lexeme last lexemes ∙ ap (λ (o : Outcome). map shown_lexeme o.lexemes) (sym all));
+          fault = ap (λ (o : Outcome). o.fault) all ∙ at_place found.begin kept.fault_at placed ∙ ap (λ (o : Outcome). option_map (moved kept.fault_at) o.fault) (sym fails);
+          are_cuts = subst (λ (remainder : List Cut). AreCuts edited (take kept.cuts cuts ++ remainder)) (sym nil) (subst (AreCuts edited) (sym (append-nil (take kept.cuts cuts)))
+              (record { each = all_stay old edited at kept.fault_at (take kept.cuts cuts) same inside near (omega (arith, placed, here, reach)) (all_take (IsCutOf old) kept.cuts cuts are.each) up_to; order = rising_take kept.cuts cuts are.order; all = λ x kept_x. let parts = kept_parts edited x kept_x in held_old x kept.fault_at kept.cuts (omega (arith, parts.0, reach, here, placed, near)) (omega (arith, parts.0, reach, here, placed)) taken.beyond parts.1 }));
+          near = near;
+          few = omega (arith, taken.count, less, few);
+        }
+      where
+        at_place : (begin place : ℕ) → place ≡ begin → ◌≡◌ {A = Option (Spanned Fault)} (Some (record { begin = begin; node = InvalidTab; end = begin })) (Some (moved place (moved 0 tab)))
+        at_place begin place e =
+            let same : place + (0 + 0) ≡ begin = omega (arith, e) in
+            rw same refl
+
+        place : (lexemes : List Lexeme) (found : FoundNewline (without_closing (outcome (take at edited)).lexemes) last) → ((x : ℕ × Token × ℕ) × (last < length ls) × (slice_get ls last ≡ Some x) × (slice_index_or ls last x ≡ x)) ⊎ ((length ls ≤ last) × (slice_get ls last ≡ None)) → last < count → kept.fault_at ≡ found.begin
+        place lexemes found (inl there) less =
+            let d : Lexeme = record { begin = 0; node = Newline; end = 0 } in
+            taken.place there.0 there.2 ∙ same_place (take count ls) (without_closing (outcome (take at edited)).lexemes) last there.0 d kept_views (get_take count last ls less ∙ there.2) ∙ found.place d
+        place lexemes found (inr none) less = absurd (omega (arith, none.0, less, few))
+
+-- where it begins
+pub begin_boundary : (old edited : Text) (cuts : List Cut) (from : ℕ) (begin : Begin) → IsBegin old cuts from begin → take from old ≡ take from edited → from ≤ length edited → IsUtf8 edited → IsCharBoundary edited begin.at
+begin_boundary old edited cuts from begin is same inside utf8 = by is.stands
+  where
+    by : ((begin.at ≡ 0) × (begin.lexemes ≡ 0)) ⊎ IsCutOf old (record { at = begin.at; lexemes = begin.lexemes }) → IsCharBoundary edited begin.at
+    by (inl start) = subst (IsCharBoundary edited) (sym start.0) (IsCharBoundary-start edited utf8)
+    by (inr cut) =
+        let front : take begin.at old ≡ take begin.at edited = sym (take_within begin.at from old is.before) ∙ ap (take begin.at) same ∙ take_within begin.at from edited is.before in
+        cut_boundary edited begin.at utf8 (omega (arith, is.before, inside)) (ap is_clean_cut (sym front) ∙ (kept_parts old begin.at cut.is_kept).1)
+
+pub begin_few : (old : Text) (ls : List (ℕ × Token × ℕ)) (cuts : List Cut) (from : ℕ) (begin : Begin) → map lexeme_view ls ≡ map shown_lexeme (outcome old).lexemes → IsBegin old cuts from begin → begin.lexemes ≤ length ls
+begin_few old ls cuts from begin lexed is = by is.stands
+  where
+    by : ((begin.at ≡ 0) × (begin.lexemes ≡ 0)) ⊎ IsCutOf old (record { at = begin.at; lexemes = begin.lexemes }) → begin.lexemes ≤ length ls
+    by (inl start) = omega (arith, start.1)
+    by (inr cut) =
+        let law = kept_cuts_keep old begin.at cut.is_kept in
+        omega (arith, cut.lexemes, ap length lexed, length-map ls lexeme_view, length-map (outcome old).lexemes shown_lexeme, ap length law.1, length-append (without_closing (outcome (take begin.at old)).lexemes) law.0)
+
+-- all cases together
+pub relexed : (file : SourceFile) (old edited : Text) (ls : List (ℕ × Token × ℕ)) (cuts : List Cut) (from : ℕ) (begin : Begin) (part : PartView) (kept : Kept) (has : Bool) → map lexeme_view ls ≡ map shown_lexeme (outcome old).lexemes → AreCuts old cuts → IsBegin old cuts from begin
+    → take from old ≡ take from edited → from ≤ length edited → IsReadPart file (drop begin.at edited) part → has ≡ (is_content (margin_of (drop begin.at edited)).remainder && has_tab (margin_of (drop begin.at edited)))
+    → (has ≡ false → kept ≡ record { lexemes = begin.lexemes; cuts = begin.cuts; fault_at = begin.at; gives_more = true })
+    → (has ≡ true → last_newline_of (map lexeme_view (take begin.lexemes ls)) ≡ None → kept ≡ record { lexemes = begin.lexemes; cuts = 0; fault_at = 0; gives_more = true })
+    → (has ≡ true → (last : ℕ) → last_newline_of (map lexeme_view (take begin.lexemes ls)) ≡ Some last → IsTakenBack ls cuts last kept)
+    → IsRelexed edited ls cuts begin.at begin.lexemes part kept
+relexed file old edited ls cuts from begin part kept has lexed are is same inside is_part tab_is plain comments line = by is.stands
+  where
+    by_start : begin.at ≡ 0 → begin.lexemes ≡ 0 → (b : Bool) → has ≡ b → IsRelexed edited ls cuts begin.at begin.lexemes part kept
+    by_start e f b h =
+        subst (λ n. IsRelexed edited ls cuts n begin.lexemes part kept) (sym e) (subst (λ n. IsRelexed edited ls cuts 0 n part kept) (sym f) (go b h))
+      where
+        part_is : IsReadPart file edited part
+        part_is = subst (λ n. IsReadPart file (drop n edited) part) e is_part
+
+        up : AllByRecursion (λ (cut : Cut). cut.at ≤ 0) (take begin.cuts cuts)
+        up = subst (λ n. AllByRecursion (λ (cut : Cut). cut.at ≤ n) (take begin.cuts cuts)) e is.up_to
+
+        go : (b : Bool) → has ≡ b → IsRelexed edited ls cuts 0 0 part kept
+        go false h = subst (IsRelexed edited ls cuts 0 0 part) (sym (plain h ∙ rw (e, f) refl)) (relexed_start file old edited ls cuts part begin.cuts are up part_is)
+        go true h = subst (IsRelexed edited ls cuts 0 0 part) (sym (comments h (rw f refl) ∙ rw f refl)) (relexed_start file old edited ls cuts part 0 are tt part_is)
+
+    by_cut : IsCutOf old (record { at = begin.at; lexemes = begin.lexemes }) → IsRelexed edited ls cuts begin.at begin.lexemes part kept
+    by_cut cut = go has refl
+      where
+        front : take begin.at old ≡ take begin.at edited
+        front = sym (take_within begin.at from old is.before) ∙ ap (take begin.at) same ∙ take_within begin.at from edited is.before
+
+        within : begin.at ≤ length edited
+        within = omega (arith, is.before, inside)
+
+        has_of : has ≡ true → HasTab (margin_of (drop begin.at edited))
+        has_of h = let parts = and_parts (is_content (margin_of (drop begin.at edited)).remainder) (has_tab (margin_of (drop begin.at edited))) (sym tab_is ∙ h) in record { content = parts.0; is = parts.1 }
+
+        margin_of_it : has ≡ false → HasFirstMargin language (drop begin.at edited) ⊎ HasTab (margin_of (drop begin.at edited)) → HasFirstMargin language (drop begin.at edited)
+        margin_of_it h (inl margin) = margin
+        margin_of_it h (inr tabbed) = let both : true ≡ false = sym (tab_is ∙ rw (tabbed.content, tabbed.is) refl) ∙ h in cc
+
+        by_newline : has ≡ true → (found : Option ℕ) → last_newline_of (map lexeme_view (take begin.lexemes ls)) ≡ found → IsRelexed edited ls cuts begin.at begin.lexemes part kept
+        by_newline h None e = subst (IsRelexed edited ls cuts begin.at begin.lexemes part) (sym (comments h e)) (relexed_comments file old edited ls cuts part begin.at begin.lexemes lexed are cut front within is_part (has_of h) e)
+        by_newline h (Some last) e = relexed_line file old edited ls cuts part begin.at begin.lexemes lexed are cut front within is_part (has_of h) last kept e (line h last e)
+
+        go : (b : Bool) → has ≡ b → IsRelexed edited ls cuts begin.at begin.lexemes part kept
+        go false h = subst (IsRelexed edited ls cuts begin.at begin.lexemes part) (sym (plain h)) (relexed_cut file old edited ls cuts part begin.at begin.lexemes lexed are cut front within is_part begin.cuts is.up_to (all_nearer from begin.at (drop begin.cuts cuts) is.before is.beyond) (margin_of_it h (first_margin_is (drop begin.at edited))))
+        go true h = by_newline h (last_newline_of (map lexeme_view (take begin.lexemes ls))) refl
+
+    by : ((begin.at ≡ 0) × (begin.lexemes ≡ 0)) ⊎ IsCutOf old (record { at = begin.at; lexemes = begin.lexemes }) → IsRelexed edited ls cuts begin.at begin.lexemes part kept
+    by (inl start) = by_start start.0 start.1 has refl
+    by (inr cut) = by_cut cut
+
+-- whether the end is a clean cut
+pub end_cut_is : (file : SourceFile) (edited : Text) (at : ℕ) (part : PartView) (found : Bool) → at ≤ length edited → ((at ≡ 0) ⊎ (is_clean_cut (take at edited) ≡ true)) → IsReadPart file (drop at edited) part → found ≡ (part.is_cut || (length (drop at edited) == 0 && nat_lt 0 at)) → found ≡ is_clean_cut edited
+end_cut_is file edited at part found inside (inl start) is by = by ∙ ap (λ b. part.is_cut || (length (drop at edited) == 0 && b)) (ap (nat_lt 0) start) ∙ no_more part.is_cut (length (drop at edited) == 0) ∙ is.is_cut ∙ ap (λ n. is_clean_cut (drop n edited)) start
+  where
+    no_more : (a b : Bool) → (a || (b && false)) ≡ a
+    no_more true b = refl
+    no_more false true = refl
+    no_more false false = refl
+end_cut_is file edited at part found inside (inr clean) is by =
+    let some : 0 < at = omega (arith, some_cut (take at edited) clean, length-take at edited) in
+    cut_joined (take at edited) (drop at edited) found clean (by ∙ ap (λ b. part.is_cut || (length (drop at edited) == 0 && b)) (lt-ltb 0 at some) ∙ ap (λ b. part.is_cut || b) (and_true (length (drop at edited) == 0)) ∙ ap (λ b. b || length (drop at edited) == 0) is.is_cut) ∙ ap is_clean_cut (take-append-drop at edited)
+  where
+    and_true : (b : Bool) → (b && true) ≡ b
+    and_true true = refl
+    and_true false = refl
+
+pub begin_clean : (old edited : Text) (cuts : List Cut) (from : ℕ) (begin : Begin) → IsBegin old cuts from begin → take from old ≡ take from edited → (begin.at ≡ 0) ⊎ (is_clean_cut (take begin.at edited) ≡ true)
+begin_clean old edited cuts from begin is same = by is.stands
+  where
+    by : ((begin.at ≡ 0) × (begin.lexemes ≡ 0)) ⊎ IsCutOf old (record { at = begin.at; lexemes = begin.lexemes }) → (begin.at ≡ 0) ⊎ (is_clean_cut (take begin.at edited) ≡ true)
+    by (inl start) = inl start.0
+    by (inr cut) =
+        let front : take begin.at old ≡ take begin.at edited = sym (take_within begin.at from old is.before) ∙ ap (take begin.at) same ∙ take_within begin.at from edited is.before in
+        inr (ap is_clean_cut (sym front) ∙ (kept_parts old begin.at cut.is_kept).1)
+
+pub begin_kept : (old : Text) (cuts : List Cut) (from : ℕ) (begin : Begin) → IsBegin old cuts from begin → (begin.at ≡ 0) ⊎ (is_kept_cut old begin.at ≡ true)
+begin_kept old cuts from begin is = by is.stands
+  where
+    by : ((begin.at ≡ 0) × (begin.lexemes ≡ 0)) ⊎ IsCutOf old (record { at = begin.at; lexemes = begin.lexemes }) → (begin.at ≡ 0) ⊎ (is_kept_cut old begin.at ≡ true)
+    by (inl start) = inl start.0
+    by (inr cut) = inr cut.is_kept
+
+-- no kept cut lies between that place and the edit
+begin_greatest : (old : Text) (cuts : List Cut) (from : ℕ) (begin : Begin) → AreCuts old cuts → IsBegin old cuts from begin → (other : ℕ) → other ≤ from → is_kept_cut old other ≡ true → other ≤ begin.at
+begin_greatest old cuts from begin are is other less kept =
+    let found = held_as (λ (cut : Cut). cut.at ≤ begin.at) other (take begin.cuts cuts) (held_front other from begin.cuts cuts (are.all other kept) is.beyond less) is.up_to in
+    omega (arith, found.1, found.2)
+
+later_begins : (len : ℕ) (xs : List (ℕ × Token × ℕ)) → AllByRecursion (λ (lexeme : Spanned TokenView). len ≤ lexeme.begin) (map lexeme_view (map (later len) xs))
+later_begins len [] = tt
+later_begins len (x ∷ xs) = (omega arith, later_begins len xs)
+
+-- what was read, and which lexemes are old
+pub read_from : (old : LexedView) (edited : Text) (from : ℕ) (ls given : List (ℕ × Token × ℕ)) (cuts : List Cut) (begin : Begin) (lexed : LexedView) (kept : ℕ) → old.lexemes ≡ map lexeme_view ls → AreCuts old.text cuts → IsBegin old.text cuts from begin
+    → lexed.lexemes ≡ map lexeme_view (take kept ls ++ map (later begin.at) given) → lexed.reads ≤ 16 * (length edited - begin.at + 1) → (lexed.fault ≡ None → length edited - begin.at ≤ lexed.reads) → IsReadFrom old edited from lexed
+read_from old edited from ls given cuts begin lexed kept seen are is made most least = record {
+  at = begin.at;
+  before = is.before;
+  is_kept = begin_kept old.text cuts from begin is;
+  greatest = begin_greatest old.text cuts from begin are is;
+  most = most;
+  least = least;
+  kept = kept;
+  more = map lexeme_view (map (later begin.at) given);
+  lexemes = made ∙ map-append lexeme_view (take kept ls) (map (later begin.at) given) ∙ ap (λ vs. vs ++ map lexeme_view (map (later begin.at) given)) (sym (take-map lexeme_view kept ls) ∙ ap (take kept) (sym seen));
+  later = later_begins begin.at given;
+}

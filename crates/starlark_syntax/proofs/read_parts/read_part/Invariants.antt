@@ -1,0 +1,11 @@
+use Rattle.std.proofs.Common.{◌-◌, length}
+use Rattle.starlark_grammar.specs.Reading.{outcome}
+use Rattle.starlark_syntax.proofs.LexedTexts.Collected.{AreCutsSoFar, IsCollected}
+use Rattle.starlark_syntax.proofs.read_parts.read_part.Given as goal
+
+abbrev pub invariant-loop-item : goal.invariant-loop-item
+invariant-loop-item l =
+    record { collected : IsCollected l.fn.state.text.now l.fn.state.code_map l.state l.lexemes.items; cuts : AreCutsSoFar l.fn.state.text.now (length l.lexemes.items) l.cuts.items }
+
+abbrev pub decreases-loop-item : goal.decreases-loop-item
+decreases-loop-item l = length (outcome l.fn.state.text.now).lexemes - length l.lexemes.items

@@ -1,0 +1,54 @@
+-- A round of reading a body: a run, and after it an item or the stop.
+use Rattle.std.proofs.Common.{◌≡◌, ℕ, ◌+◌, ◌++◌, ◌≤◌, length, take, drop, ap, sym, subst, arith}
+use Rattle.std.proofs.lemmas.List.{length-drop}
+use Rattle.std.proofs.lemmas.Str.{IsUtf8-drop}
+use Rattle.std.specs.List.{prefix_len}
+use Rattle.std.specs.Str.{IsCharBoundary, IsUtf8}
+use Rattle.starlark_grammar.proofs.Order.Edges.{boundary_shift}
+use Rattle.starlark_grammar.specs.Items.{Literal, Item, Stop, Goes, Stops, found_at, body_at, body_len, body_value}
+use Rattle.starlark_grammar.specs.Words.{Text}
+use Rattle.starlark_words.proofs.LiteralBodies.BodyRuns.{front_run}
+use Rattle.starlark_words.proofs.LiteralBodies.BodySteps.{IsFront, front_more, front_stops, item_fits}
+use Rattle.starlark_words.proofs.LiteralBodies.ItemEdges.{item_edge}
+use Rattle.starlark_words.specs.Inner.PlainRuns.{is_in_run}
+
+-- After a run: the bytes so far, what they denote, and the rest, which begins between characters.
+pub record IsAfterRun (literal : Literal) (text : Text) (at : ℕ) (denoted rest : Text) : Type 0 where
+  pub front : IsFront literal text at denoted
+  pub here : IsCharBoundary text at
+  pub remainder : rest ≡ drop at text
+  pub utf8 : IsUtf8 rest
+
+pub after_run : (literal : Literal) (text rest : Text) (len : ℕ) (denoted run onward : Text) → IsUtf8 text → IsCharBoundary text len → IsFront literal text len denoted
+    → rest ≡ drop len text → run ≡ take (prefix_len (is_in_run literal) rest) rest → IsCharBoundary rest (length run) → onward ≡ drop (len + length run) text
+    → IsAfterRun literal text (len + length run) (denoted ++ run) onward
+after_run literal text rest len denoted run onward utf8 boundary front remainder same edge onward_is =
+    let here : IsCharBoundary text (len + length run) = boundary_shift text len (length run) boundary (subst (λ (t : Text). IsCharBoundary t (length run)) remainder edge) in
+    record {
+      front = front_run literal text rest len denoted run utf8 boundary front remainder same;
+      here = here;
+      remainder = onward_is;
+      utf8 = subst IsUtf8 (sym onward_is) (IsUtf8-drop text (len + length run) utf8 here);
+    }
+
+-- the item after a run has a byte and lies inside
+pub item_inside : (literal : Literal) (text : Text) (at : ℕ) (denoted rest : Text) (item : Item) → IsAfterRun literal text at denoted rest → found_at literal rest ≡ Goes item
+    → (1 ≤ item.len) × (at + item.len ≤ length text)
+item_inside literal text at denoted rest item after e =
+    let fits = item_fits literal rest item e in
+    (fits.0, omega (arith, fits.1, ap (λ (t : Text). length t) after.remainder, length-drop at text, after.front.inside))
+
+pub front_item : (literal : Literal) (text : Text) (at : ℕ) (denoted rest : Text) (item : Item) → IsAfterRun literal text at denoted rest → found_at literal rest ≡ Goes item
+    → IsFront literal text (at + item.len) (denoted ++ item.value)
+front_item literal text at denoted rest item after e =
+    front_more literal text at denoted item after.front (subst (λ (t : Text). found_at literal t ≡ Goes item) after.remainder e)
+
+pub item_boundary : (literal : Literal) (text : Text) (at : ℕ) (denoted rest : Text) (item : Item) → IsAfterRun literal text at denoted rest → found_at literal rest ≡ Goes item
+    → IsCharBoundary text (at + item.len)
+item_boundary literal text at denoted rest item after e =
+    boundary_shift text at item.len after.here (subst (λ (t : Text). IsCharBoundary t item.len) after.remainder (item_edge literal rest item after.utf8 e))
+
+pub run_stops : (literal : Literal) (text : Text) (at : ℕ) (denoted rest : Text) (stop : Stop) → IsAfterRun literal text at denoted rest → found_at literal rest ≡ Stops stop
+    → (at ≡ body_len (body_at literal text)) × (denoted ≡ body_value (body_at literal text)) × (stop ≡ (body_at literal text).stop)
+run_stops literal text at denoted rest stop after e =
+    front_stops literal text at denoted stop after.front (subst (λ (t : Text). found_at literal t ≡ Stops stop) after.remainder e)
