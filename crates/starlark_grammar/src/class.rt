@@ -120,53 +120,53 @@ macro_rules! terminals {
             ($($arguments)*)
             symbols {
                 1 {
-                    b"," "," Comma,
-                    b";" ";" Semicolon,
-                    b":" ":" Colon,
-                    b"=" "=" Equal,
-                    b"<" "<" LessThan,
-                    b">" ">" GreaterThan,
-                    b"-" "-" Minus,
-                    b"+" "+" Plus,
-                    b"*" "*" Star,
-                    b"%" "%" Percent,
-                    b"/" "/" Slash,
-                    b"." "." Dot,
-                    b"&" "&" Ampersand,
-                    b"|" "|" Pipe,
-                    b"^" "^" Caret,
-                    b"~" "~" Tilde,
-                    b"[" "[" OpeningSquare,
-                    b"{" "{" OpeningCurly,
-                    b"(" "(" OpeningRound,
-                    b"]" "]" ClosingSquare,
-                    b"}" "}" ClosingCurly,
-                    b")" ")" ClosingRound,
+                    [b','] "," Comma,
+                    [b';'] ";" Semicolon,
+                    [b':'] ":" Colon,
+                    [b'='] "=" Equal,
+                    [b'<'] "<" LessThan,
+                    [b'>'] ">" GreaterThan,
+                    [b'-'] "-" Minus,
+                    [b'+'] "+" Plus,
+                    [b'*'] "*" Star,
+                    [b'%'] "%" Percent,
+                    [b'/'] "/" Slash,
+                    [b'.'] "." Dot,
+                    [b'&'] "&" Ampersand,
+                    [b'|'] "|" Pipe,
+                    [b'^'] "^" Caret,
+                    [b'~'] "~" Tilde,
+                    [b'['] "[" OpeningSquare,
+                    [b'{'] "{" OpeningCurly,
+                    [b'('] "(" OpeningRound,
+                    [b']'] "]" ClosingSquare,
+                    [b'}'] "}" ClosingCurly,
+                    [b')'] ")" ClosingRound,
                 }
                 2 {
-                    b"+=" "+=" PlusEqual,
-                    b"-=" "-=" MinusEqual,
-                    b"*=" "*=" StarEqual,
-                    b"/=" "/=" SlashEqual,
-                    b"%=" "%=" PercentEqual,
-                    b"==" "==" EqualEqual,
-                    b"!=" "!=" BangEqual,
-                    b"<=" "<=" LessEqual,
-                    b">=" ">=" GreaterEqual,
-                    b"&=" "&=" AmpersandEqual,
-                    b"|=" "|=" PipeEqual,
-                    b"^=" "^=" CaretEqual,
-                    b"**" "**" StarStar,
-                    b"//" "//" SlashSlash,
-                    b"<<" "<<" LessLess,
-                    b">>" ">>" GreaterGreater,
-                    b"->" "->" MinusGreater,
+                    [b'+', b'='] "+=" PlusEqual,
+                    [b'-', b'='] "-=" MinusEqual,
+                    [b'*', b'='] "*=" StarEqual,
+                    [b'/', b'='] "/=" SlashEqual,
+                    [b'%', b'='] "%=" PercentEqual,
+                    [b'=', b'='] "==" EqualEqual,
+                    [b'!', b'='] "!=" BangEqual,
+                    [b'<', b'='] "<=" LessEqual,
+                    [b'>', b'='] ">=" GreaterEqual,
+                    [b'&', b'='] "&=" AmpersandEqual,
+                    [b'|', b'='] "|=" PipeEqual,
+                    [b'^', b'='] "^=" CaretEqual,
+                    [b'*', b'*'] "**" StarStar,
+                    [b'/', b'/'] "//" SlashSlash,
+                    [b'<', b'<'] "<<" LessLess,
+                    [b'>', b'>'] ">>" GreaterGreater,
+                    [b'-', b'>'] "->" MinusGreater,
                 }
                 3 {
-                    b"//=" "//=" SlashSlashEqual,
-                    b"<<=" "<<=" LessLessEqual,
-                    b">>=" ">>=" GreaterGreaterEqual,
-                    b"..." "..." Ellipsis,
+                    [b'/', b'/', b'='] "//=" SlashSlashEqual,
+                    [b'<', b'<', b'='] "<<=" LessLessEqual,
+                    [b'>', b'>', b'='] ">>=" GreaterGreaterEqual,
+                    [b'.', b'.', b'.'] "..." Ellipsis,
                 }
             }
             names {
@@ -216,7 +216,7 @@ macro_rules! terminals {
 #[macro_export]
 macro_rules! match_terminals {
     (($of:expr, $type:ident, $arm:ident, { $($arms:tt)* })
-    symbols { $($len:literal { $($bytes:literal $text:literal $symbol:ident,)* })* }
+    symbols { $($len:literal { $($bytes:tt $text:literal $symbol:ident,)* })* }
     names { $($name_len:literal {
         $($name:literal $word:literal $keyword:ident,)*;
         $($reserved:literal $reserved_text:literal),*
@@ -231,8 +231,8 @@ macro_rules! match_terminals {
 
 /// The rows of symbols, by length.
 macro_rules! symbol_rows {
-    (() symbols { $($len:literal { $($bytes:literal $text:literal $name:ident,)* })* } names $names:tt) => {
-        ($([$((*$bytes, Class::Fixed(Terminal::$name)),)*],)*)
+    (() symbols { $($len:literal { $($bytes:tt $text:literal $name:ident,)* })* } names $names:tt) => {
+        ($([$(($bytes, Class::Fixed(Terminal::$name)),)*],)*)
     };
 }
 

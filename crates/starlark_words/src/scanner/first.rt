@@ -2,8 +2,7 @@
 
 ghost use Rattle.std.specs.Prelude.{◌≡◌};
 ghost use Rattle.starlark_grammar.specs.Words as grammar;
-ghost use Rattle.starlark_grammar.specs.declared.class.TheConstants.{SYMBOLS};
-ghost use Rattle.starlark_words.specs.Inner.ScannedWords.{goes_on, has_byte_at, is_lone_mark, is_symbol};
+ghost use Rattle.starlark_words.specs.Inner.ScannedWords.{goes_on, is_lone_mark, is_symbol};
 
 use starlark_grammar::terminals;
 
@@ -16,19 +15,28 @@ const NAME: u8 = b'n';
 /// Is a symbol that begins longer ones.
 const SYMBOL: u8 = b's';
 
+/// Only a point goes on with it: `...`, `.5`.
+const POINT_GOES_ON: u8 = 1;
+
+/// Symbols go on with it.
+const SYMBOLS_GO_ON: u8 = 2;
+
 /// What begins with a byte, by the symbols of one byte and the longer ones.
 macro_rules! first_of {
     ($byte:literal { $($short:literal)* } { $($long:literal)* }) => {
         ($byte >= b'a' && $byte <= b'z' || $byte >= b'A' && $byte <= b'Z' || $byte == b'_') as u8 * NAME
             + ($byte == b'\n') as u8 * LONE_MARK
-            + (false $(|| $short[0] == $byte)*) as u8
-                * (LONE_MARK + (false $(|| $long[0] == $byte)*) as u8 * (SYMBOL - LONE_MARK))
+            + (false $(|| $short == $byte)*) as u8
+                * (LONE_MARK + (false $(|| $long == $byte)*) as u8 * (SYMBOL - LONE_MARK))
     };
 }
 
-/// Whether a symbol of two bytes ends in a byte.
-macro_rules! is_second {
-    ($byte:literal { $($symbol:literal)* }) => { false $(|| $symbol[1] == $byte)* };
+/// What goes on with a byte, by the bytes in which symbols of two bytes end.
+macro_rules! goes_on_of {
+    ($byte:literal { $($second:literal)* }) => {
+        (false $(|| $second == $byte)*) as u8 * SYMBOLS_GO_ON
+            + ($byte == b'.' || $byte >= b'0' && $byte <= b'9') as u8 * POINT_GOES_ON
+    };
 }
 
 /// An array with an entry for each byte.
@@ -62,25 +70,25 @@ macro_rules! for_bytes {
 /// What begins with each byte.
 macro_rules! first_table {
     (() symbols {
-        1 { $($one:literal $one_text:literal $one_name:ident,)* }
-        2 { $($two:literal $two_text:literal $two_name:ident,)* }
-        3 { $($three:literal $three_text:literal $three_name:ident,)* }
+        1 { $([$one:literal] $one_text:literal $one_name:ident,)* }
+        2 { $([$two:literal, $two_next:literal] $two_text:literal $two_name:ident,)* }
+        3 { $([$three:literal, $three_next:literal, $three_last:literal] $three_text:literal $three_name:ident,)* }
     } names $names:tt) => {
         for_bytes!(first_of { $($one)* } { $($two)* $($three)* })
     };
 }
 
-/// Whether a symbol of two bytes ends in each byte.
-macro_rules! second_table {
-    (() symbols { 1 $one:tt 2 { $($two:literal $text:literal $name:ident,)* } 3 $three:tt }
+/// What goes on with each byte.
+macro_rules! goes_on_table {
+    (() symbols { 1 $one:tt 2 { $([$first:literal, $second:literal] $text:literal $name:ident,)* } 3 $three:tt }
     names $names:tt) => {
-        for_bytes!(is_second { $($two)* })
+        for_bytes!(goes_on_of { $($second)* })
     };
 }
 
 static FIRST: [u8; 256] = terminals!(first_table!());
 
-static SECOND: [bool; 256] = terminals!(second_table!());
+static GOES_ON: [u8; 256] = terminals!(goes_on_table!());
 
 /// Whether a name may begin with the byte.
 #[inline(always)]
@@ -106,19 +114,13 @@ pub(crate) fn is_symbol(byte: u8) -> bool
     FIRST[byte as usize] == SYMBOL
 }
 
-/// Whether a symbol of two bytes ends in the byte.
-#[inline(always)]
-fn is_second(byte: u8) -> bool
-    ensures { result ≡ has_byte_at 1 byte SYMBOLS.1 }
-{
-    SECOND[byte as usize]
-}
-
-/// Whether a symbol may go on with the byte after it. Only a point goes on with a point or a digit:
-/// `...`, `.5`.
+/// Whether a symbol may go on with the byte after it.
+// Without jumps, by one table: it is part of the lexer's step, which the compiler inlines only up to
+// some length.
 #[inline(always)]
 pub(crate) fn goes_on(first: u8, next: u8) -> bool
     ensures { result ≡ goes_on first next }
 {
-    is_second(next) || first == b'.' && (next == b'.' || next.is_ascii_digit())
+    let after = GOES_ON[next as usize];
+    (after >= SYMBOLS_GO_ON) | (first == b'.') & (after == POINT_GOES_ON)
 }

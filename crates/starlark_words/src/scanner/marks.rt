@@ -25,10 +25,10 @@ macro_rules! match_symbols {
 
 /// A `match` on some symbols, after other arms.
 macro_rules! symbol_class {
-    ({ $($bytes:literal $text:literal $symbol:ident,)* } $of:expr, { $($arms:tt)* }) => {
+    ({ $([$($byte:literal),+] $text:literal $symbol:ident,)* } $of:expr, { $($arms:tt)* }) => {
         match $of {
             $($arms)*
-            $($bytes => Some(Class::Fixed(Terminal::$symbol)),)*
+            $(($($byte),+) => Some(Class::Fixed(Terminal::$symbol)),)*
             _ => None,
         }
     };
@@ -57,8 +57,8 @@ pub(crate) fn is_mark_alone(text: &[u8]) -> bool
 fn single(byte: u8) -> Option<Class>
     ensures { result ≡ class_in marks (byte ∷ []) }
 {
-    terminals!(match_symbols!(1, &[byte], {
-        b"\n" => Some(Class::LineEnd),
+    terminals!(match_symbols!(1, byte, {
+        b'\n' => Some(Class::LineEnd),
     }))
 }
 
@@ -68,9 +68,9 @@ fn single(byte: u8) -> Option<Class>
 fn double(first: u8, second: u8) -> Option<Class>
     ensures { result ≡ class_in marks (first ∷ second ∷ []) }
 {
-    terminals!(match_symbols!(2, &[first, second], {
-        b"\r\n" => Some(Class::LineEnd),
-        b"\\\n" => Some(Class::Skipped),
+    terminals!(match_symbols!(2, (first, second), {
+        (b'\r', b'\n') => Some(Class::LineEnd),
+        (b'\\', b'\n') => Some(Class::Skipped),
     }))
 }
 
@@ -80,8 +80,8 @@ fn double(first: u8, second: u8) -> Option<Class>
 fn triple(first: u8, second: u8, third: u8) -> Option<Class>
     ensures { result ≡ class_in marks (first ∷ second ∷ third ∷ []) }
 {
-    terminals!(match_symbols!(3, &[first, second, third], {
-        b"\\\r\n" => Some(Class::Skipped),
+    terminals!(match_symbols!(3, (first, second, third), {
+        (b'\\', b'\r', b'\n') => Some(Class::Skipped),
     }))
 }
 
