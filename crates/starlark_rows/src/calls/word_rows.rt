@@ -152,6 +152,28 @@ fn plain_lexemes(alloc: Global, text: &str) -> Answer {
     Ok(list)
 }
 
+/// Adds the offset where the text may be cut, before each item of a lexer and after the last one.
+fn add_cuts(list: &mut String, lexer: &mut Lexer<'_>) -> Result<(), AllocError> {
+    for _ in 0..u64::MAX {
+        match lexer.cut() {
+            Some(at) => write!(list, "{at}; ")?,
+            None => list.push_str("-; ")?,
+        }
+        if !pass_other(lexer)? {
+            break;
+        }
+    }
+    Ok(())
+}
+
+/// Where a text may be cut before each of its items, and after the last one.
+fn cuts(alloc: Global, text: &str) -> Answer {
+    let mut lexer = lexer(alloc, text, "f", text)?;
+    let mut list = String::new(alloc);
+    add_cuts(&mut list, &mut lexer)?;
+    Ok(list)
+}
+
 /// The answer to a call with a text.
 pub fn answer(alloc: Global, row: &Row) -> Answer {
     let text = row.text(2);
@@ -160,6 +182,7 @@ pub fn answer(alloc: Global, row: &Row) -> Answer {
         "lex_exactly_one_identifier" => shown(alloc, &lex_exactly_one_identifier(alloc, text)?),
         "lexemes" => lexemes(alloc, text, text),
         "lexemes_of_other_source" => lexemes(alloc, text, row.text(3)),
+        "cuts" => cuts(alloc, text),
         "plain_lexemes" => plain_lexemes(alloc, text),
         "lexemes_in_file" => lexemes_in(alloc, text, row.text(3), row.text(4)),
         _ => unknown(alloc, row),
