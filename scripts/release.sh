@@ -169,7 +169,7 @@ write_proof() {
         echo 'The kit compiled the proved calls and programs. Not proved, and compiled by others,'
         echo 'are bindings/c/empty_buffers.c, and for ARM bindings/c/allocator.c:'
         for tool in "${CC:-cc}" "${cross}gcc"; do
-            has "$tool" && echo "    $("$tool" --version | head -n 1)"
+            if has "$tool"; then echo "    $("$tool" --version | head -n 1)"; fi
         done
     } >"$output/PROVED.txt"
 }
