@@ -74,7 +74,7 @@ def compared():
     yield "faults", right, enumerators("FAULT_"), members(PACKAGE / "kinds.py", "FaultKind"), arms(RUST / "fault.rs", "FaultKind")
     yield "quotes", defined_quotes(), enumerators("QUOTES_"), members(PACKAGE / "kinds.py", "Quotes"), arms(RUST / "token.rs", "FStringQuote")
     status = r"pub const (\w+): u32 = (\d+);"
-    right = found(CRATE / "src/outcomes.rt", status)
+    right = found(CRATE / "src/outcomes.rt", status) + found(CRATE / "src/replies.rt", status)
     # The package is compiled over the header, and has no statuses of its own.
     yield "statuses", right, statuses(), right, found(RUST / "ffi.rs", r"const (\w+): u32 = (\d+);")
 

@@ -75,16 +75,21 @@ compile_header() {
 
 test_c() {
     compile_header
-    for test in stored_texts small_calls print_tokens; do
+    for test in stored_texts small_calls print_tokens edited_documents; do
         compile $test ''
     done
     compile refused_memory '-Wl,--wrap=malloc,--wrap=realloc'
+    compile refused_documents '-Wl,--wrap=malloc,--wrap=realloc,--wrap=free'
     printf 'C: '
     "$made/stored_texts" "$stored/stdin" "$stored/stdout"
     printf 'C: '
     "$made/small_calls"
     printf 'C: '
     "$made/refused_memory"
+    printf 'C: '
+    "$made/edited_documents"
+    printf 'C: '
+    "$made/refused_documents"
 }
 
 # Lints the crate for Rust, where clippy and rustfmt are there.

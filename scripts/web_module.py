@@ -104,11 +104,16 @@ def kept_module(kit_folder, work):
     return kept[0]
 
 
+# What bindings/web/heap.c can't have: it forgets all memory before each call, and documents keep some.
+LEFT_OUT = "starlark_document_"
+
+
 def exported():
     """The calls of the header, and what places buffers in the memory."""
     header = (TOP / "bindings/c/starlark_lex.h").read_text()
     calls = re.findall(r"^[a-z][\w ]*\b(starlark_\w+)\(", header, re.M)
-    return [f"--export={name}" for name in [*calls, "heap_begin", "__heap_base"]]
+    kept = [name for name in calls if not name.startswith(LEFT_OUT)]
+    return [f"--export={name}" for name in [*kept, "heap_begin", "__heap_base"]]
 
 
 def linked(kit_folder, work, module):

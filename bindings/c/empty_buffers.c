@@ -18,6 +18,15 @@ PROVED(starlark_move_place);
 PROVED(starlark_kind_name);
 PROVED(starlark_fault_code);
 PROVED(starlark_fault_message);
+PROVED(starlark_document_open);
+PROVED(starlark_document_edit);
+PROVED(starlark_document_lexemes);
+PROVED(starlark_document_faults);
+PROVED(starlark_document_text);
+PROVED(starlark_document_len);
+PROVED(starlark_document_place);
+PROVED(starlark_document_offset_at_utf16);
+PROVED(starlark_document_close);
 
 /* Aligned for each record. */
 static uint64_t nothing;
@@ -104,4 +113,60 @@ size_t starlark_fault_message(uint32_t kind, const uint8_t *named, size_t named_
 {
     return proved_starlark_fault_message(kind, input(named, named_len), named_len,
                                          output(message, message_cap), message_cap);
+}
+
+uint32_t starlark_document_open(starlark_document *document, const uint8_t *text, size_t text_len)
+{
+    return proved_starlark_document_open(document, input(text, text_len), text_len);
+}
+
+uint32_t starlark_document_edit(starlark_document *document, size_t begin, size_t end,
+                                const uint8_t *text, size_t text_len, starlark_change *change)
+{
+    return proved_starlark_document_edit(document, begin, end, input(text, text_len), text_len,
+                                         change);
+}
+
+uint32_t starlark_document_lexemes(starlark_document *document, size_t begin, size_t end,
+                                   starlark_lexeme *lexemes, size_t lexemes_cap, uint8_t *values,
+                                   size_t values_cap, starlark_recovered *outcome)
+{
+    return proved_starlark_document_lexemes(document, begin, end, output(lexemes, lexemes_cap),
+                                            lexemes_cap, output(values, values_cap), values_cap,
+                                            outcome);
+}
+
+uint32_t starlark_document_faults(starlark_document *document, size_t begin, size_t end,
+                                  uint8_t *values, size_t values_cap, starlark_found_fault *faults,
+                                  size_t faults_cap, starlark_recovered *outcome)
+{
+    return proved_starlark_document_faults(document, begin, end, output(values, values_cap),
+                                           values_cap, output(faults, faults_cap), faults_cap,
+                                           outcome);
+}
+
+uint32_t starlark_document_text(starlark_document *document, size_t begin, size_t end,
+                                uint8_t *text, size_t text_cap)
+{
+    return proved_starlark_document_text(document, begin, end, output(text, text_cap), text_cap);
+}
+
+size_t starlark_document_len(starlark_document *document)
+{
+    return proved_starlark_document_len(document);
+}
+
+bool starlark_document_place(starlark_document *document, size_t at, starlark_text_place *place)
+{
+    return proved_starlark_document_place(document, at, place);
+}
+
+size_t starlark_document_offset_at_utf16(starlark_document *document, size_t line, size_t column)
+{
+    return proved_starlark_document_offset_at_utf16(document, line, column);
+}
+
+void starlark_document_close(starlark_document *document)
+{
+    proved_starlark_document_close(document);
 }

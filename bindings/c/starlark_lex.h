@@ -1,8 +1,8 @@
 /* The proved lexer of Starlark, for C and C++.
  *
- * Each call fills buffers of its caller, keeps nothing after it returns, and allocates only memory
- * that it frees again. So calls may run at once in any number of threads, as long as no two of them
- * write into one buffer.
+ * Each call fills buffers of its caller. Only a starlark_document keeps memory after a call returns.
+ * So calls may run at once in any number of threads, as long as no two of them write into one
+ * buffer, or are given one document.
  *
  * A buffer is a pointer and its length: the number of its records, or of its bytes. With a length
  * of 0 the pointer may be NULL. No buffer has more than PTRDIFF_MAX bytes, which no allocation has.
@@ -132,8 +132,8 @@ enum starlark_quotes {
     STARLARK_QUOTES_TRIPLE_DOUBLE = 4
 };
 
-/* How lexing a text ended: what starlark_lex returns. starlark_lex_recovering returns some of them,
- * and says there what they mean. */
+/* How lexing a text ended: what starlark_lex returns. Other calls return some of them, and say there
+ * what they mean. */
 enum starlark_status {
     STARLARK_STATUS_WHOLE = 0,    /* the text has no fault, and the buffers have all its lexemes */
     STARLARK_STATUS_FAULT = 1,    /* the text has a fault; the buffers have all lexemes before it */
@@ -141,7 +141,11 @@ enum starlark_status {
                                      they have a piece of it, if `next` isn't 0 */
     STARLARK_STATUS_NOT_UTF8 = 3, /* the bytes are not UTF-8 */
     STARLARK_STATUS_TOO_LONG = 4, /* the text has more than 4294967295 bytes */
-    STARLARK_STATUS_MEMORY = 5    /* malloc or realloc returned NULL */
+    STARLARK_STATUS_MEMORY = 5,   /* malloc or realloc returned NULL */
+    STARLARK_STATUS_BAD_RANGE = 6, /* two offsets aren't in order, or one isn't a character boundary
+                                      of the document */
+    STARLARK_STATUS_CLOSED = 7,   /* no document is open */
+    STARLARK_STATUS_OPENED = 8    /* a document is open already */
 };
 
 /* A lexeme: 32 bytes without padding. */
@@ -214,6 +218,29 @@ typedef struct starlark_text_place {
     size_t utf16_column; /* how many units of UTF-16 these take */
 } starlark_text_place;
 
+/* A text that stays lexed while it is edited. Zero it before its first call:
+ *
+ *     starlark_document document = {0};
+ *
+ * It holds no document then; starlark_document_open opens one in it, and starlark_document_close
+ * frees it. The caller owns the struct, and neither writes to it nor uses a copy of it. One thread
+ * at a time may call with it. */
+typedef struct starlark_document {
+    void *inner;
+    bool is_full;
+} starlark_document;
+
+/* What an edit of a document changed. Before `begin` and after the ends all lexemes and faults are
+ * the old ones; those after are moved by new_end - old_end. */
+typedef struct starlark_change {
+    size_t begin;   /* start of the range in both texts */
+    size_t old_end; /* end of the range in the old text */
+    size_t new_end; /* end of the range in the new text */
+    size_t lexed;   /* how many bytes were given to the lexer */
+    size_t starts;  /* how often lexing started */
+    uint64_t reads; /* how many reads of bytes that took: at most 16 * (lexed + starts) */
+} starlark_change;
+
 #if defined(__cplusplus) && __cplusplus >= 201103L
 #define STARLARK_LEX_ASSERT(test) static_assert(test, #test)
 #elif defined(__STDC_VERSION__) && __STDC_VERSION__ >= 201112L
@@ -228,6 +255,8 @@ STARLARK_LEX_ASSERT(sizeof(starlark_outcome) == 72);
 STARLARK_LEX_ASSERT(sizeof(starlark_found_fault) == 40);
 STARLARK_LEX_ASSERT(sizeof(starlark_recovered) == 64);
 STARLARK_LEX_ASSERT(sizeof(starlark_text_place) == 24);
+STARLARK_LEX_ASSERT(sizeof(starlark_document) == 16);
+STARLARK_LEX_ASSERT(sizeof(starlark_change) == 48);
 #undef STARLARK_LEX_ASSERT
 
 /* The version of the library, as STARLARK_LEX_VERSION has that of the header. */
@@ -364,6 +393,73 @@ size_t starlark_fault_code(uint32_t kind, uint8_t *code, size_t code_cap);
  * that no fault has. */
 size_t starlark_fault_message(uint32_t kind, const uint8_t *named, size_t named_len,
                               uint8_t *message, size_t message_cap);
+
+/* What starlark_document_offset_at_utf16 returns where there is no offset. */
+#define STARLARK_NO_OFFSET SIZE_MAX
+
+/* Opens a document of a text, lexes it, and returns a status.
+ *
+ * With STARLARK_STATUS_WHOLE the document has this text. With any other status *document is as it
+ * was: STARLARK_STATUS_OPENED where it has a document already, STARLARK_STATUS_NOT_UTF8,
+ * STARLARK_STATUS_TOO_LONG or STARLARK_STATUS_MEMORY. */
+uint32_t starlark_document_open(starlark_document *document, const uint8_t *text, size_t text_len);
+
+/* Replaces the bytes from `begin` to `end` by a text, lexes what that touches, and returns a status.
+ *
+ * With STARLARK_STATUS_WHOLE the document has the new text, and *change says what changed. With any
+ * other status both are as they were: STARLARK_STATUS_CLOSED, STARLARK_STATUS_NOT_UTF8 where the new
+ * bytes are not, STARLARK_STATUS_BAD_RANGE, STARLARK_STATUS_TOO_LONG where the text would have more
+ * than 4294967295 bytes, or STARLARK_STATUS_MEMORY. */
+uint32_t starlark_document_edit(starlark_document *document, size_t begin, size_t end,
+                                const uint8_t *text, size_t text_len, starlark_change *change);
+
+/* Fills two buffers with the lexemes that touch the range from `begin` to `end`, says in *outcome
+ * how that ended, and returns its status. A lexeme touches it that ends at `begin` or later, and
+ * begins at `end` or earlier; so 0 and SIZE_MAX are a range of all.
+ *
+ * With STARLARK_STATUS_WHOLE the buffers have the records of all of them, in order, and their
+ * values, one after another. Offsets count from the first byte of the document; `next` is 0. With
+ * STARLARK_STATUS_FULL some buffer has no room for all, and the outcome says how much is wanted. The
+ * buffers have the lexemes before the first that has no room. With STARLARK_STATUS_CLOSED they are
+ * as they were. The call allocates nothing.
+ *
+ * After an edit the lexemes that touched the old range of its change are to be replaced by those
+ * that touch the new one. */
+uint32_t starlark_document_lexemes(starlark_document *document, size_t begin, size_t end,
+                                   starlark_lexeme *lexemes, size_t lexemes_cap,
+                                   uint8_t *values, size_t values_cap,
+                                   starlark_recovered *outcome);
+
+/* Fills two buffers with the faults that touch the range from `begin` to `end`: the texts that they
+ * name, one after another, and a record for each. All else is as of starlark_document_lexemes. In
+ * the records `lexemes_before` is 0. */
+uint32_t starlark_document_faults(starlark_document *document, size_t begin, size_t end,
+                                  uint8_t *values, size_t values_cap,
+                                  starlark_found_fault *faults, size_t faults_cap,
+                                  starlark_recovered *outcome);
+
+/* Writes the bytes from `begin` to `end` into a buffer, and returns a status.
+ *
+ * With STARLARK_STATUS_WHOLE the buffer begins with them. With any other status it is as it was:
+ * STARLARK_STATUS_FULL where it has no room, STARLARK_STATUS_BAD_RANGE, STARLARK_STATUS_MEMORY or
+ * STARLARK_STATUS_CLOSED. */
+uint32_t starlark_document_text(starlark_document *document, size_t begin, size_t end,
+                                uint8_t *text, size_t text_cap);
+
+/* Returns the length of the text in bytes; 0 where no document is open. */
+size_t starlark_document_len(starlark_document *document);
+
+/* Tells the line and columns of an offset in *place, and returns true. Where the offset is no
+ * character boundary of the text, or no document is open, it returns false, and *place is as it
+ * was. It reads one segment of the text, of some 1 to 4 KB. */
+bool starlark_document_place(starlark_document *document, size_t at, starlark_text_place *place);
+
+/* Returns the offset of a line and a column in units of UTF-16, both from 0, or STARLARK_NO_OFFSET
+ * where no character boundary is there, or no document is open. */
+size_t starlark_document_offset_at_utf16(starlark_document *document, size_t line, size_t column);
+
+/* Frees the document, if one is open. Then *document holds none, and may be opened again. */
+void starlark_document_close(starlark_document *document);
 
 #ifdef __cplusplus
 }

@@ -43,7 +43,7 @@ setup(
     ext_modules=[
         Extension(
             "starlark_lexer.library",
-            sources=["src/" + name for name in ("columns.c", "library.c", "maker.c", "pieces.c", "texts.c", "tokens.c")],
+            sources=["src/" + name for name in ("columns.c", "document.c", "library.c", "maker.c", "pieces.c", "texts.c", "tokens.c")],
             depends=["src/library.h"],
             extra_compile_args=["-std=c11", "-g0", "-fvisibility=hidden", "-Wall", "-Wextra"],
             extra_link_args=["-Wl,--exclude-libs,ALL", "-Wl,--gc-sections", "-Wl,-z,relro,-z,now"],

@@ -294,6 +294,16 @@ static bool is_usable(void)
     return true;
 }
 
+/* Adds a type to the module. Returns 0, or -1 with an exception set. */
+static int add_type(PyObject *module, const char *name, PyObject *type)
+{
+    Py_INCREF(type);
+    if (PyModule_AddObject(module, name, type) == 0)
+        return 0;
+    Py_DECREF(type);
+    return -1;
+}
+
 static int library_exec(PyObject *module)
 {
     static const char tokens[] = "starlark_lexer.tokens";
@@ -304,18 +314,16 @@ static int library_exec(PyObject *module)
         || fetch(&state->token_class, tokens, "Token") < 0
         || fetch(&state->fault_class, tokens, "Fault") < 0
         || fetch(&state->fault_error, tokens, "StarlarkFault") < 0
+        || fetch(&state->change_class, tokens, "Change") < 0
         || fetch(&state->integer_of_digits, tokens, "integer_of_digits") < 0
         || fetch_tuple_new(state) < 0)
         return -1;
     state->tokens_type = new_tokens_type();
     state->columns_type = state->tokens_type == NULL ? NULL : new_columns_type();
-    if (state->columns_type == NULL)
+    state->document_type = state->columns_type == NULL ? NULL : new_document_type(module);
+    if (state->document_type == NULL || add_type(module, "Columns", state->columns_type) < 0)
         return -1;
-    Py_INCREF(state->columns_type);
-    if (PyModule_AddObject(module, "Columns", state->columns_type) == 0)
-        return 0;
-    Py_DECREF(state->columns_type);
-    return -1;
+    return add_type(module, "Document", state->document_type);
 }
 
 /* Calls a function for each object of the state, and returns its first result that isn't 0. */
@@ -337,6 +345,8 @@ static int library_traverse(PyObject *module, visitproc visit, void *arg)
     Py_VISIT(state->integer_of_digits);
     Py_VISIT(state->tokens_type);
     Py_VISIT(state->columns_type);
+    Py_VISIT(state->document_type);
+    Py_VISIT(state->change_class);
     int stopped = visit_members(state->kinds, KINDS, visit, arg);
     if (stopped == 0)
         stopped = visit_members(state->fault_kinds, FAULT_KINDS, visit, arg);
@@ -354,6 +364,8 @@ static int library_clear(PyObject *module)
     Py_CLEAR(state->integer_of_digits);
     Py_CLEAR(state->tokens_type);
     Py_CLEAR(state->columns_type);
+    Py_CLEAR(state->document_type);
+    Py_CLEAR(state->change_class);
     for (int number = 0; number < KINDS; number++)
         Py_CLEAR(state->kinds[number]);
     for (int number = 0; number < FAULT_KINDS; number++)

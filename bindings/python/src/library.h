@@ -20,12 +20,14 @@ typedef struct library_state {
     PyObject *token_class;
     PyObject *fault_class;
     PyObject *fault_error;
+    PyObject *change_class;
     PyObject *integer_of_digits; /* the function for integers of more than 32 bits */
     PyObject *kinds[KINDS];      /* the entry 0 is NULL, as in the two below */
     PyObject *fault_kinds[FAULT_KINDS];
     PyObject *quotes[QUOTES];
     PyObject *tokens_type;
     PyObject *columns_type;
+    PyObject *document_type;
     newfunc tuple_new; /* makes an instance of a subclass of tuple */
 } library_state;
 
@@ -72,6 +74,10 @@ int pieces_advance(pieces *of);
 /* Frees the buffers. */
 void pieces_end(pieces *of);
 
+/* Gives the buffers room for a number of items each, and forgets what they have. Returns 0, or -1
+ * with MemoryError set. */
+int pieces_make_room(pieces *of, size_t lexemes, size_t values, size_t faults);
+
 /* A place in a text, which moves on. */
 typedef struct cursor {
     const uint8_t *start;
@@ -98,6 +104,7 @@ typedef struct maker {
     const library_state *state;
     const uint8_t *start;
     size_t len;
+    size_t base; /* the spans count from so many bytes before the text */
     cursor tokens;
     cursor faults;
     PyObject *fields;    /* the fields of the last token */
@@ -140,12 +147,16 @@ library_state *state_of(PyObject *module);
 /* Raises TypeError: only a call of the library makes an object of its types. */
 PyObject *new_refused(PyTypeObject *type, PyObject *arguments, PyObject *keywords);
 
-/* The types of iterators of tokens, and of columns. NULL with an exception set. */
+/* The types of iterators of tokens, of columns, and of documents. NULL with an exception set. */
 PyObject *new_tokens_type(void);
 PyObject *new_columns_type(void);
+PyObject *new_document_type(PyObject *module);
 
 /* An iterator of the tokens of a text. NULL with an exception set. */
 PyObject *tokens_new(PyObject *module, PyObject *source, bool is_recovering);
+
+/* A document of a text. NULL with an exception set. */
+PyObject *document_new(PyObject *module, PyObject *source);
 
 /* The columns of a text. NULL with an exception set. */
 PyObject *columns_new(PyObject *module, PyObject *source, bool is_recovering);

@@ -227,7 +227,7 @@ PyObject *maker_token(maker *of, const pieces *piece, const starlark_lexeme *lex
     size_t begin = piece->from + lexeme->begin, end = piece->from + lexeme->end;
     if (fill_front(of, lexeme->kind, begin, end) < 0
         || set_field(of->fields, VALUE, token_value(of, piece, lexeme, begin)) < 0
-        || set_field(of->fields, SPAN, pair_of(begin, end)) < 0)
+        || set_field(of->fields, SPAN, pair_of(of->base + begin, of->base + end)) < 0)
         return NULL;
     return untracked(
         of->state->tuple_new((PyTypeObject *)of->state->token_class, of->arguments, NULL));
@@ -262,7 +262,7 @@ static int fill_fault(PyObject *fields, maker *of, const pieces *piece,
         || set_field(fields, FAULT_MESSAGE, message_of(fault->kind, named, fault->value_len)) < 0
         || set_field(fields, FAULT_START, place_of(&of->faults)) < 0
         || set_field(fields, FAULT_LINE, str_of(of->start + line_begin, line_end - line_begin)) < 0
-        || set_field(fields, FAULT_SPAN, pair_of(begin, end)) < 0
+        || set_field(fields, FAULT_SPAN, pair_of(of->base + begin, of->base + end)) < 0
         || cursor_move(&of->faults, end) < 0)
         return -1;
     return set_field(fields, FAULT_END, place_of(&of->faults));

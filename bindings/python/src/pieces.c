@@ -44,8 +44,7 @@ static int make_room(void **buffer, size_t *cap, size_t wanted, size_t item)
     return 0;
 }
 
-/* Gives all buffers room. Returns 0, or -1 with MemoryError set. */
-static int make_all_room(pieces *of, size_t lexemes, size_t values, size_t faults)
+int pieces_make_room(pieces *of, size_t lexemes, size_t values, size_t faults)
 {
     of->lexemes_len = of->values_len = of->faults_len = 0;
     if (make_room((void **)&of->lexemes, &of->lexemes_cap, lexemes, sizeof *of->lexemes) < 0
@@ -142,7 +141,7 @@ static int make_wanted_room(pieces *of, const ending *ended)
     if (ended->wanted_lexemes <= of->lexemes_cap && ended->wanted_values <= of->values_cap
         && ended->wanted_faults <= of->faults_cap)
         return refuse(ended->status);
-    return make_all_room(of, ended->wanted_lexemes, ended->wanted_values, ended->wanted_faults);
+    return pieces_make_room(of, ended->wanted_lexemes, ended->wanted_values, ended->wanted_faults);
 }
 
 /* Whether lexing ends at the fault of a front, whatever follows the front. */
@@ -158,7 +157,7 @@ static int try_piece(pieces *of, size_t len)
 {
     bool is_rest = len == of->len - of->next;
     size_t faults = is_rest && of->is_recovering ? len / 64 + 16 : 1;
-    if (make_all_room(of, len / 2 + 16, len + 16, faults) < 0)
+    if (pieces_make_room(of, len / 2 + 16, len + 16, faults) < 0)
         return -1;
     ending ended =
         is_rest && of->is_recovering ? lex_recovering(of, len) : lex_to_fault(of, len, is_rest);

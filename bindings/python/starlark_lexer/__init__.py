@@ -12,13 +12,21 @@ A text is a `str`, or `bytes` in UTF-8. `tokenize` yields its tokens, and raises
 
 `faults` returns all faults, and `lex_all` both. `lex_columns` makes no object for each token. Nothing
 is shared between two calls, so they may run in any number of threads.
+
+A `Document` is a text that stays lexed while it is edited. Its offsets count bytes:
+
+    >>> from starlark_lexer import Document
+    >>> with Document("x = 'a\\n") as document:
+    ...     change = document.edit(6, 6, "'")
+    ...     len(document.faults()), [token.string for token in document.tokens(change.start, change.new_end)]
+    (0, ['x', '=', "'a'", '\\n', ''])
 """
 
 from .kinds import FaultKind, Kind, Quotes
-from .tokens import Fault, StarlarkFault, Token, Value
+from .tokens import Change, Fault, StarlarkFault, Token, Value
 
 try:
-    from .library import Columns, faults, lex, lex_all, lex_columns, tokenize
+    from .library import Columns, Document, faults, lex, lex_all, lex_columns, tokenize
 except ImportError as error:
     raise ImportError(
         "starlark_lexer lacks its extension module for this system: install the package's wheel, or "
@@ -28,7 +36,9 @@ except ImportError as error:
 __version__ = "0.2.0"
 
 __all__ = [
+    "Change",
     "Columns",
+    "Document",
     "Fault",
     "FaultKind",
     "Kind",

@@ -46,6 +46,22 @@ class Fault(NamedTuple):
         return f"SL{int(self.type):03}"
 
 
+class Change(NamedTuple):
+    """What an edit of a document changed, in bytes.
+
+    Before `start` and after the ends all tokens and faults are the old ones; those after are moved by
+    `new_end - old_end`. `lexed` bytes were given to the lexer, which started `starts` times, and made
+    `reads` reads of bytes.
+    """
+
+    start: int
+    old_end: int
+    new_end: int
+    lexed: int
+    starts: int
+    reads: int
+
+
 class StarlarkFault(ValueError):
     """A text has a fault: `fault` has it."""
 

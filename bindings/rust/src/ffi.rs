@@ -2,8 +2,12 @@
 //!
 //! All `unsafe` of the crate is here. What leaves this module is safe for every argument.
 
-use crate::Place;
+use crate::{Change, EditError, Place, TooLong};
 use std::alloc::{handle_alloc_error, Layout};
+use std::cell::UnsafeCell;
+use std::ffi::c_void;
+use std::ops::Range;
+use std::ptr;
 
 /// A lexeme: a `starlark_lexeme` of the header, which says what each field holds.
 #[repr(C)]
@@ -82,6 +86,25 @@ struct TextPlace {
     utf16_column: usize,
 }
 
+/// A `starlark_document` of the header.
+#[repr(C)]
+struct RawDocument {
+    inner: *mut c_void,
+    is_full: bool,
+}
+
+/// A `starlark_change` of the header.
+#[repr(C)]
+#[derive(Default)]
+struct ChangeRecord {
+    begin: usize,
+    old_end: usize,
+    new_end: usize,
+    lexed: usize,
+    starts: usize,
+    reads: u64,
+}
+
 /// How many bytes of a text have room for one fault at first.
 const BYTES_A_FAULT: usize = 64;
 
@@ -91,6 +114,12 @@ const FULL: u32 = 2;
 const NOT_UTF8: u32 = 3;
 const TOO_LONG: u32 = 4;
 const MEMORY: u32 = 5;
+const BAD_RANGE: u32 = 6;
+const CLOSED: u32 = 7;
+const OPENED: u32 = 8;
+
+/// What tells that a document has no such place.
+const NO_OFFSET: usize = usize::MAX;
 
 extern "C" {
     fn starlark_lex(
@@ -142,6 +171,63 @@ extern "C" {
         message: *mut u8,
         message_cap: usize,
     ) -> usize;
+
+    fn starlark_document_open(document: *mut RawDocument, text: *const u8, text_len: usize) -> u32;
+
+    fn starlark_document_edit(
+        document: *mut RawDocument,
+        begin: usize,
+        end: usize,
+        text: *const u8,
+        text_len: usize,
+        change: *mut ChangeRecord,
+    ) -> u32;
+
+    fn starlark_document_lexemes(
+        document: *mut RawDocument,
+        begin: usize,
+        end: usize,
+        lexemes: *mut LexemeRecord,
+        lexemes_cap: usize,
+        values: *mut u8,
+        values_cap: usize,
+        outcome: *mut Recovered,
+    ) -> u32;
+
+    fn starlark_document_faults(
+        document: *mut RawDocument,
+        begin: usize,
+        end: usize,
+        values: *mut u8,
+        values_cap: usize,
+        faults: *mut FaultRecord,
+        faults_cap: usize,
+        outcome: *mut Recovered,
+    ) -> u32;
+
+    fn starlark_document_text(
+        document: *mut RawDocument,
+        begin: usize,
+        end: usize,
+        text: *mut u8,
+        text_cap: usize,
+    ) -> u32;
+
+    fn starlark_document_len(document: *mut RawDocument) -> usize;
+
+    fn starlark_document_place(
+        document: *mut RawDocument,
+        at: usize,
+        place: *mut TextPlace,
+    ) -> bool;
+
+    fn starlark_document_offset_at_utf16(
+        document: *mut RawDocument,
+        line: usize,
+        column: usize,
+    ) -> usize;
+
+    fn starlark_document_close(document: *mut RawDocument);
 
     #[cfg(test)]
     fn starlark_kind_name(kind: u32, name: *mut u8, name_cap: usize) -> usize;
@@ -312,38 +398,44 @@ impl Buffers {
     /// The text has at most `u32::MAX` bytes. Where memory runs out the process aborts, as it does
     /// where a `Vec` gets none.
     pub(crate) fn lex_recovering(&mut self, text: &str) {
-        self.clear();
         self.faults.reserve(text.len() / BYTES_A_FAULT + 16);
-        if let Err(wanted) = self.try_lex_recovering(text) {
+        // SAFETY: `text` is readable for its length, and the three buffers are writable for their
+        // capacities, which are numbers of records and bytes. The call reads nothing of them.
+        // The five are different memory, no pointer is null, and all live until the call returns.
+        self.fill(|buffers, outcome| unsafe {
+            starlark_lex_recovering(
+                text.as_ptr(),
+                text.len(),
+                buffers.lexemes.as_mut_ptr(),
+                buffers.lexemes.capacity(),
+                buffers.values.as_mut_ptr(),
+                buffers.values.capacity(),
+                buffers.faults.as_mut_ptr(),
+                buffers.faults.capacity(),
+                outcome,
+            );
+        });
+    }
+
+    /// Fills the buffers by a call that writes into them, and tells in an outcome what it wrote. They
+    /// grow where the call wants more room.
+    fn fill(&mut self, call: impl Fn(&mut Buffers, &mut Recovered)) {
+        if let Err(wanted) = self.try_fill(&call) {
             *self = wanted;
-            let is_whole = self.try_lex_recovering(text).is_ok();
+            let is_whole = self.try_fill(&call).is_ok();
             assert!(is_whole, "the library wants more room than it told");
         }
     }
 
-    /// Lexes a text on after its faults into the buffers, which have nothing, if they have room.
+    /// Fills the buffers by such a call, if they have room.
     ///
     /// # Errors
     ///
-    /// Empty buffers with the room that the text needs, where these have too little.
-    fn try_lex_recovering(&mut self, text: &str) -> Result<(), Buffers> {
+    /// Empty buffers with the room that is wanted, where these have too little.
+    fn try_fill(&mut self, call: &impl Fn(&mut Buffers, &mut Recovered)) -> Result<(), Buffers> {
         let mut outcome = Recovered::default();
-        // SAFETY: `text` is readable for its length, and the three buffers are writable for their
-        // capacities, which are numbers of records and bytes. The call reads nothing of them.
-        // The five are different memory, no pointer is null, and all live until the call returns.
-        unsafe {
-            starlark_lex_recovering(
-                text.as_ptr(),
-                text.len(),
-                self.lexemes.as_mut_ptr(),
-                self.lexemes.capacity(),
-                self.values.as_mut_ptr(),
-                self.values.capacity(),
-                self.faults.as_mut_ptr(),
-                self.faults.capacity(),
-                &mut outcome,
-            );
-        }
+        self.clear();
+        call(self, &mut outcome);
         if let Some(wanted) = outcome.wanted() {
             return Err(wanted);
         }
@@ -409,6 +501,159 @@ impl Recovered {
             NOT_UTF8 | TOO_LONG => unreachable!("a `str` is UTF-8, and its length was tested"),
             status => unreachable!("the library has no status {status} after faults"),
         }
+    }
+}
+
+/// A document of the library, which is always open.
+pub(crate) struct OpenDocument(UnsafeCell<RawDocument>);
+
+// SAFETY: the document owns all that its pointer leads to, and the library keeps nothing of it apart.
+// It isn't `Sync`, since each call writes to it: the cell sees to that.
+unsafe impl Send for OpenDocument {}
+
+impl OpenDocument {
+    /// A document of a text.
+    pub(crate) fn new(text: &str) -> Result<Self, TooLong> {
+        let mut raw = RawDocument {
+            inner: ptr::null_mut(),
+            is_full: false,
+        };
+        // SAFETY: `raw` holds no document, and `text` is readable for its length.
+        match unsafe { starlark_document_open(&mut raw, text.as_ptr(), text.len()) } {
+            WHOLE => Ok(OpenDocument(UnsafeCell::new(raw))),
+            TOO_LONG => Err(TooLong),
+            MEMORY => handle_alloc_error(Layout::new::<RawDocument>()),
+            NOT_UTF8 | OPENED => unreachable!("a `str` is UTF-8, and the document is new"),
+            status => unreachable!("the library has no status {status} of opening"),
+        }
+    }
+
+    /// Replaces a range of the text.
+    pub(crate) fn edit(&mut self, range: Range<usize>, text: &str) -> Result<Change, EditError> {
+        let mut change = ChangeRecord::default();
+        // SAFETY: the document is open and borrowed for this call alone, `text` is readable for its
+        // length, and `change` is writable and other memory.
+        let status = unsafe {
+            starlark_document_edit(
+                self.0.get(),
+                range.start,
+                range.end,
+                text.as_ptr(),
+                text.len(),
+                &mut change,
+            )
+        };
+        match status {
+            WHOLE => Ok(Change {
+                begin: change.begin,
+                old_end: change.old_end,
+                new_end: change.new_end,
+                lexed: change.lexed,
+                starts: change.starts,
+                reads: change.reads,
+            }),
+            BAD_RANGE => Err(EditError::BadRange),
+            TOO_LONG => Err(EditError::TooLong),
+            MEMORY => handle_alloc_error(Layout::new::<RawDocument>()),
+            NOT_UTF8 | CLOSED => unreachable!("a `str` is UTF-8, and the document is open"),
+            status => unreachable!("the library has no status {status} of an edit"),
+        }
+    }
+
+    /// Fills buffers with the lexemes that touch a range. They grow where they have no room.
+    pub(crate) fn lexemes(&self, range: Range<usize>, buffers: &mut Buffers) {
+        // SAFETY: the document is open. No other call has it: it isn't `Sync`, and no call of the
+        // library calls back.
+        buffers.fill(|buffers, outcome| unsafe {
+            starlark_document_lexemes(
+                self.0.get(),
+                range.start,
+                range.end,
+                buffers.lexemes.as_mut_ptr(),
+                buffers.lexemes.capacity(),
+                buffers.values.as_mut_ptr(),
+                buffers.values.capacity(),
+                outcome,
+            );
+        });
+    }
+
+    /// Fills buffers with the faults that touch a range. They grow where they have no room.
+    pub(crate) fn faults(&self, range: Range<usize>, buffers: &mut Buffers) {
+        // SAFETY: as in `lexemes`.
+        buffers.fill(|buffers, outcome| unsafe {
+            starlark_document_faults(
+                self.0.get(),
+                range.start,
+                range.end,
+                buffers.values.as_mut_ptr(),
+                buffers.values.capacity(),
+                buffers.faults.as_mut_ptr(),
+                buffers.faults.capacity(),
+                outcome,
+            );
+        });
+    }
+
+    /// A part of the text. `None` where the range isn't one of it.
+    pub(crate) fn text(&self, range: Range<usize>) -> Option<String> {
+        let len = range.end.checked_sub(range.start)?;
+        if range.end > self.len() {
+            return None;
+        }
+        let mut text: Vec<u8> = Vec::with_capacity(len);
+        // SAFETY: the document is open, as in `lexemes`, and `text` is writable for its capacity.
+        let status = unsafe {
+            starlark_document_text(
+                self.0.get(),
+                range.start,
+                range.end,
+                text.as_mut_ptr(),
+                text.capacity(),
+            )
+        };
+        match status {
+            WHOLE => {
+                // SAFETY: the call wrote as many bytes as the range has.
+                unsafe { text.set_len(len) };
+                Some(String::from_utf8(text).expect("a part of a document is UTF-8"))
+            }
+            BAD_RANGE => None,
+            MEMORY => handle_alloc_error(Layout::new::<RawDocument>()),
+            status => unreachable!("the library has no status {status} for room enough"),
+        }
+    }
+
+    /// Length of the text in bytes.
+    pub(crate) fn len(&self) -> usize {
+        // SAFETY: the document is open, as in `lexemes`.
+        unsafe { starlark_document_len(self.0.get()) }
+    }
+
+    /// The place of an offset. `None` where it is no character boundary of the text.
+    pub(crate) fn place(&self, at: usize) -> Option<Place> {
+        let mut place = TextPlace::default();
+        // SAFETY: the document is open, as in `lexemes`, and `place` is writable and other memory.
+        let is_told = unsafe { starlark_document_place(self.0.get(), at, &mut place) };
+        is_told.then_some(Place {
+            line: place.line,
+            column: place.column,
+            utf16_column: place.utf16_column,
+        })
+    }
+
+    /// The offset of a line and a column in units of UTF-16, if a character boundary is there.
+    pub(crate) fn offset_at_utf16(&self, line: usize, column: usize) -> Option<usize> {
+        // SAFETY: the document is open, as in `lexemes`.
+        let at = unsafe { starlark_document_offset_at_utf16(self.0.get(), line, column) };
+        (at != NO_OFFSET).then_some(at)
+    }
+}
+
+impl Drop for OpenDocument {
+    fn drop(&mut self) {
+        // SAFETY: the document is open, and nothing calls with it after this.
+        unsafe { starlark_document_close(self.0.get()) }
     }
 }
 

@@ -2,7 +2,8 @@
 //!
 //! A [`Lexer`] yields the lexemes of a text: each has a [`TokenKind`], a [`Span`] and a value, and
 //! makes its [`Token`] when it is asked for. The first [`Fault`] ends it. A [`RecoveringLexer`] goes on
-//! after faults. A [`LineIndex`] tells the line and columns of an offset.
+//! after faults. A [`LineIndex`] tells the line and columns of an offset. A [`Document`] is a text that
+//! stays lexed while it is edited.
 //!
 //! ```
 //! use starlark_lexer::{Lexer, LineIndex, TokenKind};
@@ -34,6 +35,7 @@
 #![deny(unsafe_op_in_unsafe_fn)]
 #![warn(missing_docs)]
 
+mod document;
 mod fault;
 #[allow(unsafe_code)]
 mod ffi;
@@ -47,6 +49,7 @@ mod span;
 mod token;
 mod value;
 
+pub use crate::document::{Change, Document, DocumentFaults, DocumentLexemes, EditError};
 pub use crate::fault::{Fault, FaultKind, TooLong};
 pub use crate::lexeme::Lexeme;
 pub use crate::lexer::Lexer;

@@ -11,11 +11,17 @@
 -- FaultNumbers: where lexing begins again, by the numbers of a fault.
 -- AddedItems: what belongs to items, one after another.
 -- Recovered: how lexing a text on after its faults ends, by the items that are done and left.
+-- TouchingItems: the lexemes and faults of a document that touch a range.
+-- Offsets: the offset that is told of a line and a column.
+-- LooseValues, HandleValues, Running: machine values of handles, for their proofs by hand.
 -- MovedPlaces: places that are moved along a text.
 -- FinalFaults: faults of fronts that are final.
 -- ItemBounds: what an item of a literal denotes has no more bytes than the item.
 -- ValueBounds: a text's values have no more bytes than the text.
 -- Bounds: what an outcome tells of a text is bounded by the text's length.
+pub mod Running
+pub mod LooseValues
+pub mod HandleValues
 pub mod YieldedItems
 pub mod Filled
 pub mod CutTexts
@@ -28,6 +34,8 @@ pub mod ErrorMessages
 pub mod FaultNumbers
 pub mod AddedItems
 pub mod Recovered
+pub mod TouchingItems
+pub mod Offsets
 pub mod MovedPlaces
 pub mod FinalFaults
 pub mod ItemBounds

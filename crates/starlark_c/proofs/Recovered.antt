@@ -107,13 +107,13 @@ recovers_memory text left before now filled is inv =
     (is, record { count = count; few = omega (arith, ap length inv.is, length-append inv.done left); have = rw front inv.have })
 
 -- where one item more has no room, all items have none
-lacking : (all xs : List LexerItem) (before now : Contents) (filled least wanted : Counts) → IsNeed all least wanted → AreFilled (contents xs) before now filled → LackRoom least now → LackRoom (counts_of (contents all)) before
+pub lacking : (all xs : List LexerItem) (before now : Contents) (filled least wanted : Counts) → IsNeed all least wanted → AreFilled (contents xs) before now filled → LackRoom least now → LackRoom (counts_of (contents all)) before
 lacking all xs before now filled least wanted needs held (inl short) = inl (omega (arith, short, needs.lexemes, begun_len (contents xs).lexemes before.lexemes now.lexemes held.lexemes))
 lacking all xs before now filled least wanted needs held (inr (inl short)) = inr (inl (omega (arith, short, needs.values, begun_len (contents xs).values before.values now.values held.values)))
 lacking all xs before now filled least wanted needs held (inr (inr short)) = inr (inr (omega (arith, short, needs.faults, begun_len (contents xs).faults before.faults now.faults held.faults)))
 
 -- the items before one that has no room
-held_before : (all xs : List LexerItem) (x : LexerItem) (rest : List LexerItem) (before now : Contents) (filled : Counts) → all ≡ xs ++ x ∷ rest → AreFilled (contents xs) before now filled → LackRoom (counts_with filled x) now → HoldFitting all before now
+pub held_before : (all xs : List LexerItem) (x : LexerItem) (rest : List LexerItem) (before now : Contents) (filled : Counts) → all ≡ xs ++ x ∷ rest → AreFilled (contents xs) before now filled → LackRoom (counts_with filled x) now → HoldFitting all before now
 held_before all xs x rest before now filled is held lack =
     let front : take (length xs) all ≡ xs = ap (take (length xs)) is ∙ take_at xs (x ∷ rest) (length xs) refl in
     let more : take (length xs + 1) all ≡ xs ++ x ∷ [] =

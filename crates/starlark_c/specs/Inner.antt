@@ -2,3 +2,4 @@
 pub mod Filling
 pub mod Recovering
 pub mod OneLinePlaces
+pub mod DocumentItems

@@ -11,4 +11,8 @@ pub mod NumberedCodes
 pub mod LibraryVersion
 pub mod RecoveredTexts
 pub mod RecoveredOutcomes
+pub mod Replies
+pub mod HeldDocuments
+pub mod DocumentSlots
+pub mod DocumentItems
 pub mod Inner

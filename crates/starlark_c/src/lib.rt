@@ -1,33 +1,46 @@
 //! The lexer for callers in C: each call fills buffers of its caller with plain records.
 //!
-//! No call keeps anything between two calls, and none requires more of its arguments than their
-//! types say. A slice is a pointer and a length in C. `bindings/c/starlark_lex.h` declares all calls.
+//! Only a document keeps anything between two calls: C owns the slot that it is in. No call requires
+//! more of its arguments than their types say. A slice is a pointer and a length in C.
+//! `bindings/c/starlark_lex.h` declares all calls.
 #![tactic(auto)]
 
-ghost use Rattle.std.specs.Prelude.{◌≡◌, length};
+ghost use Rattle.std.specs.Prelude.{◌≡◌, None, [], length};
+ghost use Rattle.starlark_c.specs.DocumentItems.{FillsWith, faults_touching, filled_record, lexemes_touching};
+ghost use Rattle.starlark_c.specs.DocumentSlots.{Edits, GivesText, IsOffsetAt, Opens, TellsPlaceOf};
 ghost use Rattle.starlark_c.specs.Endings.{Ends, EndsFront};
 ghost use Rattle.starlark_c.specs.NumberedCodes.{code_at};
 ghost use Rattle.starlark_c.specs.FinalFaults.{IsFinal};
+ghost use Rattle.starlark_c.specs.HeldDocuments.{held_len};
 ghost use Rattle.starlark_c.specs.Kinds.{NamesTokens, kind_name};
 ghost use Rattle.starlark_c.specs.Messages.{TellsErrors, fault_message};
 ghost use Rattle.starlark_c.specs.Outcomes.{AreBounded, outcome_record};
 ghost use Rattle.starlark_c.specs.PlaceRecords.{MovesPlace, TellsPlace};
 ghost use Rattle.starlark_c.specs.RecoveredOutcomes.{recovered_record};
 ghost use Rattle.starlark_c.specs.RecoveredTexts.{Recovers};
+ghost use Rattle.starlark_c.specs.Replies.{reply_status};
 ghost use Rattle.starlark_c.specs.NumberedRestarts.{IsRestart};
 ghost use Rattle.starlark_c.specs.LibraryVersion.{version_number};
 ghost use Rattle.starlark_c.specs.Written.{IsWritten};
+ghost use Rattle.starlark_c.specs.declared.document_endings.FillEnding.{FillEnding};
 ghost use Rattle.starlark_c.specs.declared.endings.Ending.{Ending};
 ghost use Rattle.starlark_c.specs.declared.recovered_endings.RecoveredEnding.{RecoveredEnding};
+ghost use Rattle.starlark_c.specs.declared.replies.Reply.{Reply};
 
+mod document_calls;
+mod document_endings;
+mod document_items;
+mod document_slots;
 mod endings;
 mod fault_codes;
 mod fill_state;
 mod filling;
 mod final_faults;
+mod handle;
 mod lexeme_kinds;
 mod lexing;
 mod library_version;
+mod loose;
 mod numbered_restarts;
 mod outcomes;
 mod places;
@@ -35,8 +48,16 @@ mod records;
 mod recovered_endings;
 mod recovered_outcomes;
 mod recovering;
+mod replies;
 mod written_texts;
 
+use crate::document_calls::{
+    close_document, document_len, edit_document, offset_in_document, open_document, tell_place_of,
+    write_document,
+};
+use crate::document_endings::filled_outcome;
+use crate::document_items::{fill_faults_of, fill_lexemes_of};
+use crate::document_slots::DocumentSlot;
 use crate::fault_codes::code_of_fault;
 use crate::final_faults::is_final;
 use crate::lexeme_kinds::name_of_kind;
@@ -48,6 +69,7 @@ use crate::places::{PlaceRecord, move_place, tell_place};
 use crate::records::LexemeRecord;
 use crate::recovered_outcomes::{FoundFault, RecoveredOutcome, recovered_outcome};
 use crate::recovering::recover_into;
+use crate::replies::ChangeRecord;
 use crate::written_texts::{write_message, write_text};
 use std::alloc::Global;
 
@@ -216,4 +238,151 @@ pub extern "C" fn starlark_restart(
     ensures { IsRestart text.now fault_begin fault_end fault_kind result }
 {
     restart_of(text, fault_begin as usize, fault_end as usize, fault_kind)
+}
+
+/// Opens a document of some bytes in a slot that has none, and returns a status.
+///
+/// `WHOLE`: the slot has a document of this text. Else it is as it was: `OPENED` where it has a
+/// document already, `NOT_UTF8`, `TOO_LONG`, or `MEMORY`.
+#[unsafe(no_mangle)]
+pub extern "C" fn starlark_document_open(
+    alloc: Global,
+    document: &mut DocumentSlot,
+    text: &[u8],
+) -> u32
+    ensures { (reply : Reply) × (result ≡ reply_status reply) × Opens text.now document.old.handle.held document.new.handle.held reply }
+{
+    open_document(alloc, document, text).status()
+}
+
+/// Replaces the bytes of a document from `begin` to `end`, lexes what that touches, and returns a
+/// status.
+///
+/// `WHOLE`: the document has the new text, and the record says what changed. Else both are as they
+/// were: `CLOSED` where the slot has no document, `NOT_UTF8` for the new bytes, `BAD_RANGE`,
+/// `TOO_LONG`, or `MEMORY`.
+#[unsafe(no_mangle)]
+pub extern "C" fn starlark_document_edit(
+    alloc: Global,
+    document: &mut DocumentSlot,
+    begin: usize,
+    end: usize,
+    text: &[u8],
+    change: &mut ChangeRecord,
+) -> u32
+    ensures { (reply : Reply) × (result ≡ reply_status reply) × Edits begin end text.now document.old.handle.held document.new.handle.held change.old change.new reply }
+{
+    edit_document(alloc, document, begin, end, text, change).status()
+}
+
+/// Fills two buffers with the lexemes of a document that touch a range: a record for each, and the
+/// values, one after another.
+///
+/// A lexeme touches the range where it ends at `begin` or later, and begins at `end` or earlier. The
+/// outcome's status is `WHOLE`, `FULL` with what all of them want, or `CLOSED`.
+#[unsafe(no_mangle)]
+pub extern "C" fn starlark_document_lexemes(
+    alloc: Global,
+    document: &mut DocumentSlot,
+    begin: usize,
+    end: usize,
+    lexemes: &mut [LexemeRecord],
+    values: &mut [u8],
+    outcome: &mut RecoveredOutcome,
+) -> u32
+    ensures filled { (ending : FillEnding) × (outcome.new ≡ filled_record ending) × FillsWith (lexemes_touching begin end) document.old.handle.held document.new.handle.held (record { lexemes = lexemes.old; values = values.old; faults = [] }) (record { lexemes = lexemes.new; values = values.new; faults = [] }) ending }
+    ensures status { result ≡ outcome.new.status }
+{
+    let ending = fill_lexemes_of(alloc, document, begin, end, lexemes, values);
+    *outcome = filled_outcome(ending);
+    outcome.status
+}
+
+/// Fills two buffers with the faults of a document that touch a range: the texts that they name,
+/// one after another, and a record for each.
+///
+/// Touching and the outcome are as of `starlark_document_lexemes`. In a record no lexemes are
+/// before a fault.
+#[unsafe(no_mangle)]
+pub extern "C" fn starlark_document_faults(
+    alloc: Global,
+    document: &mut DocumentSlot,
+    begin: usize,
+    end: usize,
+    values: &mut [u8],
+    faults: &mut [FoundFault],
+    outcome: &mut RecoveredOutcome,
+) -> u32
+    ensures filled { (ending : FillEnding) × (outcome.new ≡ filled_record ending) × FillsWith (faults_touching begin end) document.old.handle.held document.new.handle.held (record { lexemes = []; values = values.old; faults = faults.old }) (record { lexemes = []; values = values.new; faults = faults.new }) ending }
+    ensures status { result ≡ outcome.new.status }
+{
+    let ending = fill_faults_of(alloc, document, begin, end, values, faults);
+    *outcome = filled_outcome(ending);
+    outcome.status
+}
+
+/// Writes the bytes of a document from `begin` to `end` into a buffer, and returns a status.
+///
+/// `WHOLE`: the buffer begins with them. Else it is as it was: `FULL` where it has no room,
+/// `BAD_RANGE`, `MEMORY`, or `CLOSED`.
+#[unsafe(no_mangle)]
+pub extern "C" fn starlark_document_text(
+    alloc: Global,
+    document: &mut DocumentSlot,
+    begin: usize,
+    end: usize,
+    text: &mut [u8],
+) -> u32
+    ensures { (reply : Reply) × (result ≡ reply_status reply) × GivesText begin end document.old.handle.held document.new.handle.held text.old text.new reply }
+{
+    write_document(alloc, document, begin, end, text).status()
+}
+
+/// Length of a document in bytes; 0 where the slot has none.
+#[unsafe(no_mangle)]
+pub extern "C" fn starlark_document_len(alloc: Global, document: &mut DocumentSlot) -> usize
+    ensures len { result ≡ held_len document.old.handle.held }
+    ensures same { document.new.handle.held ≡ document.old.handle.held }
+{
+    document_len(alloc, document)
+}
+
+/// Tells the line and columns of an offset in a document, and returns whether it could.
+///
+/// It couldn't, and the record is as it was, where the offset is no character boundary of the text,
+/// or the slot has no document.
+#[unsafe(no_mangle)]
+pub extern "C" fn starlark_document_place(
+    alloc: Global,
+    document: &mut DocumentSlot,
+    at: usize,
+    place: &mut PlaceRecord,
+) -> bool
+    ensures { TellsPlaceOf at document.old.handle.held document.new.handle.held place.old place.new result }
+{
+    tell_place_of(alloc, document, at, place)
+}
+
+/// The offset in a document of a line and a column in units of UTF-16, both from 0.
+///
+/// It is the greatest `usize` where no character boundary is there, or the slot has no document.
+#[unsafe(no_mangle)]
+pub extern "C" fn starlark_document_offset_at_utf16(
+    alloc: Global,
+    document: &mut DocumentSlot,
+    line: usize,
+    column: usize,
+) -> usize
+    ensures offset { IsOffsetAt line column document.old.handle.held result }
+    ensures same { document.new.handle.held ≡ document.old.handle.held }
+{
+    offset_in_document(alloc, document, line, column)
+}
+
+/// Frees the document of a slot, if it has one. The slot has none then, and may be opened again.
+#[unsafe(no_mangle)]
+pub extern "C" fn starlark_document_close(alloc: Global, document: &mut DocumentSlot)
+    ensures { document.new.handle.held ≡ None }
+{
+    close_document(alloc, document);
 }

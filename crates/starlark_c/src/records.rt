@@ -116,6 +116,24 @@ fn detail_of(token: &Token) -> u16
     }
 }
 
+/// The record of a token, with its begin and end, whose value begins at byte `at` of the values.
+#[inline(always)]
+pub fn token_record_at(at: usize, begin: usize, token: &Token, end: usize) -> LexemeRecord
+    requires begin { begin < 2 ^ 32 }
+    requires end { end < 2 ^ 32 }
+    ensures { result ≡ record_of at (record { begin = begin; node = token_view token.now; end = end }) }
+{
+    LexemeRecord {
+        begin: begin as u32,
+        end: end as u32,
+        kind: number_of_kind(token),
+        detail: detail_of(token),
+        integer: integer_of(token),
+        value_begin: at,
+        value_len: bytes_of(token).len(),
+    }
+}
+
 /// The record of a lexeme whose value begins at byte `at` of the values.
 #[inline(always)]
 pub fn record_at(at: usize, lexeme: &(usize, Token, usize)) -> LexemeRecord
@@ -124,15 +142,7 @@ pub fn record_at(at: usize, lexeme: &(usize, Token, usize)) -> LexemeRecord
     ensures { result ≡ record_of at (lexeme_view lexeme.now) }
 {
     let (begin, token, end) = lexeme;
-    LexemeRecord {
-        begin: *begin as u32,
-        end: *end as u32,
-        kind: number_of_kind(token),
-        detail: detail_of(token),
-        integer: integer_of(token),
-        value_begin: at,
-        value_len: bytes_of(token).len(),
-    }
+    token_record_at(at, *begin, token, *end)
 }
 
 /// The record of a plain lexeme of a kind with a number, whose value is that of `len` bytes at byte

@@ -54,7 +54,7 @@ pub struct RecoveredOutcome {
 }
 
 /// An outcome with nothing in it but its status.
-const fn with_status(status: u32) -> RecoveredOutcome
+pub const fn with_status(status: u32) -> RecoveredOutcome
     ensures { result ≡ nothing_recovered status }
 {
     RecoveredOutcome {
