@@ -170,6 +170,15 @@ unfolding items
 listed_fault text lexemes k same all =
     after_given (outcome text).lexemes (fault_items text) k (omega (arith, all, ap length same, length-map lexemes lexeme_view, length-map (outcome text).lexemes shown_lexeme))
 
+-- Both, of a lexed text, whose lexemes are those of a text that is the same.
+pub next_of_lexed : (text other : Text) (views : List (Spanned TokenView)) (lexemes : List (ℕ × Token × ℕ)) (k : ℕ) (found : ℕ × Token × ℕ) → map lexeme_view lexemes ≡ views → views ≡ map shown_lexeme (outcome other).lexemes → text ≡ other
+    → k < length lexemes → found ≡ slice_index_or lexemes k found → IsNextLexeme text k found
+next_of_lexed text other views lexemes k found listed lexed same inside is = next_listed text lexemes k found (listed ∙ lexed ∙ ap (λ t. map shown_lexeme (outcome t).lexemes) (sym same)) inside is
+
+pub fault_of_lexed : (text other : Text) (views : List (Spanned TokenView)) (lexemes : List (ℕ × Token × ℕ)) (k : ℕ) → map lexeme_view lexemes ≡ views → views ≡ map shown_lexeme (outcome other).lexemes → text ≡ other
+    → k ≡ length lexemes → drop k (items text) ≡ fault_items text
+fault_of_lexed text other views lexemes k listed lexed same all = listed_fault text lexemes k (listed ∙ lexed ∙ ap (λ t. map shown_lexeme (outcome t).lexemes) (sym same)) all
+
 -- The lines of items, one by one.
 pub lines_cons : (name text : Text) (item : LexerItem) (more : List LexerItem) → lines_of name text (item ∷ more) ≡ item_line name text item ++ lines_of name text more
 unfolding lines_of
@@ -206,7 +215,7 @@ pub next_few : (text : Text) (h : ℕ) (found : ℕ × Token × ℕ) → IsNextL
 next_few text h found next = ((one_more (outcome text).lexemes h next.lexeme next.more next.left).0, (one_more (items text) h _ _ next.items).0)
 
 -- What an exception says is what is said of its fault.
-message_is : (error : LexemeError) (node : Fault) → fault_view error ≡ Some node → kind_text (Parser (message.Lexeme error)) ≡ message_of node
+pub message_is : (error : LexemeError) (node : Fault) → fault_view error ≡ Some node → kind_text (Parser (message.Lexeme error)) ≡ message_of node
 unfolding kind_text message_text fault_text message_of
 message_is error.Indentation node e = let same : token.Indentation ≡ node = cc in subst (λ n. kind_text (Parser (message.Lexeme error.Indentation)) ≡ message_of n) same refl
 message_is (error.InvalidInput text) node e = let same : token.InvalidInput (string_bytes text) ≡ node = cc in subst (λ n. kind_text (Parser (message.Lexeme (error.InvalidInput text))) ≡ message_of n) same refl

@@ -2,8 +2,8 @@
 use Rattle.std.proofs.Common.{◌≡◌, [], false, refl, inr, Result, Ok, Err}
 use Rattle.std.specs.Str.{IsUtf8}
 use Rattle.starlark_base.specs.Places.{Text}
-use Rattle.starlark_run.proofs.Calls.{went_nil}
-use Rattle.starlark_run.specs.Calls.{WriterCalls}
+use Rattle.starlark_devices.proofs.Calls.{went_nil}
+use Rattle.starlark_devices.specs.Calls.{WriterCalls}
 use Rattle.starlark_run.specs.Output.{output}
 use Rattle.starlark_run.specs.Runs.{IsPrinted, IsRun, IsWhole}
 use Rattle.starlark_run.specs.Watch.{Watch}

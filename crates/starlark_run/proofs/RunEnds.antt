@@ -3,7 +3,7 @@ use Rattle.std.proofs.Common.{◌≡◌, ◌↔◌, true, false, ap, refl, sym, 
 use Rattle.std.specs.Str.{IsUtf8}
 use Rattle.starlark_base.specs.Places.{Text}
 use Rattle.starlark_grammar.specs.Reading.{outcome}
-use Rattle.starlark_run.specs.Calls.{WriterCalls, Done, Went}
+use Rattle.starlark_devices.specs.Calls.{WriterCalls, Done, Went}
 use Rattle.starlark_run.specs.Output.{output}
 use Rattle.starlark_run.specs.Watch.{Watch}
 use Rattle.starlark_run.specs.Writing.{Writes, WritesAll}
@@ -50,52 +50,11 @@ module _ {R W : Type 0} (calls : WriterCalls W) (name came : Text) (last : Resul
   printed_told before (Ok text) (Ok status) printed = (λ e. cc, λ e. let sound = printed.0.sound in cc)
   printed_told before (Ok text) (Err fault.Write) printed = (λ e. printed.1, λ e. refl)
   printed_told before (Ok text) (Err fault.Memory) printed = (λ e. cc, λ e. let sound = printed.1 in cc)
-  printed_told before (Ok text) (Err fault.NotUtf8) printed = absurd printed
-  printed_told before (Ok text) (Err fault.TooLong) printed = absurd printed
-  printed_told before (Ok text) (Err fault.Read) printed = absurd printed
-  printed_told before (Ok text) (Err (fault.BadEdit at)) printed = absurd printed
-  printed_told before (Err fault.Memory) (Ok status) printed = absurd printed
   printed_told before (Err fault.Memory) (Err fault.Memory) printed = (λ e. cc, λ e. absurd (untouched_sound before printed e))
-  printed_told before (Err fault.Memory) (Err fault.TooLong) printed = absurd printed
-  printed_told before (Err fault.Memory) (Err fault.NotUtf8) printed = absurd printed
-  printed_told before (Err fault.Memory) (Err fault.Read) printed = absurd printed
-  printed_told before (Err fault.Memory) (Err fault.Write) printed = absurd printed
-  printed_told before (Err fault.Memory) (Err (fault.BadEdit told)) printed = absurd printed
-  printed_told before (Err fault.TooLong) (Ok status) printed = absurd printed
-  printed_told before (Err fault.TooLong) (Err fault.Memory) printed = (λ e. cc, λ e. absurd (untouched_sound before printed e))
   printed_told before (Err fault.TooLong) (Err fault.TooLong) printed = (λ e. cc, λ e. absurd (untouched_sound before printed e))
-  printed_told before (Err fault.TooLong) (Err fault.NotUtf8) printed = absurd printed
-  printed_told before (Err fault.TooLong) (Err fault.Read) printed = absurd printed
-  printed_told before (Err fault.TooLong) (Err fault.Write) printed = absurd printed
-  printed_told before (Err fault.TooLong) (Err (fault.BadEdit told)) printed = absurd printed
-  printed_told before (Err fault.NotUtf8) (Ok status) printed = absurd printed
-  printed_told before (Err fault.NotUtf8) (Err fault.Memory) printed = (λ e. cc, λ e. absurd (untouched_sound before printed e))
-  printed_told before (Err fault.NotUtf8) (Err fault.TooLong) printed = absurd printed
-  printed_told before (Err fault.NotUtf8) (Err fault.NotUtf8) printed = absurd printed
-  printed_told before (Err fault.NotUtf8) (Err fault.Read) printed = absurd printed
-  printed_told before (Err fault.NotUtf8) (Err fault.Write) printed = absurd printed
-  printed_told before (Err fault.NotUtf8) (Err (fault.BadEdit told)) printed = absurd printed
-  printed_told before (Err fault.Read) (Ok status) printed = absurd printed
-  printed_told before (Err fault.Read) (Err fault.Memory) printed = (λ e. cc, λ e. absurd (untouched_sound before printed e))
-  printed_told before (Err fault.Read) (Err fault.TooLong) printed = absurd printed
-  printed_told before (Err fault.Read) (Err fault.NotUtf8) printed = absurd printed
-  printed_told before (Err fault.Read) (Err fault.Read) printed = absurd printed
-  printed_told before (Err fault.Read) (Err fault.Write) printed = absurd printed
-  printed_told before (Err fault.Read) (Err (fault.BadEdit told)) printed = absurd printed
-  printed_told before (Err fault.Write) (Ok status) printed = absurd printed
-  printed_told before (Err fault.Write) (Err fault.Memory) printed = (λ e. cc, λ e. absurd (untouched_sound before printed e))
-  printed_told before (Err fault.Write) (Err fault.TooLong) printed = absurd printed
-  printed_told before (Err fault.Write) (Err fault.NotUtf8) printed = absurd printed
-  printed_told before (Err fault.Write) (Err fault.Read) printed = absurd printed
-  printed_told before (Err fault.Write) (Err fault.Write) printed = absurd printed
-  printed_told before (Err fault.Write) (Err (fault.BadEdit told)) printed = absurd printed
-  printed_told before (Err (fault.BadEdit at)) (Ok status) printed = absurd printed
-  printed_told before (Err (fault.BadEdit at)) (Err fault.Memory) printed = (λ e. cc, λ e. absurd (untouched_sound before printed e))
-  printed_told before (Err (fault.BadEdit at)) (Err fault.TooLong) printed = absurd printed
-  printed_told before (Err (fault.BadEdit at)) (Err fault.NotUtf8) printed = absurd printed
-  printed_told before (Err (fault.BadEdit at)) (Err fault.Read) printed = absurd printed
-  printed_told before (Err (fault.BadEdit at)) (Err fault.Write) printed = absurd printed
+  printed_told before (Err why) (Err fault.Memory) printed = (λ e. cc, λ e. absurd (untouched_sound before printed e))
   printed_told before (Err (fault.BadEdit at)) (Err (fault.BadEdit told)) printed = (λ e. cc, λ e. absurd (untouched_sound before printed.0 e))
+  printed_told before last result printed = absurd printed
 
   pub write_told : old.failed ≡ false → (r : Result RunStatus RunFault) → IsRun calls name came last reader old new r → IsErrOf r fault.Write ↔ (new.failed ≡ true)
   write_told before (Ok status) run = printed_told before last (Ok status) run.2

@@ -3,8 +3,8 @@ use Rattle.std.proofs.Common.{◌<◌, length, true, arith, ◌≡◌, ◌++◌,
 use Rattle.std.specs.Io.KnownBytes.{Keeps}
 use Rattle.std.proofs.lemmas.Bool.{eq-eqb, ne_eqb}
 use Rattle.starlark_base.specs.Places.{Text}
-use Rattle.starlark_run.proofs.Calls.{went_broken, went_done, went_nil, went_trans}
-use Rattle.starlark_run.specs.Calls.{WriterCalls, Flushed, Ending, Going, Done, Broken, WritesText}
+use Rattle.starlark_devices.proofs.Calls.{went_broken, went_done, went_nil, went_trans}
+use Rattle.starlark_devices.specs.Calls.{WriterCalls, Flushed, Ending, Going, Done, Broken, WritesText}
 use Rattle.starlark_run.specs.Watch.{Watch, is_nothing}
 use Rattle.starlark_run.specs.Writing.{Takes, TakesBeginning, Writes, WritesAll}
 use Rattle.starlark_run.specs.declared.ends.RunFault.{RunFault}

@@ -1,6 +1,5 @@
-pub mod Calls
+pub use Rattle.starlark_devices.specs.Calls
 pub mod Watch
-pub mod KnownPlaces
 pub mod Output
 pub mod Writing
 pub mod Runs

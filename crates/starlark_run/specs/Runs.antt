@@ -4,7 +4,7 @@ use Rattle.std.specs.Str.{IsUtf8}
 use Rattle.starlark_base.specs.Places.{Text}
 use Rattle.starlark_grammar.specs.Reading.{outcome}
 use Rattle.starlark_grammar.specs.Tokens as grammar
-use Rattle.starlark_run.specs.Calls.{WriterCalls, Going, Done, Broken, Went}
+use Rattle.starlark_devices.specs.Calls.{WriterCalls, Going, Done, Broken, Went}
 use Rattle.starlark_run.specs.Output.{output}
 use Rattle.starlark_run.specs.Watch.{Watch}
 use Rattle.starlark_run.specs.Writing.{TakesBeginning}

@@ -1,7 +1,7 @@
 -- What a writer took of a text, also if a step failed.
 use Rattle.std.specs.Prelude.{◌≡◌, true, false, [], ◌++◌, Result, Ok, Err, ⊤}
 use Rattle.starlark_base.specs.Places.{Text}
-use Rattle.starlark_run.specs.Calls.{WriterCalls, Ending, Going, Done, Broken, Went}
+use Rattle.starlark_devices.specs.Calls.{WriterCalls, Ending, Going, Done, Broken, Went}
 use Rattle.starlark_run.specs.Watch.{Watch}
 use Rattle.starlark_run.specs.declared.ends.RunFault.{RunFault}
 use Rattle.starlark_run.specs.declared.ends.RunFault.TheVariants.{Write, Memory}

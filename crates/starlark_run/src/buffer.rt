@@ -3,9 +3,9 @@
 ghost use Rattle.std.specs.Prelude.{◌≡◌, ◌≤◌, ◌+◌, ◌⊎◌, ◌++◌, [], false, length, IfOk, OnOk};
 ghost use Rattle.starlark_run.specs.Writing.{Writes, WritesAll};
 
-use crate::devices::WriteDevice;
 use crate::ends::RunFault;
 use crate::watched::Watched;
+use starlark_devices::WriteDevice;
 use std::alloc::{AllocError, Global};
 use std::marker::Model;
 

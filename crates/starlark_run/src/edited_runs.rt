@@ -2,18 +2,18 @@
 
 ghost use Rattle.std.specs.Prelude.{◌≡◌, ◌↔◌, ℕ, List, true, false, OnOk, IfOk, IsErrOf};
 ghost use Rattle.std.specs.Io.KnownBytes.{IsAtEnd};
-ghost use Rattle.starlark_run.specs.Calls.{Came};
+ghost use Rattle.starlark_devices.specs.Calls.{Came};
 ghost use Rattle.starlark_run.specs.Runs.{IsRun, ending_of};
 ghost use Rattle.starlark_run.specs.Edits.{text_after};
 ghost use Rattle.starlark_run.specs.Relexed.{AreLexed};
 
-use crate::devices::{ReadDevice, WriteDevice};
 use crate::edited_texts::{relexed, versions_of};
 use crate::edits::Edit;
 use crate::ends::{RunFault, RunStatus};
 use crate::input::read_text;
 use crate::lexed_printing::print_lexed;
 use crate::watched::Watched;
+use starlark_devices::{ReadDevice, WriteDevice};
 use std::alloc::Global;
 
 /// What `run_edits` printed, and what lexing the texts took.

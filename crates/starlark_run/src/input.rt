@@ -2,13 +2,13 @@
 
 ghost use Rattle.std.specs.Prelude.{◌≡◌, ◌+◌, ◌<◌, ◌≤◌, ◌||◌, ℕ, List, length, take, drop, string_bytes, false, is_err, IfOk, OnOk};
 ghost use Rattle.std.specs.Io.KnownBytes.{ReadConsumes};
-ghost use Rattle.starlark_run.specs.Calls.{Came, count_of};
+ghost use Rattle.starlark_devices.specs.Calls.{Came, count_of};
 ghost use Rattle.starlark_run.specs.Runs.{IsRead};
 ghost use Rattle.starlark_run.specs.Watch.{reads_end};
 
-use crate::devices::ReadDevice;
 use crate::ends::{GREATEST_LEN, RunFault};
 use crate::watched::Watched;
+use starlark_devices::ReadDevice;
 use std::alloc::{AllocError, Global};
 use std::io;
 

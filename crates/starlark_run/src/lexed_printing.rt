@@ -8,11 +8,11 @@ ghost use Rattle.starlark_run.specs.Output.{output};
 ghost use Rattle.starlark_run.specs.Runs.{status_of};
 ghost use Rattle.starlark_run.specs.Writing.{Writes, WritesAll};
 
-use crate::devices::WriteDevice;
 use crate::ends::{RunFault, RunStatus};
-use crate::place::Place;
 use crate::printer::Printer;
 use crate::watched::Watched;
+use starlark_base::position::Position;
+use starlark_devices::WriteDevice;
 use starlark_syntax::lexer::LexedText;
 use std::alloc::Global;
 
@@ -31,7 +31,7 @@ fn put_lexed<W: WriteDevice>(
     ensures status { IfOk result (λ status. status ≡ status_of (outcome lexed.now.text).fault) }
 {
     let text = lexed.text();
-    let mut place = Place::START;
+    let mut place = Position::START;
     for lexeme in lexed.lexemes() {
         place = printer.put_lexeme(writer, text, place, lexeme)?;
     }

@@ -7,8 +7,8 @@ ghost use Rattle.starlark_syntax.specs.Errors.{kind_text};
 ghost use Rattle.starlark_run.specs.Output.{fault_text, hex, lexeme_text, quotes_name, value_text};
 ghost use Rattle.starlark_token.specs.TokenViews.{fstring_quote_view, token_view};
 
-use crate::place::Place;
 use starlark_base::codemap::ResolvedSpan;
+use starlark_base::position::Position;
 use starlark_syntax::error::ErrorKind;
 use starlark_token::fstring_style::FStringQuote;
 use starlark_token::tokens::Token;
@@ -77,15 +77,15 @@ fn push_value(line: &mut String, token: &Token) -> Result<(), AllocError>
 #[tactic(auto, unfolding(crate::specs::Output::lexeme_text))]
 pub fn lexeme_line(
     line: &mut String,
-    begin: Place,
+    begin: Position,
     token: &Token,
-    end: Place,
+    end: Position,
 ) -> Result<(), AllocError>
-    ensures { OnOk result (string_bytes line.new ≡ lexeme_text begin.at end.at (span_text begin.position end.position) (token_view token.now)) }
+    ensures { OnOk result (string_bytes line.new ≡ lexeme_text begin.at end.at (span_text begin.place end.place) (token_view token.now)) }
 {
     let place = ResolvedSpan {
-        begin: begin.position,
-        end: end.position,
+        begin: begin.place,
+        end: end.place,
     };
     let kind = token.kind();
     line.clear();
@@ -99,15 +99,15 @@ pub fn lexeme_line(
 pub fn fault_line(
     line: &mut String,
     name: &str,
-    begin: Place,
-    end: Place,
+    begin: Position,
+    end: Position,
     kind: &ErrorKind,
 ) -> Result<(), AllocError>
-    ensures { OnOk result (string_bytes line.new ≡ fault_text begin.at end.at name.now (span_text begin.position end.position) (kind_text kind.now)) }
+    ensures { OnOk result (string_bytes line.new ≡ fault_text begin.at end.at name.now (span_text begin.place end.place) (kind_text kind.now)) }
 {
     let place = ResolvedSpan {
-        begin: begin.position,
-        end: end.position,
+        begin: begin.place,
+        end: end.place,
     };
     line.clear();
     write!(line, "fault {}-{} {name}:", begin.at, end.at)?;

@@ -4,7 +4,6 @@
 #![tactic(auto)]
 
 mod buffer;
-pub mod devices;
 mod edited_runs;
 mod edited_texts;
 mod edits;
@@ -12,7 +11,6 @@ pub mod ends;
 mod input;
 mod lexed_printing;
 mod lexeme_lines;
-mod place;
 mod plain_runs;
 mod printer;
 mod printing;

@@ -2,14 +2,14 @@
 
 ghost use Rattle.std.specs.Prelude.{◌≡◌, ◌↔◌, ℕ, List, true, false, OnOk, Ok, IsErrOf};
 ghost use Rattle.std.specs.Io.KnownBytes.{IsAtEnd};
-ghost use Rattle.starlark_run.specs.Calls.{Came};
+ghost use Rattle.starlark_devices.specs.Calls.{Came};
 ghost use Rattle.starlark_run.specs.Runs.{IsRun};
 
-use crate::devices::{ReadDevice, WriteDevice};
 use crate::ends::{RunFault, RunStatus};
 use crate::input::read_text;
 use crate::printing::print;
 use crate::watched::Watched;
+use starlark_devices::{ReadDevice, WriteDevice};
 use std::alloc::Global;
 
 /// Reads a text to its end, and prints a line for each lexeme, and one for the first fault.

@@ -8,19 +8,19 @@ ghost use Rattle.starlark_syntax.specs.Exceptions.{IsFaultIn};
 ghost use Rattle.starlark_grammar.specs.Reading.{outcome};
 ghost use Rattle.starlark_run.specs.Inner.FaultLine.{fault_lines};
 ghost use Rattle.starlark_run.specs.Output.{fault_text, item_line, place_text};
-ghost use Rattle.starlark_run.specs.KnownPlaces.{IsPlace};
+ghost use Rattle.starlark_base.specs.Positions.{IsPosition};
 ghost use Rattle.starlark_run.specs.Writing.{Writes};
 ghost use Rattle.starlark_run.specs.declared.ends.RunFault.TheVariants.{Memory};
 ghost use Rattle.starlark_token.specs.Lexemes.{lexeme_view};
 ghost use Rattle.starlark_token.specs.TextItems.{Given};
 
 use crate::buffer::Buffer;
-use crate::devices::WriteDevice;
 use crate::ends::RunFault;
 use crate::lexeme_lines::{fault_line, lexeme_line};
-use crate::place::Place;
 use crate::watched::Watched;
 use starlark_base::codemap::{CodeMap, CodeMapId, FileSpan, OrMemory, SourceTooLong, Span};
+use starlark_base::position::Position;
+use starlark_devices::WriteDevice;
 use starlark_syntax::error::ErrorKind;
 use starlark_syntax::eval_exception::EvalException;
 use starlark_token::tokens::Token;
@@ -46,18 +46,18 @@ impl Printer {
         })
     }
 
-    /// Prints the line of a lexeme, and returns the place at its end.
+    /// Prints the line of a lexeme, and returns the position at its end.
     ///
     /// `place` must not be after the lexeme's begin.
     pub fn put_lexeme<W: WriteDevice>(
         &mut self,
         writer: &mut Watched<W>,
         text: &str,
-        place: Place,
+        place: Position,
         lexeme: &(usize, Token, usize),
-    ) -> Result<Place, RunFault>
+    ) -> Result<Position, RunFault>
         requires sound { writer.old.failed ≡ false }
-        requires here { IsPlace text.now place }
+        requires here { IsPosition text.now place }
         requires onward { place.at ≤ lexeme.now.0 }
         requires order { lexeme.now.0 ≤ lexeme.now.2 }
         requires begin { IsCharBoundary text.now lexeme.now.0 }
@@ -65,7 +65,7 @@ impl Printer {
         ensures writes { Writes W.calls writer.old writer.new
             (self.old.buffer ++ item_line [] text.now (Given (lexeme_view lexeme.now))) self.new.buffer result }
         ensures at { IfOk result (λ place. place.at ≡ lexeme.now.2) }
-        ensures place { IfOk result (λ place. IsPlace text.now place) }
+        ensures place { IfOk result (λ place. IsPosition text.now place) }
     {
         let (begin, token, end) = lexeme;
         let begin = place.moved(text, *begin);
@@ -75,18 +75,18 @@ impl Printer {
         Ok(end)
     }
 
-    /// Prints the line of a lexeme, drops the lexeme, and returns the place at its end.
+    /// Prints the line of a lexeme, drops the lexeme, and returns the position at its end.
     ///
     /// `place` must not be after the lexeme's begin.
     pub fn lexeme<W: WriteDevice>(
         &mut self,
         writer: &mut Watched<W>,
         text: &str,
-        place: Place,
+        place: Position,
         lexeme: (usize, Token, usize),
-    ) -> Result<Place, RunFault>
+    ) -> Result<Position, RunFault>
         requires sound { writer.old.failed ≡ false }
-        requires here { IsPlace text.now place }
+        requires here { IsPosition text.now place }
         requires onward { place.at ≤ lexeme.0 }
         requires order { lexeme.0 ≤ lexeme.2 }
         requires begin { IsCharBoundary text.now lexeme.0 }
@@ -94,7 +94,7 @@ impl Printer {
         ensures writes { Writes W.calls writer.old writer.new
             (self.old.buffer ++ item_line [] text.now (Given (lexeme_view lexeme))) self.new.buffer result }
         ensures at { IfOk result (λ place. place.at ≡ lexeme.2) }
-        ensures place { IfOk result (λ place. IsPlace text.now place) }
+        ensures place { IfOk result (λ place. IsPosition text.now place) }
     {
         self.put_lexeme(writer, text, place, &lexeme)
     }
@@ -105,19 +105,19 @@ impl Printer {
         writer: &mut Watched<W>,
         name: &str,
         text: &str,
-        place: Place,
+        place: Position,
         span: Span,
         kind: &ErrorKind,
     ) -> Result<(), RunFault>
         requires sound { writer.old.failed ≡ false }
-        requires here { IsPlace text.now place }
+        requires here { IsPosition text.now place }
         requires order { span.begin ≤ span.end }
         requires begin { IsCharBoundary text.now span.begin }
         requires end { IsCharBoundary text.now span.end }
         ensures { Writes W.calls writer.old writer.new
             (self.old.buffer ++ fault_text span.begin span.end name.now (place_text text.now span.begin span.end) (kind_text kind.now)) self.new.buffer result }
     {
-        let begin = place.moved_to(text, span.begin().get() as usize);
+        let begin = Position::nearest(place, Position::START, text, span.begin().get() as usize);
         let end = begin.moved(text, span.end().get() as usize);
         fault_line(&mut self.line, name, begin, end, kind)?;
         self.buffer.put(writer, self.line.as_bytes())
@@ -131,11 +131,11 @@ impl Printer {
         writer: &mut Watched<W>,
         name: &str,
         text: &str,
-        place: Place,
+        place: Position,
         exception: &EvalException,
     ) -> Result<(), RunFault>
         requires sound { writer.old.failed ≡ false }
-        requires here { IsPlace text.now place }
+        requires here { IsPosition text.now place }
         requires thrown { (file : SourceFile) × IsFaultIn file (outcome text.now).fault (Some exception.now) }
         ensures { Writes W.calls writer.old writer.new (self.old.buffer ++ fault_lines name.now text.now) self.new.buffer result }
     {

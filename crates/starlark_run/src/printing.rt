@@ -1,6 +1,6 @@
 //! Prints the lexemes of a text, each as the lexer yields it.
 
-ghost use Rattle.std.specs.Prelude.{◌≡◌, ◌≤◌, ◌++◌, [], length, false, IfOk, IfErr};
+ghost use Rattle.std.specs.Prelude.{◌≡◌, ◌≤◌, ◌++◌, [], length, false, None, IfOk, IfErr};
 ghost use Rattle.starlark_grammar.specs.Reading.{outcome};
 ghost use Rattle.starlark_run.specs.Output.{output};
 ghost use Rattle.starlark_run.specs.Runs.{status_of};
@@ -8,12 +8,12 @@ ghost use Rattle.starlark_run.specs.Writing.{Writes, WritesAll};
 ghost use Rattle.starlark_run.specs.declared.ends.RunFault.TheVariants.{Memory};
 ghost use Rattle.starlark_run.specs.declared.ends.TheConstants.{GREATEST_LEN};
 
-use crate::devices::WriteDevice;
 use crate::ends::{RunFault, RunStatus};
-use crate::place::Place;
 use crate::printer::{Printer, empty_file};
 use crate::watched::Watched;
 use starlark_base::codemap::{OrMemory, SourceTooLong};
+use starlark_base::position::Position;
+use starlark_devices::WriteDevice;
 use starlark_syntax::lexer::Lexer;
 use starlark_text::dialect::Dialect;
 use std::alloc::Global;
@@ -29,11 +29,11 @@ fn put_items<W: WriteDevice>(
     lexer: &mut Lexer<'_>,
 ) -> Result<RunStatus, RunFault>
     requires sound { writer.old.failed ≡ false }
-    requires fresh { lexer.old ≡ record { text = text.now; code_map = lexer.old.code_map; yielded_count = 0; has_ended = false; reads = 0 } }
+    requires fresh { lexer.old ≡ record { text = text.now; code_map = lexer.old.code_map; yielded_count = 0; has_ended = false; reads = 0; cut = None } }
     ensures writes { Writes W.calls writer.old writer.new (printer.old.buffer ++ output name.now text.now) printer.new.buffer result }
     ensures status { IfOk result (λ status. status ≡ status_of (outcome text.now).fault) }
 {
-    let mut place = Place::START;
+    let mut place = Position::START;
     while let Some(item) = lexer.next() {
         match item {
             Ok(lexeme) => place = printer.lexeme(writer, text, place, lexeme)?,
@@ -50,7 +50,7 @@ fn put_items<W: WriteDevice>(
 /// A lexer of a text, with a code map of an empty text, so that no index of lines is made.
 fn lexer_of(alloc: Global, text: &str) -> Result<Lexer<'_>, RunFault>
     requires { length text.now ≤ GREATEST_LEN }
-    ensures made { IfOk result (λ lexer. lexer ≡ record { text = text.now; code_map = record { id = 0; filename = []; source = [] }; yielded_count = 0; has_ended = false; reads = 0 }) }
+    ensures made { IfOk result (λ lexer. lexer ≡ record { text = text.now; code_map = record { id = 0; filename = []; source = [] }; yielded_count = 0; has_ended = false; reads = 0; cut = None }) }
     ensures refused { IfErr result (λ fault. fault ≡ Memory) }
 {
     let file = empty_file(alloc)?;

@@ -3,10 +3,10 @@
 ghost use Rattle.std.specs.Prelude.{◌≡◌, ◌||◌, true, false, is_err, IfErr};
 ghost use Rattle.std.specs.Io.{ReadsAtMost, WritesAtMost};
 ghost use Rattle.std.specs.Io.KnownBytes.{Keeps, ReadConsumes, WriteAppends};
-ghost use Rattle.starlark_run.specs.Calls.{WritesText, count_of, is_ok_of};
+ghost use Rattle.starlark_devices.specs.Calls.{WritesText, count_of, is_ok_of};
 ghost use Rattle.starlark_run.specs.Watch.{reads_end, fails_to_write};
 
-use crate::devices::{ReadDevice, WriteDevice, write_all};
+use starlark_devices::{ReadDevice, WriteDevice, write_all};
 use std::io;
 use std::marker::Model;
 

@@ -9,7 +9,7 @@ use Rattle.std.specs.List.{AllByRecursion}
 use Rattle.std.specs.Prelude.{None, Option, Some, drop, false, if◌then◌else◌, true}
 use Rattle.starlark_tokens.specs.ReportDocuments.{closing, is_collected, opening}
 use Rattle.starlark_base.specs.Places.{Text}
-use Rattle.starlark_run.proofs.Calls.{all_append}
+use Rattle.starlark_devices.proofs.Calls.{all_append}
 use Rattle.starlark_tokens.specs.Reports.{fault_count, report}
 use Rattle.starlark_tokens.specs.declared.form.Form.{Form}
 use Rattle.starlark_tokens.proofs.FileCounts.{with_next}
@@ -126,28 +126,29 @@ between around gives form sources a b c d e f opening closing totals part is ope
       written = subst (Appends a f) (append_assoc opening (part all) closing ∙ is all) whole;
     }
 
--- the reports of all sources as a document, in a form that is collected and in one that isn't
+-- the reports of all sources as a document …
+document_of : (around : Totals → Text → Text) (gives : Giving) (form : Form) (sources : Sources) (before after : Option Text) (totals : Totals)
+    → ((all : Text) → around totals all ≡ opening form ++ ((if is_collected form then drop 1 all else all) ++ closing form totals)) → AreReported around gives form sources before after totals
+    → IsDocument gives form sources before after totals
+document_of around gives form sources before after totals is reported = record {
+  reads = reported.reads;
+  each = reported.each;
+  given = reported.given;
+  counted = reported.counted;
+  written = subst (Appends before after) (is (reports form reported.reads)) reported.written;
+}
+
+-- … in a form that is collected, …
 pub collected : (gives : Giving) (form : Form) (sources : Sources) (before after : Option Text) (totals : Totals)
     → is_collected form ≡ true → AreReported (λ totals reports. opening form ++ (drop 1 reports ++ closing form totals)) gives form sources before after totals
     → IsDocument gives form sources before after totals
-collected gives form sources before after totals is reported = record {
-  reads = reported.reads;
-  each = reported.each;
-  given = reported.given;
-  counted = reported.counted;
-  written = subst (λ b. Appends before after (opening form ++ ((if b then drop 1 (reports form reported.reads) else reports form reported.reads) ++ closing form totals))) (sym is) reported.written;
-}
+collected gives form sources before after totals is = document_of _ gives form sources before after totals (λ all. ap (λ b. opening form ++ ((if b then drop 1 all else all) ++ closing form totals)) (sym is))
 
+-- … and in one that isn't
 pub streamed : (gives : Giving) (form : Form) (sources : Sources) (before after : Option Text) (totals : Totals)
     → is_collected form ≡ false → AreReported (λ totals reports. opening form ++ (reports ++ closing form totals)) gives form sources before after totals
     → IsDocument gives form sources before after totals
-streamed gives form sources before after totals is reported = record {
-  reads = reported.reads;
-  each = reported.each;
-  given = reported.given;
-  counted = reported.counted;
-  written = subst (λ b. Appends before after (opening form ++ ((if b then drop 1 (reports form reported.reads) else reports form reported.reads) ++ closing form totals))) (sym is) reported.written;
-}
+streamed gives form sources before after totals is = document_of _ gives form sources before after totals (λ all. ap (λ b. opening form ++ ((if b then drop 1 all else all) ++ closing form totals)) (sym is))
 
 -- totals of all sources are totals of as many texts
 pub totals_alone : (around : Totals → Text → Text) (gives : Giving) (form : Form) (sources : Sources) (before after : Option Text) (totals : Totals)

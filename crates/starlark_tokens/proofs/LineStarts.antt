@@ -1,6 +1,6 @@
 -- Starts of lines, and tabs, are character boundaries.
 use Rattle.std.proofs.Common.{◌≡◌, ℕ, ◌+◌, ◌-◌, ◌<◌, ◌≤◌, Bool, true, false, not, ◌==◌, length, drop, take, refl, ap, sym, subst, ◌∙◌, arith, ◌⊎◌, inl, inr, length-drop}
-use Rattle.std.proofs.lemmas.Bool.{cases_lt, eqb-true}
+use Rattle.std.proofs.lemmas.Bool.{cases_lt, eqb-true, not-false}
 use Rattle.std.proofs.lemmas.List.{get_or-drop, length-take-le, take-take}
 use Rattle.std.proofs.lemmas.List.Sums.{prefix_len_stops, prefix_len-le-length, suffix_len-le-length}
 use Rattle.std.proofs.lemmas.Str.{IsCharBoundary-before_ascii, IsCharBoundary-end, IsCharBoundary-from_drop, IsCharBoundary-from_take, IsUtf8-take}
@@ -32,11 +32,7 @@ abbrev is_no_tab : ℕ → Bool
 is_no_tab b = not (b == 9)
 
 is_tab : (b : ℕ) → is_no_tab b ≡ false → b ≡ 9
-is_tab b other = eqb-true b 9 (by (b == 9) refl other)
-  where
-    by : (test : Bool) → (b == 9) ≡ test → not test ≡ false → (b == 9) ≡ true
-    by true is other = is
-    by false is other = cc
+is_tab b other = eqb-true b 9 (not-false (b == 9) other)
 
 -- a tab, or the end of a text, is at a character boundary
 pub next_tab_boundary : (text : Text) (at : ℕ) → at ≤ length text → IsCharBoundary text (next_tab text at)

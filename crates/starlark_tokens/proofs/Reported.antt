@@ -33,22 +33,7 @@ use Rattle.starlark_tokens.specs.Inner.ShownKinds.{code_of_kind, shown_of_kind}
 use Rattle.starlark_base.specs.Positions.{position_at}
 use Rattle.starlark_tokens.specs.Reports.{fault_count, fault_report, is_fault, item_report, items_report, prefix_of, report, token_report}
 use Rattle.starlark_tokens.specs.ShownPlaces.{shown_at, shown_of}
-
--- what an error of the lexer is printed as
-message_is : (error : LexemeError) (node : Fault) → fault_view error ≡ Some node → kind_text (Parser (message.Lexeme error)) ≡ message_of node
-unfolding kind_text message_text fault_text message_of
-message_is error.Indentation node e = let same : token.Indentation ≡ node = cc in subst (λ n. kind_text (Parser (message.Lexeme error.Indentation)) ≡ message_of n) same refl
-message_is (error.InvalidInput text) node e = let same : token.InvalidInput (string_bytes text) ≡ node = cc in subst (λ n. kind_text (Parser (message.Lexeme (error.InvalidInput text))) ≡ message_of n) same refl
-message_is error.InvalidTab node e = let same : token.InvalidTab ≡ node = cc in subst (λ n. kind_text (Parser (message.Lexeme error.InvalidTab)) ≡ message_of n) same refl
-message_is error.UnfinishedStringLiteral node e = let same : token.UnfinishedStringLiteral ≡ node = cc in subst (λ n. kind_text (Parser (message.Lexeme error.UnfinishedStringLiteral)) ≡ message_of n) same refl
-message_is (error.InvalidEscapeSequence text) node e = let same : token.InvalidEscapeSequence (string_bytes text) ≡ node = cc in subst (λ n. kind_text (Parser (message.Lexeme (error.InvalidEscapeSequence text))) ≡ message_of n) same refl
-message_is error.EmptyEscapeSequence node e = let same : token.EmptyEscapeSequence ≡ node = cc in subst (λ n. kind_text (Parser (message.Lexeme error.EmptyEscapeSequence)) ≡ message_of n) same refl
-message_is (error.ReservedKeyword word) node e = let same : token.ReservedKeyword (string_bytes word) ≡ node = cc in subst (λ n. kind_text (Parser (message.Lexeme (error.ReservedKeyword word))) ≡ message_of n) same refl
-message_is (error.StartsZero word) node e = let same : token.StartsZero (string_bytes word) ≡ node = cc in subst (λ n. kind_text (Parser (message.Lexeme (error.StartsZero word))) ≡ message_of n) same refl
-message_is (error.IntParse text) node e = cc
-message_is error.CommentSpanComputedIncorrectly node e = cc
-message_is (error.CannotParse text base) node e = cc
-message_is error.UnfinishedFStringExpression node e = let same : token.UnfinishedFStringExpression ≡ node = cc in subst (λ n. kind_text (Parser (message.Lexeme error.UnfinishedFStringExpression)) ≡ message_of n) same refl
+use Rattle.starlark_run.proofs.PrintedItems.{message_is}
 
 -- where the fault of an error of the lexer is shown
 shown_is : (error : LexemeError) (node : Fault) → fault_view error ≡ Some node → shown_of_kind (Parser (message.Lexeme error)) ≡ shown_of node
@@ -103,21 +88,6 @@ refused_count file (Refused fault) exception answers = refl
 pub thrown_span : (file : SourceFile) (next : LexerItem) (exception : Diagnosed ErrorKind) → Answers file next (Err (refusal.Error exception)) → IsSome exception.span
 thrown_span file (Given lexeme) exception answers = absurd answers
 thrown_span file (Refused fault) exception answers = rw answers.2 cc
-
--- the item that was answered, and those after it
-pub record IsNext (file : SourceFile) (left : List LexerItem) (answer : Result (ℕ × Token × ℕ) (OrMemory (Diagnosed ErrorKind))) : Type 0 where
-  pub next : LexerItem
-  pub is : left ≡ next ∷ drop 1 left
-  pub answers : Answers file next answer
-
-pub next_item : (file : SourceFile) (left : List LexerItem) (answer : Result (ℕ × Token × ℕ) (OrMemory (Diagnosed ErrorKind))) → AnswersNext file (slice_get left 0) (Some answer) → IsNext file left answer
-next_item file [] answer answers = absurd answers
-next_item file (item ∷ more) answer answers = record { next = item; is = refl; answers = answers }
-
--- where nothing is answered nothing is left
-pub next_none : (file : SourceFile) (left : List LexerItem) → AnswersNext file (slice_get left 0) None → left ≡ []
-next_none file [] answers = refl
-next_none file (item ∷ more) answers = absurd answers
 
 -- known bytes grow by a text, and then by another
 pub appends_then : (a b c : Option Text) (s t : Text) → Appends a b s → Appends b c t → Appends a c (s ++ t)

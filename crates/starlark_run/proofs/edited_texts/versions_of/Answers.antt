@@ -15,16 +15,15 @@ loop-at-preserved c =
     let inv = c.loop-at.invariant in
     let at = c.loop-at.at in
     let first = c.args.first.now in
-    let edits = c.args.edits.now in
     let versions = c.loop-at.versions.items in
     let next = c.in_ok-version.version in
     let newest : c.newest.result.now ≡ newest_text first versions = c.newest.ensures ∙ ap (newest_text first) c.deref.ensures.value in
     let ok : is_ok c.push.result ≡ true = sym c.in_ok-map_err.ensures.variant in
     let items : c.push.new.self.items ≡ versions ++ next ∷ [] = rw ok at c.push.ensures.items in
     let taken = rw newest at c.in_ok-version.ensures.text in
-    let left = one_taken at (newest_text first versions) (string_bytes next.text) edits _ c.loop-at-test.true taken in
+    let left = one_taken at (newest_text first versions) (string_bytes next.text) c.args.edits.now _ c.loop-at-test.true taken in
     record {
       versions = subst (AreVersions first) (sym items) (versions_more first versions next inv.versions (rw newest at c.in_ok-version.ensures.follows));
-      edited = subst (AreVersionsAfter first (take (at + 1) edits)) (sym items) (versions_after first edits versions at _ next c.loop-at-test.true inv.edited (rw newest at c.in_ok-version.ensures.edited));
-      left = inv.left ∙ left ∙ ap (λ t. text_after (at + 1) t (drop (at + 1) edits)) (sym (newest_more first versions next) ∙ ap (newest_text first) (sym items));
+      edited = subst (AreVersionsAfter first (take (at + 1) c.args.edits.now)) (sym items) (versions_after first c.args.edits.now versions at _ next c.loop-at-test.true inv.edited (rw newest at c.in_ok-version.ensures.edited));
+      left = inv.left ∙ left ∙ ap (λ t. text_after (at + 1) t (drop (at + 1) c.args.edits.now)) (sym (newest_more first versions next) ∙ ap (newest_text first) (sym items));
     }

@@ -1,5 +1,5 @@
 use Rattle.std.proofs.Common.{◌≡◌, ◌<◌, true, false, length, take, drop, refl, ◌∙◌, take-add, length-drop, length-take, arith}
-use Rattle.starlark_run.proofs.Calls.{came_end, came_failed, came_more, came_nil, came_told}
+use Rattle.starlark_devices.proofs.Calls.{came_end, came_failed, came_more, came_nil, came_told}
 use Rattle.starlark_run.proofs.Writing.{is_nothing-some, is_nothing-none}
 use Rattle.starlark_run.proofs.input.read_bytes.Goals as goal
 

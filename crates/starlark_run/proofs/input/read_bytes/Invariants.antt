@@ -1,5 +1,5 @@
 use Rattle.std.proofs.Common.{◌≡◌, ◌+◌, ◌-◌, ◌≤◌, false, length, take}
-use Rattle.starlark_run.specs.Calls.{Came}
+use Rattle.starlark_devices.specs.Calls.{Came}
 use Rattle.starlark_run.proofs.input.read_bytes.Given as goal
 
 -- what came is the part of the buffer that is filled

@@ -1,14 +1,14 @@
-use Rattle.std.proofs.Common.{◌≡◌, ◌+◌, ◌++◌, [], None, append-nil, ap, arith, drop, map, option_to_list, sym, ◌∙◌}
+use Rattle.std.proofs.Common.{◌≡◌, ◌+◌, ◌++◌, [], None, append-nil, ap, arith, drop, map, option_to_list, ◌∙◌}
 use Rattle.std.proofs.lemmas.Result.{err_from_is_err_and}
-use Rattle.starlark_token.specs.Lexemes.{lexeme_view, shown_lexeme}
+use Rattle.starlark_token.specs.Lexemes.{lexeme_view}
 use Rattle.starlark_token.specs.TextItems.{Given, Refused, items}
 use Rattle.starlark_grammar.specs.Reading.{outcome}
 use Rattle.starlark_grammar.proofs.Order.OrderedLexemes.{outcome_order}
 use Rattle.starlark_run.specs.Inner.FaultLine.{fault_items}
 use Rattle.starlark_run.specs.Output.{item_line, lines_of, output}
 use Rattle.starlark_run.specs.declared.ends.RunStatus.TheVariants as RunStatus
-use Rattle.starlark_run.proofs.PrintedItems.{IsNextLexeme, lines_cons, lines_nil, listed_fault, next_edges, next_listed, next_order, unthrown}
-use Rattle.starlark_run.proofs.MovedAlong.{place_start}
+use Rattle.starlark_run.proofs.PrintedItems.{fault_of_lexed, lines_cons, lines_nil, next_edges, next_of_lexed, next_order, unthrown}
+use Rattle.starlark_base.proofs.Pairs.{position_start}
 use Rattle.starlark_run.proofs.Writing.{writes_on, writes_on_stopped, writes_sound, writes_then, writes_then_stopped, writes_told, writes_waiting}
 use Rattle.starlark_run.proofs.lexed_printing.put_lexed.Goals as goal
 
@@ -18,7 +18,7 @@ loop-lexeme-init g c =
     let text = c.text-text.result.now in
     let all = (outcome_order text).0 in
     record {
-      place = place_start text c.text-text.utf8;
+      place = position_start text c.text-text.utf8;
       order = (all.0, all.2);
       written = writes_waiting g.W.WriteDevice.calls c.args.writer.now (c.args.printer.now.buffer ++ lines_of c.args.name.now text (items text)) (tt {0}) c.requires.sound;
     }
@@ -29,88 +29,53 @@ put_lexeme-requires-clause-sound g c = writes_sound _ _ _ _ _ _ c.loop-lexeme.in
 pub put_lexeme-requires-clause-onward : goal.put_lexeme-requires-clause-onward
 put_lexeme-requires-clause-onward g c =
     let text = c.text-text.result.now in
-    let name = c.args.name.now in
-    let inv = c.loop-lexeme.invariant in
     let k = c.loop-lexeme.lexeme-index in
-    let lexemes = c.lexemes-lexeme-items.result.now in
-    let same : map lexeme_view lexemes ≡ map shown_lexeme (outcome text).lexemes = c.lexemes-lexeme-items.ensures.lexemes ∙ c.requires.lexed.1.lexemes ∙ ap (λ t. map shown_lexeme (outcome t).lexemes) (sym c.text-text.ensures) in
-    let found = c.lexeme-item.result in
-    let next : IsNextLexeme text k found = next_listed text lexemes k found same c.loop-lexeme-test.true c.lexeme-item.is in
-    (next_order text _ k found _ inv.order.1 next).0
+    let next = next_of_lexed text _ _ c.lexemes-lexeme-items.result.now k c.lexeme-item.result c.lexemes-lexeme-items.ensures.lexemes c.requires.lexed.1.lexemes c.text-text.ensures c.loop-lexeme-test.true c.lexeme-item.is in
+    (next_order text _ k c.lexeme-item.result _ c.loop-lexeme.invariant.order.1 next).0
 
 pub put_lexeme-requires-clause-begin : goal.put_lexeme-requires-clause-begin
 put_lexeme-requires-clause-begin g c =
     let text = c.text-text.result.now in
-    let name = c.args.name.now in
-    let inv = c.loop-lexeme.invariant in
-    let k = c.loop-lexeme.lexeme-index in
-    let lexemes = c.lexemes-lexeme-items.result.now in
-    let same : map lexeme_view lexemes ≡ map shown_lexeme (outcome text).lexemes = c.lexemes-lexeme-items.ensures.lexemes ∙ c.requires.lexed.1.lexemes ∙ ap (λ t. map shown_lexeme (outcome t).lexemes) (sym c.text-text.ensures) in
-    let found = c.lexeme-item.result in
-    let next : IsNextLexeme text k found = next_listed text lexemes k found same c.loop-lexeme-test.true c.lexeme-item.is in
-    (next_edges text k found c.text-text.utf8 next).0
+    let next = next_of_lexed text _ _ c.lexemes-lexeme-items.result.now _ c.lexeme-item.result c.lexemes-lexeme-items.ensures.lexemes c.requires.lexed.1.lexemes c.text-text.ensures c.loop-lexeme-test.true c.lexeme-item.is in
+    (next_edges text _ c.lexeme-item.result c.text-text.utf8 next).0
 
 pub put_lexeme-requires-clause-end : goal.put_lexeme-requires-clause-end
 put_lexeme-requires-clause-end g c =
     let text = c.text-text.result.now in
-    let name = c.args.name.now in
-    let inv = c.loop-lexeme.invariant in
-    let k = c.loop-lexeme.lexeme-index in
-    let lexemes = c.lexemes-lexeme-items.result.now in
-    let same : map lexeme_view lexemes ≡ map shown_lexeme (outcome text).lexemes = c.lexemes-lexeme-items.ensures.lexemes ∙ c.requires.lexed.1.lexemes ∙ ap (λ t. map shown_lexeme (outcome t).lexemes) (sym c.text-text.ensures) in
-    let found = c.lexeme-item.result in
-    let next : IsNextLexeme text k found = next_listed text lexemes k found same c.loop-lexeme-test.true c.lexeme-item.is in
-    (next_edges text k found c.text-text.utf8 next).1
+    let next = next_of_lexed text _ _ c.lexemes-lexeme-items.result.now _ c.lexeme-item.result c.lexemes-lexeme-items.ensures.lexemes c.requires.lexed.1.lexemes c.text-text.ensures c.loop-lexeme-test.true c.lexeme-item.is in
+    (next_edges text _ c.lexeme-item.result c.text-text.utf8 next).1
 
 pub returns-in_err-place-clause-writes : goal.returns-in_err-place-clause-writes
 returns-in_err-place-clause-writes g c =
     let p = err_from_is_err_and c.from_residual.result c.from_residual.ensures.1 in
     let text = c.text-text.result.now in
-    let name = c.args.name.now in
-    let inv = c.loop-lexeme.invariant in
     let k = c.loop-lexeme.lexeme-index in
-    let lexemes = c.lexemes-lexeme-items.result.now in
-    let same : map lexeme_view lexemes ≡ map shown_lexeme (outcome text).lexemes = c.lexemes-lexeme-items.ensures.lexemes ∙ c.requires.lexed.1.lexemes ∙ ap (λ t. map shown_lexeme (outcome t).lexemes) (sym c.text-text.ensures) in
-    let found = c.lexeme-item.result in
-    let next : IsNextLexeme text k found = next_listed text lexemes k found same c.loop-lexeme-test.true c.lexeme-item.is in
-    let item = Given (lexeme_view found) in
-    let rest = lines_of name text (drop (k + 1) (items text)) in
-    let before = rw (next.items, lines_cons name text item (drop (k + 1) (items text))) at inv.written in
-    rw (p.1, p.2, ← c.text-text.ensures) (writes_on_stopped _ _ _ _ _ _ _ c.loop-lexeme.printer.buffer (item_line name text item) rest c.put_lexeme.new.self.buffer _ _ _ before c.in_err-place.ensures.writes)
+    let next = next_of_lexed text _ _ c.lexemes-lexeme-items.result.now k c.lexeme-item.result c.lexemes-lexeme-items.ensures.lexemes c.requires.lexed.1.lexemes c.text-text.ensures c.loop-lexeme-test.true c.lexeme-item.is in
+    let before = rw (next.items, lines_cons c.args.name.now text (Given (lexeme_view c.lexeme-item.result)) (drop (k + 1) (items text))) at c.loop-lexeme.invariant.written in
+    rw (p.1, p.2, ← c.text-text.ensures) (writes_on_stopped _ _ _ _ _ _ _ c.loop-lexeme.printer.buffer (item_line c.args.name.now text (Given (lexeme_view c.lexeme-item.result))) (lines_of c.args.name.now text (drop (k + 1) (items text))) c.put_lexeme.new.self.buffer _ _ _ before c.in_err-place.ensures.writes)
 
 pub loop-lexeme-preserved : goal.loop-lexeme-preserved
 loop-lexeme-preserved g c =
     let text = c.text-text.result.now in
-    let name = c.args.name.now in
-    let inv = c.loop-lexeme.invariant in
     let k = c.loop-lexeme.lexeme-index in
-    let lexemes = c.lexemes-lexeme-items.result.now in
-    let same : map lexeme_view lexemes ≡ map shown_lexeme (outcome text).lexemes = c.lexemes-lexeme-items.ensures.lexemes ∙ c.requires.lexed.1.lexemes ∙ ap (λ t. map shown_lexeme (outcome t).lexemes) (sym c.text-text.ensures) in
-    let found = c.lexeme-item.result in
-    let next : IsNextLexeme text k found = next_listed text lexemes k found same c.loop-lexeme-test.true c.lexeme-item.is in
-    let item = Given (lexeme_view found) in
-    let rest = lines_of name text (drop (k + 1) (items text)) in
-    let before = rw (next.items, lines_cons name text item (drop (k + 1) (items text))) at inv.written in
-    let on = writes_on _ (Unit {0}) _ _ _ _ c.loop-lexeme.printer.buffer (item_line name text item) rest c.put_lexeme.new.self.buffer _ _ (tt {0}) before c.in_ok-place.ensures.writes in
-    let order = (next_order text _ k found _ inv.order.1 next).2 in
+    let next = next_of_lexed text _ _ c.lexemes-lexeme-items.result.now k c.lexeme-item.result c.lexemes-lexeme-items.ensures.lexemes c.requires.lexed.1.lexemes c.text-text.ensures c.loop-lexeme-test.true c.lexeme-item.is in
+    let before = rw (next.items, lines_cons c.args.name.now text (Given (lexeme_view c.lexeme-item.result)) (drop (k + 1) (items text))) at c.loop-lexeme.invariant.written in
+    let on = writes_on _ (Unit {0}) _ _ _ _ c.loop-lexeme.printer.buffer (item_line c.args.name.now text (Given (lexeme_view c.lexeme-item.result))) (lines_of c.args.name.now text (drop (k + 1) (items text))) c.put_lexeme.new.self.buffer _ _ (tt {0}) before c.in_ok-place.ensures.writes in
+    let order = (next_order text _ k c.lexeme-item.result _ c.loop-lexeme.invariant.order.1 next).2 in
     record {
       place = c.in_ok-place.ensures.place;
-      order = (inv.order.0, rw c.in_ok-place.ensures.at order);
+      order = (c.loop-lexeme.invariant.order.0, rw c.in_ok-place.ensures.at order);
       written = on;
     }
 
 pub returns-in_default-clause-writes : goal.returns-in_default-clause-writes
 returns-in_default-clause-writes g c =
     let text = c.text-text.result.now in
-    let name = c.args.name.now in
-    let inv = c.loop-lexeme.invariant in
     let k = c.loop-lexeme.lexeme-index in
-    let lexemes = c.lexemes-lexeme-items.result.now in
-    let same : map lexeme_view lexemes ≡ map shown_lexeme (outcome text).lexemes = c.lexemes-lexeme-items.ensures.lexemes ∙ c.requires.lexed.1.lexemes ∙ ap (λ t. map shown_lexeme (outcome t).lexemes) (sym c.text-text.ensures) in
-    let left : drop k (items text) ≡ fault_items text = listed_fault text lexemes k same (omega (arith, c.loop-lexeme-test.false, c.loop-lexeme.auto.lexeme-index-end)) in
+    let left : drop k (items text) ≡ fault_items text = fault_of_lexed text _ _ c.lexemes-lexeme-items.result.now k c.lexemes-lexeme-items.ensures.lexemes c.requires.lexed.1.lexemes c.text-text.ensures (omega (arith, c.loop-lexeme-test.false, c.loop-lexeme.auto.lexeme-index-end)) in
     let none : (outcome c.args.lexed.now.text).fault ≡ None = unthrown c.requires.lexed.0 (outcome c.args.lexed.now.text).fault (rw (← c.in_default.ensures) at c.requires.lexed.1.fault) in
     let items_left : drop k (items text) ≡ [] = left ∙ ap (λ f. map Refused (option_to_list f)) (ap (λ t. (outcome t).fault) c.text-text.ensures ∙ none) in
-    rw (← c.text-text.ensures) (writes_told _ _ _ _ _ _ _ _ (rw (items_left, lines_nil name text, append-nil c.loop-lexeme.printer.buffer) at inv.written))
+    rw (← c.text-text.ensures) (writes_told _ _ _ _ _ _ _ _ (rw (items_left, lines_nil c.args.name.now text, append-nil c.loop-lexeme.printer.buffer) at c.loop-lexeme.invariant.written))
 
 pub exception-requires-clause-sound : goal.exception-requires-clause-sound
 exception-requires-clause-sound g c = writes_sound _ _ _ _ _ _ c.loop-lexeme.invariant.written
@@ -119,21 +84,13 @@ pub returns-in_err-exception-clause-writes : goal.returns-in_err-exception-claus
 returns-in_err-exception-clause-writes g c =
     let p = err_from_is_err_and c.from_residual-in_err-exception.result c.from_residual-in_err-exception.ensures.1 in
     let text = c.text-text.result.now in
-    let name = c.args.name.now in
-    let inv = c.loop-lexeme.invariant in
     let k = c.loop-lexeme.lexeme-index in
-    let lexemes = c.lexemes-lexeme-items.result.now in
-    let same : map lexeme_view lexemes ≡ map shown_lexeme (outcome text).lexemes = c.lexemes-lexeme-items.ensures.lexemes ∙ c.requires.lexed.1.lexemes ∙ ap (λ t. map shown_lexeme (outcome t).lexemes) (sym c.text-text.ensures) in
-    let left : drop k (items text) ≡ fault_items text = listed_fault text lexemes k same (omega (arith, c.loop-lexeme-test.false, c.loop-lexeme.auto.lexeme-index-end)) in
-    rw (p.1, p.2, ← c.text-text.ensures) (writes_then_stopped _ _ _ _ _ _ _ _ _ _ _ _ (rw left at inv.written) c.in_err-exception.ensures)
+    let left : drop k (items text) ≡ fault_items text = fault_of_lexed text _ _ c.lexemes-lexeme-items.result.now k c.lexemes-lexeme-items.ensures.lexemes c.requires.lexed.1.lexemes c.text-text.ensures (omega (arith, c.loop-lexeme-test.false, c.loop-lexeme.auto.lexeme-index-end)) in
+    rw (p.1, p.2, ← c.text-text.ensures) (writes_then_stopped _ _ _ _ _ _ _ _ _ _ _ _ (rw left at c.loop-lexeme.invariant.written) c.in_err-exception.ensures)
 
 pub returns-clause-writes : goal.returns-clause-writes
 returns-clause-writes g c =
     let text = c.text-text.result.now in
-    let name = c.args.name.now in
-    let inv = c.loop-lexeme.invariant in
     let k = c.loop-lexeme.lexeme-index in
-    let lexemes = c.lexemes-lexeme-items.result.now in
-    let same : map lexeme_view lexemes ≡ map shown_lexeme (outcome text).lexemes = c.lexemes-lexeme-items.ensures.lexemes ∙ c.requires.lexed.1.lexemes ∙ ap (λ t. map shown_lexeme (outcome t).lexemes) (sym c.text-text.ensures) in
-    let left : drop k (items text) ≡ fault_items text = listed_fault text lexemes k same (omega (arith, c.loop-lexeme-test.false, c.loop-lexeme.auto.lexeme-index-end)) in
-    rw (← c.text-text.ensures) (writes_then _ _ _ _ _ _ _ _ _ _ RunStatus.Fault (rw left at inv.written) c.in_ok-exception.ensures)
+    let left : drop k (items text) ≡ fault_items text = fault_of_lexed text _ _ c.lexemes-lexeme-items.result.now k c.lexemes-lexeme-items.ensures.lexemes c.requires.lexed.1.lexemes c.text-text.ensures (omega (arith, c.loop-lexeme-test.false, c.loop-lexeme.auto.lexeme-index-end)) in
+    rw (← c.text-text.ensures) (writes_then _ _ _ _ _ _ _ _ _ _ RunStatus.Fault (rw left at c.loop-lexeme.invariant.written) c.in_ok-exception.ensures)

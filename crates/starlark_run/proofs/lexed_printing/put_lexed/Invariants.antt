@@ -3,14 +3,14 @@ use Rattle.starlark_grammar.specs.Gaps.{InOrder}
 use Rattle.starlark_token.specs.TextItems.{items}
 use Rattle.starlark_grammar.specs.Reading.{outcome}
 use Rattle.starlark_run.specs.Output.{lines_of, output}
-use Rattle.starlark_run.specs.KnownPlaces.{IsPlace}
+use Rattle.starlark_base.specs.Positions.{IsPosition}
 use Rattle.starlark_run.specs.Writing.{Writes}
 use Rattle.starlark_run.proofs.lexed_printing.put_lexed.Given as goal
 
 -- the output is what was written, what waits, and the lines of the items that are left; no lexeme that is left begins before the place
 abbrev pub invariant-loop-lexeme : goal.invariant-loop-lexeme
 invariant-loop-lexeme g l = record {
-  place : IsPlace l.text l.place;
+  place : IsPosition l.text l.place;
   order : (to : ℕ) × InOrder l.text l.place.at (drop l.lexeme-index (outcome l.text).lexemes) to;
   written : Writes {T = Unit {0}} g.W.WriteDevice.calls l.fn.writer l.writer (l.fn.printer.buffer ++ output l.name l.text) (l.printer.buffer ++ lines_of l.name l.text (drop l.lexeme-index (items l.text))) (Ok tt);
 }

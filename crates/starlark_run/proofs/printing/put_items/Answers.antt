@@ -12,7 +12,7 @@ use Rattle.starlark_run.specs.Writing.{Writes}
 use Rattle.starlark_run.specs.declared.ends.RunStatus.TheVariants as RunStatus
 use Rattle.starlark_run.proofs.PrintedItems.{lines_cons, lines_nil, next_edges, next_few, next_order, thrown_status}
 use Rattle.starlark_run.proofs.Answered.{all_given, next_fault, next_lexeme}
-use Rattle.starlark_run.proofs.MovedAlong.{place_start}
+use Rattle.starlark_base.proofs.Pairs.{position_start}
 use Rattle.starlark_run.proofs.Writing.{writes_given_up, writes_on, writes_on_stopped, writes_sound, writes_then, writes_then_stopped, writes_told, writes_waiting}
 use Rattle.starlark_run.proofs.printing.put_items.Goals as goal
 
@@ -27,7 +27,7 @@ loop-item-init g c =
     let all = (outcome_order text).0 in
     let waiting = writes_waiting g.W.WriteDevice.calls c.args.writer.now (buffer ++ lines_of name text (items text)) (tt {0}) c.requires.sound in
     record {
-      place = place_start text c.utf8.text;
+      place = position_start text c.utf8.text;
       order = (all.0, subst (λ n. InOrder text 0 (drop n (outcome text).lexemes) all.0) (sym handed) all.2);
       few = subst (λ n. n ≤ length (outcome text).lexemes) (sym handed) (omega arith);
       going = ap (λ (l : LexerView). l.has_ended) fresh;

@@ -3,14 +3,14 @@ use Rattle.starlark_grammar.specs.Gaps.{InOrder}
 use Rattle.starlark_token.specs.TextItems.{items}
 use Rattle.starlark_grammar.specs.Reading.{outcome}
 use Rattle.starlark_run.specs.Output.{lines_of, output}
-use Rattle.starlark_run.specs.KnownPlaces.{IsPlace}
+use Rattle.starlark_base.specs.Positions.{IsPosition}
 use Rattle.starlark_run.specs.Writing.{Writes}
 use Rattle.starlark_run.proofs.printing.put_items.Given as goal
 
 -- the output is what was written, what waits, and the lines of the items that are left; no lexeme that is left begins before the place
 abbrev pub invariant-loop-item : goal.invariant-loop-item
 invariant-loop-item g l = record {
-  place : IsPlace l.text l.place;
+  place : IsPosition l.text l.place;
   order : (to : ℕ) × InOrder l.text l.place.at (drop l.lexer.yielded_count (outcome l.text).lexemes) to;
   few : l.lexer.yielded_count ≤ length (outcome l.text).lexemes;
   going : l.lexer.has_ended ≡ false;

@@ -1,20 +1,12 @@
-use Rattle.std.proofs.Common.{◌≡◌, ◌∙◌, ◌++◌, ap, map, string_bytes, sym}
-use Rattle.std.specs.List.{flat_map}
-use Rattle.std.specs.Str.{chars}
+use Rattle.std.proofs.Common.{string_bytes}
 use Rattle.std.proofs.lemmas.Iterator.{YieldsList-from_chars}
 use Rattle.std.proofs.lemmas.Iterator.Consumers.{YieldsList-end}
-use Rattle.std.proofs.lemmas.List.{flat_map_more, map-id}
 use Rattle.starlark_tokens.specs.GithubLines.{github_char}
+use Rattle.starlark_tokens.proofs.PushedCharacters.{all_pushed, one_more_pushed}
 use Rattle.starlark_tokens.proofs.github_lines.push_message.Goals as goal
 
 pub loop-character-preserved : goal.loop-character-preserved
-loop-character-preserved c =
-    c.in_ok-push_github_char.ensures
-    ∙ ap (λ t. t ++ github_char c.in-Some.character) c.loop-character.invariant
-    ∙ flat_map_more github_char (string_bytes c.args.line.now) c.loop-character.yielded c.in-Some.character
+loop-character-preserved c = one_more_pushed github_char (string_bytes c.args.line.now) _ _ c.loop-character.yielded c.in-Some.character c.in_ok-push_github_char.ensures c.loop-character.invariant
 
 pub returns : goal.returns
-returns c =
-    let all = YieldsList-end (YieldsList-from_chars c.args.text.now c.utf8.text cc) c.loop-character.yielded _ c.loop-character.yielded_by _ _ c.in-None.is c.next.ensures.steps in
-    c.loop-character.invariant
-    ∙ ap (λ cs. string_bytes c.args.line.now ++ flat_map github_char cs) (sym (map-id c.loop-character.yielded) ∙ all.0)
+returns c = all_pushed github_char (string_bytes c.args.line.now) _ c.loop-character.yielded _ c.loop-character.invariant (YieldsList-end (YieldsList-from_chars c.args.text.now c.utf8.text cc) c.loop-character.yielded _ c.loop-character.yielded_by _ _ c.in-None.is c.next.ensures.steps).0

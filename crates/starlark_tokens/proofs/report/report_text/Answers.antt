@@ -4,7 +4,8 @@ use Rattle.std.specs.Io.KnownBytes.{Appends}
 use Rattle.starlark_syntax.specs.RecoveringLexer.{RecoveringView, all_items}
 use Rattle.starlark_syntax.specs.Lexer.{AnswersBetween, AnswersWithin}
 use Rattle.starlark_tokens.specs.Reports.{fault_count, is_fault, item_report, items_report, prefix_of, report}
-use Rattle.starlark_tokens.proofs.Reported.{appends_nothing, appends_then, count_all, count_cons, next_item, next_none, report_all, report_cons, report_nil, saturated}
+use Rattle.starlark_tokens.proofs.Reported.{appends_nothing, appends_then, count_all, count_cons, report_all, report_cons, report_nil, saturated}
+use Rattle.starlark_syntax.proofs.NextItems.{next_item, next_none}
 use Rattle.starlark_tokens.proofs.report.report_text.Goals as goal
 
 none_before : (n : ℕ) → 0 + n ≡ n

@@ -1,8 +1,10 @@
-use Rattle.std.proofs.Common.{◌≡◌, ◌∙◌, ap, rules}
 use Rattle.std.proofs.lemmas.Result.{err_from_is_err_and}
-use Rattle.starlark_base.specs.Places.{place_at}
+use Rattle.starlark_base.proofs.Pairs.{position_start}
 use Rattle.starlark_run.proofs.Writing.{writes_refused}
 use Rattle.starlark_run.proofs.printer.Printer.fault.Goals as goal
+
+pub nearest-begin-requires-clause-earlier : goal.nearest-begin-requires-clause-earlier
+nearest-begin-requires-clause-earlier g c = position_start c.args.text.now c.utf8.text
 
 pub returns-in_err-fault_line : goal.returns-in_err-fault_line
 returns-in_err-fault_line g c =
@@ -10,12 +12,4 @@ returns-in_err-fault_line g c =
     rw (p.1, p.2) (writes_refused _ _ _ _ _ c.requires.sound)
 
 pub returns : goal.returns
-returns g c =
-    let text = c.args.text.now in
-    let begin = c.moved_to-begin.result in
-    let end = c.moved-end.result in
-    let from : begin.at ≡ c.args.span.begin = search rules in
-    let to : end.at ≡ c.args.span.end = search rules in
-    let first : begin.position ≡ place_at text c.args.span.begin = c.moved_to-begin.ensures.place.position ∙ ap (place_at text) from in
-    let last : end.position ≡ place_at text c.args.span.end = c.moved-end.ensures.place.position ∙ ap (place_at text) to in
-    rw (c.as_bytes.ensures.value, c.in_ok-fault_line.ensures, from, to, first, last) at c.put.ensures.writes
+returns g c = rw (c.as_bytes.ensures.value, c.in_ok-fault_line.ensures, c.nearest-begin.ensures, c.moved-end.ensures, c.get.ensures, c.begin.ensures, c.get-2.ensures, c.end.ensures) at c.put.ensures.writes

@@ -1,6 +1,4 @@
-use Rattle.std.proofs.Common.{◌∙◌, ap}
 use Rattle.std.proofs.lemmas.Result.{err_from_is_err_and}
-use Rattle.starlark_base.specs.Places.{place_at}
 use Rattle.starlark_run.proofs.Writing.{writes_refused, writes_failed, writes_told}
 use Rattle.starlark_run.proofs.printer.Printer.put_lexeme.Goals as goal
 
@@ -12,14 +10,10 @@ returns-in_err-lexeme_line-clause-writes g c =
 pub returns-in_err-put-clause-writes : goal.returns-in_err-put-clause-writes
 returns-in_err-put-clause-writes g c =
     let p = err_from_is_err_and c.from_residual-in_err-put.result c.from_residual-in_err-put.ensures.1 in
-    let begin = c.moved-begin.ensures.place.position ∙ ap (place_at c.args.text.now) c.moved-begin.ensures.at in
-    let end = c.moved-end.ensures.place.position ∙ ap (place_at c.args.text.now) c.moved-end.ensures.at in
-    let line = rw (c.moved-begin.ensures.at, c.moved-end.ensures.at, begin, end) at c.in_ok-lexeme_line.ensures in
+    let line = rw (c.moved-begin.ensures, c.moved-end.ensures) at c.in_ok-lexeme_line.ensures in
     rw (p.1, p.2) (writes_failed _ _ _ _ _ _ _ _ _ (rw (c.as_bytes.ensures.value, line) at c.in_err-put.ensures.writes))
 
 pub returns-clause-writes : goal.returns-clause-writes
 returns-clause-writes g c =
-    let begin = c.moved-begin.ensures.place.position ∙ ap (place_at c.args.text.now) c.moved-begin.ensures.at in
-    let end = c.moved-end.ensures.place.position ∙ ap (place_at c.args.text.now) c.moved-end.ensures.at in
-    let line = rw (c.moved-begin.ensures.at, c.moved-end.ensures.at, begin, end) at c.in_ok-lexeme_line.ensures in
+    let line = rw (c.moved-begin.ensures, c.moved-end.ensures) at c.in_ok-lexeme_line.ensures in
     writes_told _ _ _ _ _ _ _ _ (rw (c.as_bytes.ensures.value, line) at c.in_ok-put.ensures.writes)

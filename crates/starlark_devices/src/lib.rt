@@ -1,9 +1,10 @@
 //! Readers and writers whose contracts state each call.
+#![tactic(auto)]
 
 ghost use Rattle.std.specs.Prelude.{◌≡◌, IfErr, IfOk};
 ghost use Rattle.std.specs.Io.{ReadsAtMost, WritesAtMost};
 ghost use Rattle.std.specs.Io.KnownBytes.{Keeps, ReadConsumes, WriteAppends};
-ghost use Rattle.starlark_run.specs.Calls.{ReaderCalls, WriterCalls, WritesText, count_of, is_ok_of, std_reader, std_writer};
+ghost use Rattle.starlark_devices.specs.Calls.{ReaderCalls, WriterCalls, WritesText, count_of, is_ok_of, std_reader, std_writer};
 
 use std::io;
 use std::io::{ErrorKind, Read, Write};

@@ -2,22 +2,25 @@
 use Rattle.std.specs.Prelude.{◌≡◌, ◌<◌, ℕ, Bool, true, false, List, [], ◌∷◌, ◌++◌, take, length, Option, Some, None, Result, Ok, Err, ⊤}
 use Rattle.std.specs.List.{AllByRecursion, flat_map}
 use Rattle.std.specs.Io.KnownBytes.{Appends, Consumes, IsAtEnd, Keeps}
-use Rattle.starlark_base.specs.Places.{Text}
+
+-- the bytes that a device gives or takes
+abbrev pub Bytes : Type 0
+Bytes = List ℕ
 
 -- a reader's account of its calls: the bytes that are left in it if they are known, what one read
 -- does, and what a failed one returns; a read has the reader before it, the buffer after it, the
 -- number of bytes that it gave or `None` if it failed, and the reader after it
 pub record ReaderCalls (R : Type 0) : Type 1 where
-  pub remaining : R → Option Text
-  pub read : R → Text → Option ℕ → R → Type 0
+  pub remaining : R → Option Bytes
+  pub read : R → Bytes → Option ℕ → R → Type 0
   pub failure : {E : Type 0} → R → E → R → Type 0
 
 -- a writer's account of its calls: the bytes that it has if they are known, what one write does,
 -- what one flush does, and what a failed call returns; a write has the piece and the number of
 -- bytes of it that were taken or `None` if it failed, and a flush has whether it succeeded
 pub record WriterCalls (W : Type 0) : Type 1 where
-  pub contents : W → Option Text
-  pub write : W → Text → Option ℕ → W → Type 0
+  pub contents : W → Option Bytes
+  pub write : W → Bytes → Option ℕ → W → Type 0
   pub flush : W → Bool → W → Type 0
   pub failure : {E : Type 0} → W → E → W → Type 0
 
@@ -32,21 +35,21 @@ is_ok_of (Ok value) = true
 is_ok_of (Err e) = false
 
 -- what std's `Read` says of a read
-abbrev pub StdRead : {R : Type 0} → (R → Option Text) → R → Text → Option ℕ → R → Type 0
+abbrev pub StdRead : {R : Type 0} → (R → Option Bytes) → R → Bytes → Option ℕ → R → Type 0
 StdRead remaining old room (Some count) new = Consumes (remaining old) (remaining new) (take count room)
 StdRead remaining old room None new = Keeps (remaining old) (remaining new)
 
 -- a reader of which std's `Read` is all that is known
-abbrev pub std_reader : {R : Type 0} → (R → Option Text) → ReaderCalls R
+abbrev pub std_reader : {R : Type 0} → (R → Option Bytes) → ReaderCalls R
 std_reader remaining = record { remaining = remaining; read = StdRead remaining; failure = λ old error new. ⊤ }
 
 -- what std's `Write` says of a write
-abbrev pub StdWrite : {W : Type 0} → (W → Option Text) → W → Text → Option ℕ → W → Type 0
+abbrev pub StdWrite : {W : Type 0} → (W → Option Bytes) → W → Bytes → Option ℕ → W → Type 0
 StdWrite contents old piece (Some count) new = Appends (contents old) (contents new) (take count piece)
 StdWrite contents old piece None new = Keeps (contents old) (contents new)
 
 -- a writer of which std's `Write` is all that is known
-abbrev pub std_writer : {W : Type 0} → (W → Option Text) → WriterCalls W
+abbrev pub std_writer : {W : Type 0} → (W → Option Bytes) → WriterCalls W
 std_writer contents = record {
   contents = contents;
   write = StdWrite contents;
@@ -57,7 +60,7 @@ std_writer contents = record {
 -- one call of a reader: the buffer after it, the number of bytes that it gave or `None` if it
 -- failed, and the reader after it
 pub record ReadCall (R : Type 0) : Type 0 where
-  pub room : Text
+  pub room : Bytes
   pub count : Option ℕ
   pub after : R
 
@@ -67,10 +70,10 @@ WasRead calls old [] new = new ≡ old
 WasRead calls old (call ∷ more) new = calls.read old call.room call.count call.after × WasRead calls call.after more new
 
 -- the bytes that a call gave
-abbrev pub given_by : {R : Type 0} → ReadCall R → Text
+abbrev pub given_by : {R : Type 0} → ReadCall R → Bytes
 given_by call = by call.count
   where
-    by : Option ℕ → Text
+    by : Option ℕ → Bytes
     by None = []
     by (Some count) = take count call.room
 
@@ -92,7 +95,7 @@ StoppedBy ended failed calls = ⊥
 -- a text was read from a reader by calls that gave its bytes in order; if the reader ended or
 -- failed, one more call was made, the last, so no failed call was tried again; if it ended, nothing
 -- is left in it
-pub record Came {R : Type 0} (calls : ReaderCalls R) (old new : R) (ended failed : Bool) (came : Text) : Type 0 where
+pub record Came {R : Type 0} (calls : ReaderCalls R) (old new : R) (ended failed : Bool) (came : Bytes) : Type 0 where
   pub bytes : Consumes (calls.remaining old) (calls.remaining new) came
   pub nothing_left : ended ≡ true → IsAtEnd (calls.remaining new)
   pub log : List (ReadCall R)
@@ -105,7 +108,7 @@ pub record Came {R : Type 0} (calls : ReaderCalls R) (old new : R) (ended failed
 -- one call of a writer, and the writer after it: a write of a piece with the number of bytes taken
 -- or `None` if it failed, or a flush
 pub data WriterCall (W : Type 0) : Type 0 where
-  Wrote : (piece : Text) (count : Option ℕ) (after : W) → WriterCall W
+  Wrote : (piece : Bytes) (count : Option ℕ) (after : W) → WriterCall W
   Flushed : (is_ok : Bool) (after : W) → WriterCall W
 
 -- these calls of a writer were made, one after another, and no others
@@ -115,7 +118,7 @@ WasWritten calls old (Wrote piece count after ∷ more) new = calls.write old pi
 WasWritten calls old (Flushed is_ok after ∷ more) new = calls.flush old is_ok after × WasWritten calls after more new
 
 -- the bytes that a call took
-abbrev pub taken_by : {W : Type 0} → WriterCall W → Text
+abbrev pub taken_by : {W : Type 0} → WriterCall W → Bytes
 taken_by (Wrote piece (Some count) after) = take count piece
 taken_by call = []
 
@@ -145,7 +148,7 @@ EndedBy ending calls = ⊥
 
 -- a text was written to a writer by calls that took its bytes in order; then a flush if writing is
 -- done, or if it stopped one call that failed, the last, so no failed call was tried again
-pub record Went {W : Type 0} (calls : WriterCalls W) (ending : Ending) (old new : W) (taken : Text) : Type 0 where
+pub record Went {W : Type 0} (calls : WriterCalls W) (ending : Ending) (old new : W) (taken : Bytes) : Type 0 where
   pub bytes : Appends (calls.contents old) (calls.contents new) taken
   pub log : List (WriterCall W)
   pub last : List (WriterCall W)
@@ -156,6 +159,6 @@ pub record Went {W : Type 0} (calls : WriterCalls W) (ending : Ending) (old new 
 
 -- the result of writing a text by calls of a writer: it took all of it, or a beginning of it before a call that failed;
 -- it wasn't flushed
-unfoldable pub WritesText : {W T E : Type 0} → WriterCalls W → W → W → Text → Result T E → Type 0
+unfoldable pub WritesText : {W T E : Type 0} → WriterCalls W → W → W → Bytes → Result T E → Type 0
 WritesText calls old new text (Ok x) = Went calls Going old new text
-WritesText calls old new text (Err e) = (taken : Text) × (left : Text) × Went calls Broken old new taken × (taken ++ left ≡ text)
+WritesText calls old new text (Err e) = (taken : Bytes) × (left : Bytes) × Went calls Broken old new taken × (taken ++ left ≡ text)

@@ -3,15 +3,14 @@ use Rattle.std.proofs.Common.{◌≡◌, ◌<◌, ◌++◌, [], ◌∷◌, ℕ, 
 use Rattle.std.proofs.KnownBytes.{Appends-nil, Appends-trans, Appends-kept, Consumes-nil, Consumes-trans, Consumes-kept}
 use Rattle.std.specs.Io.KnownBytes.{Appends, Consumes, IsAtEnd, Keeps}
 use Rattle.std.specs.List.{AllByRecursion, flat_map}
-use Rattle.starlark_base.specs.Places.{Text}
-use Rattle.starlark_run.specs.Calls.{ReaderCalls, ReadCall, WasRead, GaveSome, given_by, StoppedBy, Came, WriterCalls, WriterCall, Wrote, Flushed, WasWritten, TookSome, taken_by, IsFailed, Ending, Going, Done, Broken, EndedBy, Went}
+use Rattle.starlark_devices.specs.Calls.{Bytes, ReaderCalls, ReadCall, WasRead, GaveSome, given_by, StoppedBy, Came, WriterCalls, WriterCall, Wrote, Flushed, WasWritten, TookSome, taken_by, IsFailed, Ending, Going, Done, Broken, EndedBy, Went}
 
 -- a list of items with a fact of each, and another after it
 pub all_append : {A : Type 0} (P : A → Type 0) (xs ys : List A) → AllByRecursion P xs → AllByRecursion P ys → AllByRecursion P (xs ++ ys)
 all_append P [] ys all more = more
 all_append P (x ∷ xs) ys all more = (all.0, all_append P xs ys all.1 more)
 
-pub flat_map_append : {A : Type 0} (f : A → Text) (xs ys : List A) → flat_map f (xs ++ ys) ≡ flat_map f xs ++ flat_map f ys
+pub flat_map_append : {A : Type 0} (f : A → Bytes) (xs ys : List A) → flat_map f (xs ++ ys) ≡ flat_map f xs ++ flat_map f ys
 flat_map_append f [] ys = refl
 flat_map_append f (x ∷ xs) ys = ap (λ t. f x ++ t) (flat_map_append f xs ys) ∙ sym (append_assoc (f x) (flat_map f xs) (flat_map f ys))
 
@@ -31,18 +30,18 @@ module _ {R : Type 0} (calls : ReaderCalls R) where
   came_nil r = record { bytes = Consumes-nil (calls.remaining r); nothing_left = λ e. cc; log = []; last = []; order = refl; some = tt; given = refl; stopped = tt }
 
   -- flags that are equal say the same
-  pub came_told : (a b : R) (x : Text) (ended failed is_ended is_failed : Bool) → ended ≡ is_ended → failed ≡ is_failed → Came calls a b is_ended is_failed x → Came calls a b ended failed x
+  pub came_told : (a b : R) (x : Bytes) (ended failed is_ended is_failed : Bool) → ended ≡ is_ended → failed ≡ is_failed → Came calls a b is_ended is_failed x → Came calls a b ended failed x
   came_told a b x ended failed is_ended is_failed e f came = rw (e, f) came
 
   no_last_read : (last : List (ReadCall R)) → StoppedBy false false last → last ≡ []
   no_last_read [] stopped = refl
   no_last_read (call ∷ more) stopped = absurd stopped
 
-  going : (a b : R) (x : Text) (came : Came calls a b false false x) → WasRead calls a came.log b
+  going : (a b : R) (x : Bytes) (came : Came calls a b false false x) → WasRead calls a came.log b
   going a b x came = subst (λ log. WasRead calls a log b) (ap (λ last. came.log ++ last) (no_last_read came.last came.stopped) ∙ append-nil came.log) came.order
 
   -- one read more that gave some bytes
-  pub came_more : (a b c : R) (x room : Text) (count : ℕ) → Came calls a b false false x → Consumes (calls.remaining b) (calls.remaining c) (take count room) → calls.read b room (Some count) c → 0 < count → Came calls a c false false (x ++ take count room)
+  pub came_more : (a b c : R) (x room : Bytes) (count : ℕ) → Came calls a b false false x → Consumes (calls.remaining b) (calls.remaining c) (take count room) → calls.read b room (Some count) c → 0 < count → Came calls a c false false (x ++ take count room)
   came_more a b c x room count came bytes read some =
       let call : ReadCall R = record { room = room; count = Some count; after = c } in
       record {
@@ -56,35 +55,29 @@ module _ {R : Type 0} (calls : ReaderCalls R) where
         stopped = tt;
       }
 
-  -- a last read that came to the end
-  pub came_end : (a b c : R) (x room : Text) → Came calls a b false false x → Consumes (calls.remaining b) (calls.remaining c) [] → IsAtEnd (calls.remaining c) → calls.read b room (Some 0) c → 0 < length room → Came calls a c true false x
-  came_end a b c x room came bytes end read some =
-      let call : ReadCall R = record { room = room; count = Some 0; after = c } in
-      record {
-        bytes = subst (Consumes (calls.remaining a) (calls.remaining c)) (append-nil x) (Consumes-trans _ _ _ _ _ came.bytes bytes);
-        nothing_left = λ e. end;
-        log = came.log;
-        last = call ∷ [];
-        order = read_append came.log (call ∷ []) a b c (going a b x came) (read, refl);
-        some = came.some;
-        given = came.given;
-        stopped = (refl, some);
-      }
+  -- a read after which no other is made
+  came_last : (a b c : R) (x : Bytes) (call : ReadCall R) (ended failed : Bool) → Came calls a b false false x → Consumes (calls.remaining a) (calls.remaining c) x → (ended ≡ true → IsAtEnd (calls.remaining c))
+      → WasRead calls b (call ∷ []) c → StoppedBy ended failed (call ∷ []) → Came calls a c ended failed x
+  came_last a b c x call ended failed came bytes end read stopped = record {
+    bytes = bytes;
+    nothing_left = end;
+    log = came.log;
+    last = call ∷ [];
+    order = read_append came.log (call ∷ []) a b c (going a b x came) read;
+    some = came.some;
+    given = came.given;
+    stopped = stopped;
+  }
 
-  -- a last read that failed
-  pub came_failed : (a b c : R) (x room : Text) → Came calls a b false false x → Keeps (calls.remaining b) (calls.remaining c) → calls.read b room None c → Came calls a c false true x
+  -- one that came to the end
+  pub came_end : (a b c : R) (x room : Bytes) → Came calls a b false false x → Consumes (calls.remaining b) (calls.remaining c) [] → IsAtEnd (calls.remaining c) → calls.read b room (Some 0) c → 0 < length room → Came calls a c true false x
+  came_end a b c x room came bytes end read some =
+      came_last a b c x (record { room = room; count = Some 0; after = c }) true false came (subst (Consumes (calls.remaining a) (calls.remaining c)) (append-nil x) (Consumes-trans _ _ _ _ _ came.bytes bytes)) (λ e. end) (read, refl) (refl, some)
+
+  -- one that failed
+  pub came_failed : (a b c : R) (x room : Bytes) → Came calls a b false false x → Keeps (calls.remaining b) (calls.remaining c) → calls.read b room None c → Came calls a c false true x
   came_failed a b c x room came keeps read =
-      let call : ReadCall R = record { room = room; count = None; after = c } in
-      record {
-        bytes = Consumes-kept _ _ _ _ came.bytes keeps;
-        nothing_left = λ e. cc;
-        log = came.log;
-        last = call ∷ [];
-        order = read_append came.log (call ∷ []) a b c (going a b x came) (read, refl);
-        some = came.some;
-        given = came.given;
-        stopped = refl;
-      }
+      came_last a b c x (record { room = room; count = None; after = c }) false true came (Consumes-kept _ _ _ _ came.bytes keeps) (λ e. cc) (read, refl) refl
 
 module _ {W : Type 0} (calls : WriterCalls W) where
   pub written_append : (xs ys : List (WriterCall W)) (a b c : W) → WasWritten calls a xs b → WasWritten calls b ys c → WasWritten calls a (xs ++ ys) c
@@ -101,7 +94,7 @@ module _ {W : Type 0} (calls : WriterCalls W) where
   no_last (call ∷ more) ended = absurd ended
 
   -- a text went, and then another
-  pub went_trans : (ending : Ending) (a b c : W) (x y : Text) → Went calls Going a b x → Went calls ending b c y → Went calls ending a c (x ++ y)
+  pub went_trans : (ending : Ending) (a b c : W) (x y : Bytes) → Went calls Going a b x → Went calls ending b c y → Went calls ending a c (x ++ y)
   went_trans ending a b c x y first next =
       let going : WasWritten calls a first.log b = subst (λ log. WasWritten calls a log b) (ap (λ last. first.log ++ last) (no_last first.last first.ended) ∙ append-nil first.log) first.order in
       let order = written_append first.log (next.log ++ next.last) a b c going next.order in
@@ -116,22 +109,22 @@ module _ {W : Type 0} (calls : WriterCalls W) where
       }
 
   -- one write that took some bytes
-  pub went_once : (a b : W) (piece : Text) (count : ℕ) → Appends (calls.contents a) (calls.contents b) (take count piece) → calls.write a piece (Some count) b → 0 < count → Went calls Going a b (take count piece)
+  pub went_once : (a b : W) (piece : Bytes) (count : ℕ) → Appends (calls.contents a) (calls.contents b) (take count piece) → calls.write a piece (Some count) b → 0 < count → Went calls Going a b (take count piece)
   went_once a b piece count bytes call some = record { bytes = bytes; log = Wrote piece (Some count) b ∷ []; last = []; order = (call, refl); some = (some, tt); given = append-nil (take count piece); ended = tt }
 
   -- a last call that failed
-  pub went_broken : (a b c : W) (x : Text) (call : WriterCall W) → Went calls Going a b x → Keeps (calls.contents b) (calls.contents c) → WasWritten calls b (call ∷ []) c → IsFailed call → Went calls Broken a c x
+  pub went_broken : (a b c : W) (x : Bytes) (call : WriterCall W) → Went calls Going a b x → Keeps (calls.contents b) (calls.contents c) → WasWritten calls b (call ∷ []) c → IsFailed call → Went calls Broken a c x
   went_broken a b c x call first keeps order failed =
       let next : Went calls Broken b c [] = record { bytes = subst (Appends (calls.contents b) (calls.contents c)) refl (Appends-kept _ _ _ _ (Appends-nil (calls.contents b)) keeps); log = []; last = call ∷ []; order = order; some = tt; given = refl; ended = failed } in
       subst (Went calls Broken a c) (append-nil x) (went_trans Broken a b c x [] first next)
 
   -- a last flush
-  pub went_done : (a b c : W) (x : Text) → Went calls Going a b x → Keeps (calls.contents b) (calls.contents c) → calls.flush b true c → Went calls Done a c x
+  pub went_done : (a b c : W) (x : Bytes) → Went calls Going a b x → Keeps (calls.contents b) (calls.contents c) → calls.flush b true c → Went calls Done a c x
   went_done a b c x first keeps flush =
       let next : Went calls Done b c [] = record { bytes = Appends-kept _ _ _ _ (Appends-nil (calls.contents b)) keeps; log = []; last = Flushed true c ∷ []; order = (flush, refl); some = tt; given = refl; ended = refl } in
       subst (Went calls Done a c) (append-nil x) (went_trans Done a b c x [] first next)
 
   -- a write of the rest of some bytes, of which some were taken
-  pub went_more : (a b c : W) (bytes : Text) (written count : ℕ) → Went calls Going a b (take written bytes) → Appends (calls.contents b) (calls.contents c) (take count (drop written bytes)) → calls.write b (drop written bytes) (Some count) c → 0 < count → Went calls Going a c (take (written + count) bytes)
+  pub went_more : (a b c : W) (bytes : Bytes) (written count : ℕ) → Went calls Going a b (take written bytes) → Appends (calls.contents b) (calls.contents c) (take count (drop written bytes)) → calls.write b (drop written bytes) (Some count) c → 0 < count → Went calls Going a c (take (written + count) bytes)
   went_more a b c bytes written count first bytes_taken call some =
       subst (Went calls Going a c) (sym (take-add written count bytes)) (went_trans Going a b c _ _ first (went_once b c (drop written bytes) count bytes_taken call some))

@@ -1,8 +1,8 @@
 use Rattle.std.proofs.Common.{◌≡◌, ◌<◌, Some, None, length, take, drop, refl, take-append-drop, length-drop, arith, rules}
 use Rattle.std.proofs.lemmas.List.{take_rest}
-use Rattle.starlark_run.specs.Calls.{WritesText, Wrote}
-use Rattle.starlark_run.proofs.Calls.{keeps_none, went_broken, went_more, went_nil}
-use Rattle.starlark_run.proofs.devices.write_all.Goals as goal
+use Rattle.starlark_devices.specs.Calls.{WritesText, Wrote}
+use Rattle.starlark_devices.proofs.Calls.{keeps_none, went_broken, went_more, went_nil}
+use Rattle.starlark_devices.proofs.write_all.Goals as goal
 
 pub loop-written-init : goal.loop-written-init
 loop-written-init g c = record {

@@ -1,6 +1,6 @@
 use Rattle.std.proofs.Common.{◌-◌, ◌≤◌, length, take}
-use Rattle.starlark_run.specs.Calls.{Going, Went}
-use Rattle.starlark_run.proofs.devices.write_all.Given as goal
+use Rattle.starlark_devices.specs.Calls.{Going, Went}
+use Rattle.starlark_devices.proofs.write_all.Given as goal
 
 -- the bytes before `written` are taken
 abbrev pub invariant-loop-written : goal.invariant-loop-written
