@@ -7,10 +7,12 @@
 -- Resolving: resolved places: the laws of places.
 -- PlacesAlong: lines and columns along a text.
 -- Pairs: characters of two UTF-16 units along a text.
+-- NewlineCounts: numbers of LF, counted in parts.
 -- PlaceRows: worked rows, by computing.
 -- DiagnosticRows: worked rows, by computing.
 pub mod PlacesAlong
 pub mod Pairs
+pub mod NewlineCounts
 pub mod CharacterCounts
 pub mod LineFeeds
 pub mod ShortenedSpans

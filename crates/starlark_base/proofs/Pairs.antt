@@ -9,24 +9,7 @@ use Rattle.std.proofs.lemmas.Str.{IsCharBoundary-start}
 use Rattle.std.specs.Str.{IsUtf8}
 use Rattle.starlark_base.specs.Places.{Text, is_lf}
 use Rattle.starlark_base.specs.Positions.{IsPosition, pairs_before, pairs_in_line, starts_pair}
-use Rattle.starlark_base.proofs.PlacesAlong.{after_last_feed, is_one_line, one_line_by_index, start_place}
-
--- what is after the last LF, as a text goes on without one
-after_last_push : (front : Text) (b : ℕ) → is_lf b ≡ false → after_last is_lf (front ++ b ∷ []) ≡ after_last is_lf front ++ b ∷ []
-after_last_push front b h =
-    let s = suffix_len (λ x. not (is_lf x)) front in
-    let within : s ≤ length front = suffix_len-le-length _ front in
-    let count : length (front ++ b ∷ []) - (1 + s) ≡ length front - s = omega (arith, length-append front (b ∷ [])) in
-    rw (reverse-append, h, count) (drop-append-le (length front - s) front (b ∷ []) (omega arith))
-
-after_last_along : (front more : Text) → is_one_line more ≡ true → after_last is_lf (front ++ more) ≡ after_last is_lf front ++ more
-after_last_along front [] h = ap (after_last is_lf) (append-nil front) ∙ sym (append-nil (after_last is_lf front))
-after_last_along front (b ∷ more) h =
-    let parts = and_parts (not (is_lf b)) (is_one_line more) h in
-    ap (after_last is_lf) (sym (append_assoc front (b ∷ []) more))
-    ∙ after_last_along (front ++ b ∷ []) more parts.1
-    ∙ ap (λ t. t ++ more) (after_last_push front b (not-true (is_lf b) parts.0))
-    ∙ append_assoc (after_last is_lf front) (b ∷ []) more
+use Rattle.starlark_base.proofs.PlacesAlong.{after_last_along, after_last_feed, is_one_line, one_line_by_index, start_place}
 
 -- a text of one line is its last line
 pub last_line_whole : (text : Text) → is_one_line text ≡ true → after_last is_lf text ≡ text

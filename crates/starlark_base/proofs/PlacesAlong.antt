@@ -24,7 +24,7 @@ after_last_push front b h =
 pub after_last_feed : (front : Text) → after_last is_lf (front ++ 10 ∷ []) ≡ []
 after_last_feed front = rw reverse-append (drop_all _ (front ++ 10 ∷ []) (omega arith))
 
-after_last_along : (front more : Text) → is_one_line more ≡ true → after_last is_lf (front ++ more) ≡ after_last is_lf front ++ more
+pub after_last_along : (front more : Text) → is_one_line more ≡ true → after_last is_lf (front ++ more) ≡ after_last is_lf front ++ more
 after_last_along front [] h = ap (after_last is_lf) (append-nil front) ∙ sym (append-nil (after_last is_lf front))
 after_last_along front (b ∷ more) h =
     let parts = and_parts (not (is_lf b)) (is_one_line more) h in

@@ -1,4 +1,5 @@
-//! A position in a text, which counts lines, columns and units of UTF-16 as it moves on.
+//! A position in a text, which counts lines, columns and units of UTF-16 as it moves on; numbers of
+//! LF and of pairs in a text.
 
 ghost use Rattle.std.specs.Prelude.{◌≡◌, ◌+◌, ◌<◌, ◌≤◌, ◌^◌, ◌++◌, ℕ, List, count_by, length};
 ghost use Rattle.std.specs.Str.{IsCharBoundary, IsUtf8};
@@ -7,7 +8,6 @@ ghost use Rattle.starlark_base.specs.Places.{is_lf};
 ghost use Rattle.starlark_base.specs.Positions.{IsPosition, pairs_in_line, position_at, starts_pair};
 
 use crate::codemap::ResolvedPos;
-use memchr::memchr_iter;
 use starlark_text::character_starts::count_characters;
 
 /// A position in a text: its byte, line and column, and the characters of two UTF-16 units.
@@ -92,16 +92,41 @@ fn pairs_after(begin: usize, passed: &str) -> usize
     }
 }
 
+/// Number of bytes whose LFs are counted in a `u8`, which lets the compiler take 16 at a time.
+const COUNTED_AT_ONCE: usize = 128;
+
+/// Number of LF among fewer than 256 bytes.
+fn short_newline_count(bytes: &[u8]) -> u8
+    requires { length bytes.now < 2 ^ 8 }
+    ensures { result ≡ count_by is_lf bytes.now }
+{
+    let mut count = 0;
+    for byte in bytes {
+        if *byte == b'\n' {
+            count += 1;
+        }
+    }
+    count
+}
+
 /// Number of LF in a text.
-fn newline_count(text: &str) -> usize
+pub fn newline_count(text: &str) -> usize
     ensures { result ≡ count_by is_lf text.now }
 {
-    memchr_iter(b'\n', text.as_bytes()).count()
+    let bytes = text.as_bytes();
+    let mut count = 0;
+    let mut at = 0;
+    while at + COUNTED_AT_ONCE <= bytes.len() {
+        count += short_newline_count(&bytes[at..at + COUNTED_AT_ONCE]) as usize;
+        at += COUNTED_AT_ONCE;
+    }
+    count + short_newline_count(&bytes[at..]) as usize
 }
 
 /// Number of characters of a text that take two units of UTF-16.
-fn pair_count(text: &str) -> usize
-    ensures { result ≡ count_by starts_pair text.now }
+pub fn pair_count(text: &str) -> usize
+    ensures value { result ≡ count_by starts_pair text.now }
+    ensures within { result ≤ length text.now }
 {
     text.as_bytes().iter().filter(|byte| 240 <= **byte).count()
 }
