@@ -10,6 +10,7 @@
 -- Literals/Bodies, Reading/Steps: lengths: no piece is longer than its text, none but a first margin is empty.
 -- Literals/Forms, ListedBodies: bodies as lists: items by their form; a scanned body is the only list with nothing
 --   forbidden.
+-- Literals/LiteralSteps: literals: what holds of each way to end.
 -- Reading/Readings: readings: of two readings one begins the other; one outcome.
 -- Reading/Faults: faults: the fault lies inside of the text.
 -- Indentation/Widths: open widths: what one more line of code makes of them.
@@ -17,6 +18,8 @@
 -- Order/Gaps, OrderedLexemes, Literals/Silent: order: lexemes are in order, with only gaps between them.
 -- Order/Inside: inside: all lexemes lie inside of the text.
 -- Order/Edges, Boundaries, WholeTexts: UTF-8 boundaries: lexemes begin and end at boundaries.
+-- ClosingQuotes: literals: closing quotes are bytes of a line, one at least.
+-- MarginComments: margins: what holds of each comment.
 -- Lists, Choices: for all: facts on lists, and on results of a test.
 -- Joining/Followed, FollowedBodies, FollowedPieces: a text continues after its LF: what was there is there still,
 --   but for line ends that count.
@@ -37,6 +40,11 @@
 -- Recovery/ClosedBlocks, LineCuts: cuts between lines: content at column 0 closes all blocks.
 -- Recovery/NewlinePieces, NewlineCuts: cuts at newlines: a `Newline` of some bytes ends a text of its own.
 -- Recovery/ClosedTexts: closed texts: what is found in two texts.
+-- Words/EachByte: bytes of words: a test that the bytes of names and numbers pass.
+-- Repairs/Fronts, Bodies, Margins, Pieces: repairs: what stands before a repair stays.
+-- Repairs/Semicolons, States, Faults, Readings: repairs: each `;` is a lexeme, and leaves what is open; where a fault
+--   that keeps its line is; the outcome of a repaired text.
+-- Repairs/Mended, GoesOn, Parts: mended texts: one repair after another; what is found in the whole text.
 -- Rows: worked texts, by computing: outcomes, bodies, cuts, joins and fronts; Rows/Shapes: how a row is written.
 pub mod Lists
 pub mod Choices
@@ -47,6 +55,9 @@ pub mod Reading
 pub mod Order
 pub mod Rows
 pub mod WordNewlines
+pub mod ClosingQuotes
+pub mod MarginComments
 pub mod Joining
 pub mod LineEnds
 pub mod Recovery
+pub mod Repairs

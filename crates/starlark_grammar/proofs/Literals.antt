@@ -3,3 +3,4 @@ pub mod Bodies
 pub mod Forms
 pub mod ListedBodies
 pub mod Silent
+pub mod LiteralSteps

@@ -2,6 +2,7 @@
 pub mod Fronts
 pub mod Tables
 pub mod Classes
+pub mod EachByte
 pub mod Bytes
 pub mod Printed
 pub mod IntegerValues

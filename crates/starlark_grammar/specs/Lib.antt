@@ -24,3 +24,5 @@ pub mod TextLaws
 pub mod Recovery
 pub mod RecoveryLaws
 pub mod Joining
+pub mod Repairs
+pub mod RepairLaws

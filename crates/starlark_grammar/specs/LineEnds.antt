@@ -30,7 +30,7 @@ opens_raw front = false
 -- whether a raw literal, or the text of a raw f-string, stands at a place
 abbrev pub is_raw_in : Mode → Text → Bool
 is_raw_in (InText opening) text = opening.is_raw
-is_raw_in place text = opens_raw (language_front text)
+is_raw_in mode text = opens_raw (language_front text)
 
 -- No piece that is a raw literal or the text of a raw f-string has a backslash right before an LF.
 unfoldable pub no_raw_newline : History → Text → List Piece → Bool

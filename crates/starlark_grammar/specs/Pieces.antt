@@ -108,28 +108,28 @@ is_plain opening text = list_all (λ b. not (b == byte "\\" || b == byte "\r" ||
 -- the text's end, has a fault of its own.
 abbrev pub unfinished : Mode → Kind → Opening → Text → Fault
 unfinished Outside kind opening remainder = UnfinishedStringLiteral
-unfinished place OfText opening remainder = if is_plain opening remainder then UnfinishedFStringExpression else UnfinishedStringLiteral
-unfinished place kind opening remainder = UnfinishedStringLiteral
+unfinished mode OfText opening remainder = if is_plain opening remainder then UnfinishedFStringExpression else UnfinishedStringLiteral
+unfinished mode kind opening remainder = UnfinishedStringLiteral
 
 -- the step of a string or bytes literal, by the bytes of its opening, the text after that, and its body
 abbrev pub literal_by : Mode → Kind → Opening → ℕ → Text → Body → Stop → Step
-literal_by place kind opening len remainder body Closing =
+literal_by mode kind opening len remainder body Closing =
     token (len + body_len body + length (closing_quotes opening)) (literal_token kind (body_value body))
-literal_by place kind opening len remainder body (BadEscape read last) =
+literal_by mode kind opening len remainder body (BadEscape read last) =
     escape_fault (len + body_len body) (drop 1 (take read (drop (body_len body) remainder)))
-literal_by place kind opening len remainder body Line = fault 0 (unfinished place kind opening remainder) (len + body_len body)
-literal_by place kind opening len remainder body stop = fault 0 (unfinished place kind opening remainder) (len + length remainder)
+literal_by mode kind opening len remainder body Line = fault 0 (unfinished mode kind opening remainder) (len + body_len body)
+literal_by mode kind opening len remainder body stop = fault 0 (unfinished mode kind opening remainder) (len + length remainder)
 
 abbrev pub literal : Mode → Kind → Opening → ℕ → Text → Step
-literal place kind opening len remainder = go (body_at (record { kind = kind; opening = opening }) remainder)
+literal mode kind opening len remainder = go (body_at (record { kind = kind; opening = opening }) remainder)
   where
     go : Body → Step
-    go body = literal_by place kind opening len remainder body body.stop
+    go body = literal_by mode kind opening len remainder body body.stop
 
 -- an opener, and the literal after it; of an f-string the opening alone
 abbrev pub opener : Mode → Kind → Opening → ℕ → Text → Step
-opener place OfFString opening len remainder = token (len + more_quotes opening) (FStringStart opening)
-opener place kind opening len remainder = literal place kind opening (len + more_quotes opening) (drop (more_quotes opening) remainder)
+opener mode OfFString opening len remainder = token (len + more_quotes opening) (FStringStart opening)
+opener mode kind opening len remainder = literal mode kind opening (len + more_quotes opening) (drop (more_quotes opening) remainder)
 
 -- Texts of f-strings
 
@@ -163,7 +163,7 @@ chunk opening text = go (body_at (record { kind = OfFString; opening = opening }
 -- a closing brace at the top of an f-string's expression ends the expression
 abbrev pub terminal_token : Mode → Terminal → Token
 terminal_token AtTop word.ClosingCurly = FStringExprEnd
-terminal_token place terminal = Word terminal
+terminal_token mode terminal = Word terminal
 
 -- more than one digit, of which the first is 0
 abbrev pub starts_zero : Text → Bool
@@ -173,7 +173,7 @@ starts_zero (b ∷ bs) = b == byte "0" && nat_lt 0 (length bs)
 -- line ends count where all brackets are closed and no f-string is open
 abbrev pub counts : Mode → Bool → Bool
 counts Outside is_balanced = is_balanced
-counts place is_balanced = false
+counts mode is_balanced = false
 
 -- the step of a word, by the text after it
 abbrev pub word_step : Situation → Class → Text → Text → Step
@@ -206,7 +206,7 @@ is_bang (b ∷ c ∷ bs) = b == byte "!" && not (c == byte "=")
 abbrev pub takes_bang : Mode → Before → Bool
 takes_bang AtTop Gap = false
 takes_bang AtTop before = true
-takes_bang place before = false
+takes_bang mode before = false
 
 abbrev pub in_code : Table → Situation → Text → Step
 in_code table s [] = Ends

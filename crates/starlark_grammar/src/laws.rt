@@ -3,6 +3,7 @@
 
 mod language_laws;
 mod recovery_laws;
+mod repair_laws;
 mod text_laws;
 
 pub use language_laws::{
@@ -13,4 +14,5 @@ pub use recovery_laws::{
     closed_texts_join, decided_faults_stay, faultless_texts_stay, faults_end_lines, found_inside,
     line_cuts_join, newlines_cut, restarts_at_lines,
 };
+pub use repair_laws::{lexing_goes_on, repairs_keep_lines, repairs_mend};
 pub use text_laws::{joins_at_clean_cuts, kept_cuts_keep, line_ends_keep_tokens};

@@ -17,6 +17,7 @@ use Rattle.starlark_grammar.specs.Margins.{lines, is_comment_only, comment_of, c
 use Rattle.starlark_grammar.specs.Pieces.{Before, Nothing, Layout, Gap, Other, Piece, Step, Stands, Fails, Situation, token, margin_step, first_margin, line_end, opening_of, more_quotes, escape_fault, literal_token, literal_by, literal, opener, chunk_text, chunk_piece, chunk_by, chunk, terminal_token, counts, starts_zero, word_step, front_step, takes_bang, is_bang, in_code, by_mode, by_before, step_at}
 use Rattle.starlark_grammar.specs.Reading.{History, situation, next_step, read}
 use Rattle.starlark_grammar.specs.Laws.{is_indent, is_dedent, indents, dedents}
+use Rattle.starlark_grammar.proofs.ClosingQuotes.{some_quotes}
 use Rattle.starlark_grammar.proofs.Words.Fronts.{front_sound}
 use Rattle.starlark_grammar.proofs.Literals.Bodies.{FoundFits, found_fits}
 use Rattle.starlark_grammar.proofs.Reading.Steps.{Each}
@@ -257,13 +258,6 @@ chunk_piece_balances widths body node len some has none neither =
     let first = text_quiet.0 in
     let second = text_quiet.1 in
     quiet widths (body_len body + len) (text ++ stop ∷ []) Other (omega (arith, all_dedents, no_dedents, first)) (omega (arith, all_indents, no_indents, second)) (omega (arith, all_len, text_len, some))
-
-some_quotes : (opening : Opening) → 1 ≤ length (closing_quotes opening)
-some_quotes opening = go opening.is_triple
-  where
-    go : (triple : Bool) → 1 ≤ length (closing_quotes (record { is_raw = opening.is_raw; quote = opening.quote; is_triple = triple }))
-    go true = omega arith
-    go false = omega arith
 
 chunk_by_balances : (widths : List ℕ) (opening : Opening) (text : Text) (body : Body) (stop : Stop) → HasText body → StepBalances widths (chunk_by opening text body stop)
 chunk_by_balances widths opening text body OpeningBrace has = chunk_piece_balances widths body FStringExprStart 1 (omega arith) has refl refl

@@ -85,12 +85,6 @@ along_balances table history text (piece ∷ pieces) at start reads =
     let more = along_balances table (after history piece) (drop piece.len text) pieces (at + piece.len) (starts_after history piece fits.sort) reads.1 in
     let rest : List Lexeme = lexemes_along (at + piece.len) pieces in
     let here : List Lexeme = map (moved at) piece.lexemes in
-    let total = balances.total in
-    let bytes = balances.bytes in
-    let wide = balances.wide in
-    let more_total = more.total in
-    let more_bytes = more.bytes in
-    let more_wide = more.wide in
     let widths : levels_len (after history piece).widths ≡ levels_len (history.widths ++ option_to_list piece.width) = ap (λ ws. levels_len ws) (after_widths history piece) in
     let dedents_same = count-moved is_dedent at piece.lexemes in
     let indents_same = count-moved is_indent at piece.lexemes in
@@ -100,9 +94,9 @@ along_balances table history text (piece ∷ pieces) at start reads =
     let len_same = length-map piece.lexemes (moved at) in
     let len : pieces_len (piece ∷ pieces) ≡ piece.len + pieces_len pieces = sum_by-cons (λ (piece : Piece). piece.len) piece pieces in
     record {
-      total = omega (arith, total, more_total, widths, dedents_same, indents_same, dedents_all, indents_all);
-      bytes = omega (arith, bytes, more_bytes, len, len_all, len_same, dedents_same, dedents_all);
-      wide = omega (arith, wide, more_wide, len, indents_same, indents_all);
+      total = omega (arith, balances.total, more.total, widths, dedents_same, indents_same, dedents_all, indents_all);
+      bytes = omega (arith, balances.bytes, more.bytes, len, len_all, len_same, dedents_same, dedents_all);
+      wide = omega (arith, balances.wide, more.wide, len, indents_same, indents_all);
     }
 
 -- what closes a text

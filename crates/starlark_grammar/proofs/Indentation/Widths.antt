@@ -48,7 +48,7 @@ open_all test (w ∷ widths) h =
     go true more passes = rw passes more
     go false more passes = more
 
-positive : (widths : List ℕ) → list_all (nat_lt 0) (open_widths widths) ≡ true
+pub positive : (widths : List ℕ) → list_all (nat_lt 0) (open_widths widths) ≡ true
 unfolding open_widths
 positive [] = refl
 positive (w ∷ widths) = go (nat_lt 0 w) (list_all (nat_lt w) widths) refl (positive widths)

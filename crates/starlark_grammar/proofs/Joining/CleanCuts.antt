@@ -31,7 +31,7 @@ along_both at (piece ∷ one) other =
     ap (λ ls. map (moved at) piece.lexemes ++ ls) (along_both (at + piece.len) one other ∙ ap (λ n. lexemes_along (at + piece.len) one ++ lexemes_along n other) total)
     ∙ sym (append_assoc (map (moved at) piece.lexemes) (lexemes_along (at + piece.len) one) (lexemes_along (at + pieces_len (piece ∷ one)) other))
 
-along_later : (n at : ℕ) (pieces : List Piece) → lexemes_along (n + at) pieces ≡ map (moved n) (lexemes_along at pieces)
+pub along_later : (n at : ℕ) (pieces : List Piece) → lexemes_along (n + at) pieces ≡ map (moved n) (lexemes_along at pieces)
 along_later n at [] = refl
 along_later n at (piece ∷ pieces) =
     let next : n + at + piece.len ≡ n + (at + piece.len) = omega arith in
@@ -82,31 +82,42 @@ closed text pieces last e reach none =
     ∙ ap (λ (ws : List ℕ). lexemes_along 0 pieces ++ record { begin = pieces_len pieces; node = Newline; end = pieces_len pieces } ∷ replicate (length ws) (record { begin = pieces_len pieces; node = Dedent; end = pieces_len pieces })) none
     ∙ ap (λ n. lexemes_along 0 pieces ++ record { begin = n; node = Newline; end = n } ∷ []) reach
 
+-- a longest reading without fault stops at the text's end, …
+longest_ends : (text : Text) (pieces : List Piece) (last : Step) → IsLongestReading language nothing text pieces last → is_faultless last ≡ true → last ≡ Ends
+longest_ends text pieces last longest faultless = go last refl faultless
+  where
+    go : (step : Step) → last ≡ step → is_faultless step ≡ true → last ≡ Ends
+    go (Stands piece) e h = absurd (longest.no_piece piece e)
+    go (Fails fault) e h = cc
+    go Ends e h = e
+
+-- … and its pieces are the whole text
+longest_reaches : (text : Text) (pieces : List Piece) (last : Step) → IsLongestReading language nothing text pieces last → last ≡ Ends → pieces_len pieces ≡ length text
+longest_reaches text pieces last longest at_end =
+    let none = ends_at_end language (after_all nothing pieces) (drop (pieces_len pieces) text) (longest.stands_last ∙ at_end) in
+    omega (arith, reading_fits language nothing text pieces longest.reads, length-drop (pieces_len pieces) text, ap length none)
+
+-- a longest reading without a fault: it ends, and its pieces are the whole text
+pub faultless_reading : (text : Text) (pieces : List Piece) (last : Step) → IsLongestReading language nothing text pieces last → is_faultless last ≡ true → (last ≡ Ends) × (pieces_len pieces ≡ length text)
+faultless_reading text pieces last longest faultless =
+    let at_end = longest_ends text pieces last longest faultless in
+    (at_end, longest_reaches text pieces last longest at_end)
+
 cut_of : (text : Text) (pieces : List Piece) (last : Step) → IsLongestReading language nothing text pieces last → (outcome text).lexemes ≡ (outcome_of text pieces last).lexemes → is_faultless last ≡ true → is_settled (after_all nothing pieces) ≡ true → ends_line text ≡ true → Cut text pieces
 cut_of text pieces last longest same faultless settled_end ends = record {
   some = λ e. both_ways _ (subst (λ (ps : List Piece). is_layout (after_all nothing ps).before ≡ false) (sym e) refl) is.layout;
   ends = ends;
   reads = longest.reads;
-  reach = reach;
+  reach = whole.1;
   is_settled = is;
-  lexemes = same ∙ closed text pieces last at_end reach is.no_width;
+  lexemes = same ∙ closed text pieces last whole.0 whole.1 is.no_width;
 }
   where
     is : Settled (after_all nothing pieces)
     is = settled (after_all nothing pieces) settled_end
 
-    at_end : last ≡ Ends
-    at_end = go last refl faultless
-      where
-        go : (step : Step) → last ≡ step → is_faultless step ≡ true → last ≡ Ends
-        go (Stands piece) e h = absurd (longest.no_piece piece e)
-        go (Fails fault) e h = cc
-        go Ends e h = e
-
-    reach : pieces_len pieces ≡ length text
-    reach =
-        let none = ends_at_end language (after_all nothing pieces) (drop (pieces_len pieces) text) (longest.stands_last ∙ at_end) in
-        omega (arith, reading_fits language nothing text pieces longest.reads, length-drop (pieces_len pieces) text, ap length none)
+    whole : (last ≡ Ends) × (pieces_len pieces ≡ length text)
+    whole = faultless_reading text pieces last longest faultless
 
 pub cut : (text : Text) → is_clean_cut text ≡ true → Cut text (read language text).pieces
 unfolding is_clean_cut is_clean_cut_in outcome outcome_in
@@ -138,15 +149,15 @@ margin_of_first : (text : Text) (first : Piece) → next_step language nothing t
 unfolding next_step situation step_at
 margin_of_first text first stands = stands
 
-some_before : (text : Text) (pieces : List Piece) → ¬ (pieces ≡ []) → before_fault text pieces ≡ lexemes_along 0 pieces
+pub some_before : (text : Text) (pieces : List Piece) → ¬ (pieces ≡ []) → before_fault text pieces ≡ lexemes_along 0 pieces
 some_before text [] some = absurd (some refl)
 some_before text (piece ∷ pieces) some = refl
 
-some_both : (one other : List Piece) → ¬ (one ≡ []) → ¬ (one ++ other ≡ [])
+pub some_both : (one other : List Piece) → ¬ (one ≡ []) → ¬ (one ++ other ≡ [])
 some_both [] other some e = some refl
 some_both (piece ∷ one) other some e = cc
 
-same_outcome : {one other : List Lexeme} {fault end : Option (Spanned Fault)} → one ≡ other → fault ≡ end → ◌≡◌ {A = Outcome} (record { lexemes = one; fault = fault }) (record { lexemes = other; fault = end })
+pub same_outcome : {one other : List Lexeme} {fault end : Option (Spanned Fault)} → one ≡ other → fault ≡ end → ◌≡◌ {A = Outcome} (record { lexemes = one; fault = fault }) (record { lexemes = other; fault = end })
 same_outcome e f = rw (e, f) refl
 
 module _ (text more : Text) (first : Piece) (pieces : List Piece) (here : Cut text pieces) (there : CharacterStarts more first) (stands : next_step language nothing more ≡ Stands first) where

@@ -16,6 +16,11 @@ ends_line (b ∷ []) = b == 10
 ends_line (b ∷ c ∷ bs) = ends_line (c ∷ bs)
 
 -- such texts: those that are made with an LF at the end, …
+-- such a text isn't empty
+pub ends_line_some : (text : Text) → ends_line text ≡ true → 0 < length text
+ends_line_some [] h = cc
+ends_line_some (b ∷ bs) h = omega arith
+
 pub ends_line_made : (front : Text) → ends_line (front ++ 10 ∷ []) ≡ true
 ends_line_made [] = refl
 ends_line_made (b ∷ []) = refl

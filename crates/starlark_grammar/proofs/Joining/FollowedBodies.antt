@@ -11,11 +11,12 @@ use Rattle.std.proofs.lemmas.List.{length-take, take-append-le}
 use Rattle.starlark_grammar.specs.Words.{Text, is_in_line, is_octal_digit}
 use Rattle.starlark_grammar.specs.declared.class.Quote.{Quote}
 use Rattle.starlark_grammar.specs.declared.class.LiteralKind.{LiteralKind as Kind}
-use Rattle.starlark_grammar.specs.declared.class.Quote.TheVariants.{Single as SingleQuote, Double as DoubleQuote}
 use Rattle.starlark_grammar.specs.declared.class.LiteralKind.TheVariants.{Text as OfText, Bytes as OfBytes, FString as OfFString}
 use Rattle.starlark_grammar.specs.Tokens.{Opening}
 use Rattle.starlark_grammar.specs.Items.{Literal, Stop, Closing, Line, Ended, OpeningBrace, ClosingBrace, BadEscape, Found, Goes, Stops, goes, closing_quotes, broken, is_character, numbered, hexadecimal, octal, escaped_newline, simple_escapes, simple, is_of_bytes, escape, drops_backslash, raw_pair, brace, is_brace, found_at, Body, body_onward, body_from, body_at}
 use Rattle.starlark_grammar.specs.FrontCharacter.{first_character}
+use Rattle.starlark_grammar.proofs.ClosingQuotes.{quotes_hold}
+use Rattle.starlark_grammar.proofs.Choices.{by_test}
 use Rattle.starlark_grammar.proofs.Literals.Bodies.{found_fits, FoundFits}
 use Rattle.starlark_grammar.proofs.WordNewlines.{in_line}
 use Rattle.starlark_grammar.proofs.Joining.Followed.{ends_line, ends_line_rest}
@@ -49,13 +50,7 @@ starts_inside (b ∷ d ∷ bs) (c ∷ cs) h k e =
     let more = starts_inside (d ∷ bs) cs h (and_parts (is_in_line c) (in_line cs) k).1 (and_parts (nat_eq c b) _ e).1 in omega arith
 
 pub closing_in_line : (opening : Opening) → in_line (closing_quotes opening) ≡ true
-closing_in_line opening = go opening.is_triple opening.quote
-  where
-    go : (triple : Bool) (quote : Quote) → in_line (closing_quotes (record { is_raw = opening.is_raw; quote = quote; is_triple = triple })) ≡ true
-    go true SingleQuote = refl
-    go true DoubleQuote = refl
-    go false SingleQuote = refl
-    go false DoubleQuote = refl
+closing_in_line = quotes_hold is_in_line refl refl
 
 -- Items
 
@@ -87,16 +82,12 @@ broken_followed : (len good : ℕ) (remainder : Text) (other : Found) → FoundF
 broken_followed len good [] other = tt
 broken_followed len good (b ∷ bs) other = tt
 
-goes_followed : (whole len : ℕ) (value : Text) (test : Bool) (other : Found) → (len < whole → other ≡ (if test then goes len value else broken len [])) → FoundFollowed whole (if test then goes len value else broken len []) other
-goes_followed whole len value true other h = h
-goes_followed whole len value false other h = tt
-
 numbered_followed : (whole len : ℕ) (is_byte : Bool) (n : ℕ) (other : Found) → (len < whole → other ≡ numbered len is_byte n) → FoundFollowed whole (numbered len is_byte n) other
-numbered_followed whole len true n other h = goes_followed whole len (n ∷ []) (nat_lt n 256) other h
-numbered_followed whole len false n other h = goes_followed whole len (encode_utf8 n) (is_character n) other h
+numbered_followed whole len true n other h = by_test (λ found. FoundFollowed whole found other) (nat_lt n 256) (goes len (n ∷ [])) (broken len []) (λ yes less. h less ∙ rw yes refl) (λ no. tt)
+numbered_followed whole len false n other h = by_test (λ found. FoundFollowed whole found other) (is_character n) (goes len (encode_utf8 n)) (broken len []) (λ yes less. h less ∙ rw yes refl) (λ no. tt)
 
 -- a run that ends before the end
-prefix_followed : (test : ℕ → Bool) (most : ℕ) (text more : Text) → prefix_len test (take most text) < length text → prefix_len test (take most (text ++ more)) ≡ prefix_len test (take most text)
+pub prefix_followed : (test : ℕ → Bool) (most : ℕ) (text more : Text) → prefix_len test (take most text) < length text → prefix_len test (take most (text ++ more)) ≡ prefix_len test (take most text)
 prefix_followed test zero text more h = refl
 prefix_followed test (suc most) [] more h = absurd (omega arith)
 prefix_followed test (suc most) (b ∷ bs) more h = go (test b) (prefix_followed test most bs more) h
@@ -122,19 +113,18 @@ hexadecimal_followed wanted is_byte text more = go (prefix_len is_ascii_hexdigit
         (λ full. numbered_followed (2 + length text) (2 + n) is_byte (digits_value 16 (take n text)) _ (equal n e full))
         (λ short. broken_followed (2 + length text) (2 + n) (drop n text) _)
 
+-- an octal escape of so many digits
+abbrev pub octal_by : Bool → ℕ → Text → Found
+octal_by is_byte n text = numbered (1 + n) is_byte (digits_value 8 (take n text))
+
+-- one that ends before the end
+pub octal_onward : (is_byte : Bool) (text more : Text) (n : ℕ) → prefix_len is_octal_digit (take 3 text) ≡ n → 1 + n < 1 + length text → octal is_byte (text ++ more) ≡ octal_by is_byte n text
+octal_onward is_byte text more n e inside =
+    let again : prefix_len is_octal_digit (take 3 (text ++ more)) ≡ n = prefix_followed is_octal_digit 3 text more (omega (arith, e, inside)) ∙ e in
+    ap (λ n. octal_by is_byte n (text ++ more)) again ∙ ap (λ (digits : Text). numbered (1 + n) is_byte (digits_value 8 digits)) (take-append-le n text more (omega (arith, inside)))
+
 octal_followed : (is_byte : Bool) (text more : Text) → FoundFollowed (1 + length text) (octal is_byte text) (octal is_byte (text ++ more))
-octal_followed is_byte text more = go (prefix_len is_octal_digit (take 3 text)) refl
-  where
-    by : ℕ → Text → Found
-    by n text = numbered (1 + n) is_byte (digits_value 8 (take n text))
-
-    equal : (n : ℕ) → prefix_len is_octal_digit (take 3 text) ≡ n → 1 + n < 1 + length text → octal is_byte (text ++ more) ≡ by n text
-    equal n e inside =
-        let again : prefix_len is_octal_digit (take 3 (text ++ more)) ≡ n = prefix_followed is_octal_digit 3 text more (omega arith) ∙ e in
-        ap (λ n. by n (text ++ more)) again ∙ ap (λ (digits : Text). numbered (1 + n) is_byte (digits_value 8 digits)) (take-append-le n text more (omega arith))
-
-    go : (n : ℕ) → prefix_len is_octal_digit (take 3 text) ≡ n → FoundFollowed (1 + length text) (by n text) (octal is_byte (text ++ more))
-    go n e = numbered_followed (1 + length text) (1 + n) is_byte (digits_value 8 (take n text)) _ (equal n e)
+octal_followed is_byte text more = numbered_followed (1 + length text) _ is_byte _ _ (octal_onward is_byte text more (prefix_len is_octal_digit (take 3 text)) refl)
 
 escaped_feed_followed : (len : ℕ) (text more : Text) → FoundFollowed len (escaped_newline text) (escaped_newline (text ++ more))
 escaped_feed_followed len [] more = tt
@@ -148,7 +138,7 @@ simple_followed : (len : ℕ) (value : Option ℕ) (one other : Text) → (1 + l
 simple_followed len (Some value) one other h = λ inside. refl
 simple_followed len None one other h = λ inside. ap (simple None) (h inside)
 
-escape_followed : (kind : Kind) (text more : Text) → FoundFollowed (1 + length text) (escape kind text) (escape kind (text ++ more))
+pub escape_followed : (kind : Kind) (text more : Text) → FoundFollowed (1 + length text) (escape kind text) (escape kind (text ++ more))
 unfolding escape
 escape_followed kind [] more = tt
 escape_followed kind (b ∷ bs) more =
@@ -163,7 +153,7 @@ escape_followed kind (b ∷ bs) more =
     both P (is_octal_digit b) _ _ _ _ (λ e. octal_followed (is_of_bytes kind) (b ∷ bs) more) (λ e.
     simple_followed _ (lookup (nat_eq b) simple_escapes) (first_character (b ∷ bs)) (first_character (b ∷ (bs ++ more))) (λ inside. character_followed (b ∷ bs) more (omega arith))))))))
 
-raw_pair_followed : (kind : Kind) (quote : Quote) (text more : Text) → FoundFollowed (1 + length text) (raw_pair kind quote text) (raw_pair kind quote (text ++ more))
+pub raw_pair_followed : (kind : Kind) (quote : Quote) (text more : Text) → FoundFollowed (1 + length text) (raw_pair kind quote text) (raw_pair kind quote (text ++ more))
 unfolding raw_pair
 raw_pair_followed kind quote [] more = tt
 raw_pair_followed kind quote (b ∷ bs) more = λ inside.

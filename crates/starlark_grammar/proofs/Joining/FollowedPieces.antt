@@ -149,36 +149,44 @@ word_followed s word.Binary front remainder more piece ends fits e = inl e
 word_followed s word.Float front remainder more piece ends fits e = inl e
 word_followed s (word.Fixed terminal) front remainder more piece ends fits e = inl e
 
+-- A longest word at the front of a text whose last byte is an LF, where the text goes on.
+pub record FrontGoesOn (s : Situation) (text more : Text) (front : Class × ℕ) : Type 0 where
+  pub sound : (1 ≤ front.1) × (front.1 ≤ length text) × (class_in language (take front.1 text) ≡ Some front.0)
+  pub ends : in_line (take front.1 text) ≡ true → ends_line (drop front.1 text) ≡ true
+  pub again : front_step s (text ++ more) (Some front) ≡ word_step s front.0 (take front.1 text) (drop front.1 text ++ more)
+  pub len : length (take front.1 text) ≡ front.1
+
+pub front_goes_on : (s : Situation) (text more : Text) (front : Class × ℕ) → ends_line text ≡ true → longest_front (class_in language) text ≡ Some front → FrontGoesOn s text more front
+front_goes_on s text more front h found =
+    let sound = front_sound (class_in language) text front.0 front.1 found in
+    record {
+      sound = sound;
+      ends = λ line. ends_line_drop front.1 text (word_inside front.1 text h line) h;
+      again =
+          ap (λ (t : Text). word_step s front.0 t (drop front.1 (text ++ more))) (take-append-le front.1 text more sound.1)
+          ∙ ap (λ (t : Text). word_step s front.0 (take front.1 text) t) (drop-append-le front.1 text more sound.1);
+      len = length-take-le front.1 text sound.1;
+    }
+
 -- what a longest word at the front comes to
 front_followed : (s : Situation) (text more : Text) (found : Option (Class × ℕ)) (piece : Piece) → ends_line text ≡ true → longest_front (class_in language) text ≡ found → front_step s text found ≡ Stands piece
     → (front_step s (text ++ more) found ≡ Stands piece) ⊎ CountedLineEnd s text more (front_step s text found) (front_step s (text ++ more) found)
 front_followed s text more None piece h found e = cc
-front_followed s text more (Some front) piece h found e = go (word_followed s front.0 (take front.1 text) (drop front.1 text) more piece ends (language_lines (take front.1 text) front.0 sound.2) e)
+front_followed s text more (Some front) piece h found e = go (word_followed s front.0 (take front.1 text) (drop front.1 text) more piece goes.ends (language_lines (take front.1 text) front.0 goes.sound.2) e)
   where
-    sound : (1 ≤ front.1) × (front.1 ≤ length text) × (class_in language (take front.1 text) ≡ Some front.0)
-    sound = front_sound (class_in language) text front.0 front.1 found
-
-    ends : in_line (take front.1 text) ≡ true → ends_line (drop front.1 text) ≡ true
-    ends line = ends_line_drop front.1 text (word_inside front.1 text h line) h
-
-    again : front_step s (text ++ more) (Some front) ≡ word_step s front.0 (take front.1 text) (drop front.1 text ++ more)
-    again =
-        ap (λ (t : Text). word_step s front.0 t (drop front.1 (text ++ more))) (take-append-le front.1 text more sound.1)
-        ∙ ap (λ (t : Text). word_step s front.0 (take front.1 text) t) (drop-append-le front.1 text more sound.1)
-
-    len : length (take front.1 text) ≡ front.1
-    len = length-take-le front.1 text sound.1
+    goes : FrontGoesOn s text more front
+    goes = front_goes_on s text more front h found
 
     go : WordFollowed s front.0 (take front.1 text) (drop front.1 text) more piece → (front_step s (text ++ more) (Some front) ≡ Stands piece) ⊎ CountedLineEnd s text more (front_step s text (Some front)) (front_step s (text ++ more) (Some front))
-    go (inl stays) = inl (again ∙ stays)
+    go (inl stays) = inl (goes.again ∙ stays)
     go (inr counted) = inr (record {
       len = front.1;
-      some = sound.0;
-      inside = sound.1;
+      some = goes.sound.0;
+      inside = goes.sound.1;
       counted = counted.1;
-      known = sound.2 ∙ ap Some counted.0;
-      here = counted.2 ∙ ap (λ n. line_end n s.levels (drop front.1 text)) len;
-      followed = again ∙ counted.3 ∙ ap (λ n. line_end n s.levels (drop front.1 text ++ more)) len;
+      known = goes.sound.2 ∙ ap Some counted.0;
+      here = counted.2 ∙ ap (λ n. line_end n s.levels (drop front.1 text)) goes.len;
+      followed = goes.again ∙ counted.3 ∙ ap (λ n. line_end n s.levels (drop front.1 text ++ more)) goes.len;
     })
 
 pub bang_followed : (b : ℕ) (bs more : Text) → ends_line (b ∷ bs) ≡ true → is_bang (b ∷ (bs ++ more)) ≡ is_bang (b ∷ bs)
@@ -189,30 +197,28 @@ bang_followed b [] more h = subst (λ n. is_bang (n ∷ more) ≡ is_bang (n ∷
     go (c ∷ more) = refl
 bang_followed b (c ∷ bs) more h = refl
 
+-- what code comes to, by whether a bang stands there
+abbrev pub code_step : Situation → (bang : Bool) → Text → Option (Class × ℕ) → Step
+code_step s bang text front = if bang then token 1 FStringBang else front_step s text front
+
+pub bang_stays : (s : Situation) (b : ℕ) (bs more : Text) → ends_line (b ∷ bs) ≡ true → (takes_bang s.mode s.before && is_bang (b ∷ (bs ++ more))) ≡ (takes_bang s.mode s.before && is_bang (b ∷ bs))
+bang_stays s b bs more h = ap (λ bang. takes_bang s.mode s.before && bang) (bang_followed b bs more h)
+
 -- A piece of code stays, or it is a line end that counts.
 pub code_followed : (s : Situation) (text more : Text) (piece : Piece) → ends_line text ≡ true → in_code language s text ≡ Stands piece
     → (in_code language s (text ++ more) ≡ Stands piece) ⊎ CountedLineEnd s text more (in_code language s text) (in_code language s (text ++ more))
 code_followed s [] more piece h e = cc
-code_followed s (b ∷ bs) more piece h e = go (takes_bang s.mode s.before && is_bang (b ∷ bs)) same (longest_front (class_in language) (b ∷ bs)) refl found e
+code_followed s (b ∷ bs) more piece h e = go (takes_bang s.mode s.before && is_bang (b ∷ bs)) (bang_stays s b bs more h) (longest_front (class_in language) (b ∷ bs)) refl (longest_followed (b ∷ bs) more h) e
   where
-    same : (takes_bang s.mode s.before && is_bang (b ∷ (bs ++ more))) ≡ (takes_bang s.mode s.before && is_bang (b ∷ bs))
-    same = ap (λ bang. takes_bang s.mode s.before && bang) (bang_followed b bs more h)
-
-    found : longest_front (class_in language) (b ∷ (bs ++ more)) ≡ longest_front (class_in language) (b ∷ bs)
-    found = longest_followed (b ∷ bs) more h
-
-    step : Bool → Text → Option (Class × ℕ) → Step
-    step bang text front = if bang then token 1 FStringBang else front_step s text front
-
-    once : (bang : Bool) (front : Option (Class × ℕ)) → longest_front (class_in language) (b ∷ bs) ≡ front → step bang (b ∷ bs) front ≡ Stands piece
-        → (step bang (b ∷ (bs ++ more)) front ≡ Stands piece) ⊎ CountedLineEnd s (b ∷ bs) more (step bang (b ∷ bs) front) (step bang (b ∷ (bs ++ more)) front)
+    once : (bang : Bool) (front : Option (Class × ℕ)) → longest_front (class_in language) (b ∷ bs) ≡ front → code_step s bang (b ∷ bs) front ≡ Stands piece
+        → (code_step s bang (b ∷ (bs ++ more)) front ≡ Stands piece) ⊎ CountedLineEnd s (b ∷ bs) more (code_step s bang (b ∷ bs) front) (code_step s bang (b ∷ (bs ++ more)) front)
     once true front known e = inl e
     once false front known e = front_followed s (b ∷ bs) more front piece h known e
 
     go : (bang : Bool) → (takes_bang s.mode s.before && is_bang (b ∷ (bs ++ more))) ≡ bang → (front : Option (Class × ℕ)) → longest_front (class_in language) (b ∷ bs) ≡ front → longest_front (class_in language) (b ∷ (bs ++ more)) ≡ front
-        → step bang (b ∷ bs) front ≡ Stands piece
-        → (step (takes_bang s.mode s.before && is_bang (b ∷ (bs ++ more))) (b ∷ (bs ++ more)) (longest_front (class_in language) (b ∷ (bs ++ more))) ≡ Stands piece)
-        ⊎ CountedLineEnd s (b ∷ bs) more (step bang (b ∷ bs) front) (step (takes_bang s.mode s.before && is_bang (b ∷ (bs ++ more))) (b ∷ (bs ++ more)) (longest_front (class_in language) (b ∷ (bs ++ more))))
+        → code_step s bang (b ∷ bs) front ≡ Stands piece
+        → (code_step s (takes_bang s.mode s.before && is_bang (b ∷ (bs ++ more))) (b ∷ (bs ++ more)) (longest_front (class_in language) (b ∷ (bs ++ more))) ≡ Stands piece)
+        ⊎ CountedLineEnd s (b ∷ bs) more (code_step s bang (b ∷ bs) front) (code_step s (takes_bang s.mode s.before && is_bang (b ∷ (bs ++ more))) (b ∷ (bs ++ more)) (longest_front (class_in language) (b ∷ (bs ++ more))))
     go bang again front known found e = rw (again, found) (once bang front known e)
 
 -- So does what stands at a place that isn't the text's begin.

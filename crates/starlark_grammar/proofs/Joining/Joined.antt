@@ -8,17 +8,17 @@ use Rattle.starlark_grammar.specs.declared.class.Class.TheVariants as word
 use Rattle.starlark_grammar.specs.Words.{Text, class_in, language}
 use Rattle.starlark_grammar.specs.declared.class.LiteralKind.{LiteralKind as Kind}
 use Rattle.starlark_grammar.specs.declared.class.Class.{Class}
-use Rattle.starlark_grammar.specs.declared.class.LiteralKind.TheVariants.{Text as OfText, Bytes as OfBytes, FString as OfFString}
 use Rattle.starlark_grammar.specs.Front.{longest_front}
 use Rattle.starlark_grammar.specs.Numbers.{integer_of}
-use Rattle.starlark_grammar.specs.Tokens.{Token, Newline, Int, StartsZero, FStringBang, Indent, InvalidTab, Indentation, Opening, Lexeme, moved, Outcome}
-use Rattle.starlark_grammar.specs.Items.{Stop, Closing, Line, Ended, OpeningBrace, ClosingBrace, BadEscape, Body, body_at}
+use Rattle.starlark_grammar.specs.Tokens.{Token, Newline, Int, StartsZero, FStringBang, Indent, InvalidTab, Indentation, Opening, Lexeme, moved}
+use Rattle.starlark_grammar.specs.Items.{Stop, Closing, OpeningBrace, BadEscape, Body}
 use Rattle.starlark_grammar.specs.Depths.{Mode, Outside, InText, AtTop, Deeper}
 use Rattle.starlark_grammar.specs.Margins.{Margin, margin_of, margin_len, is_content, has_tab, width_of, fits, indentation, open_widths}
-use Rattle.starlark_grammar.specs.Pieces.{more_quotes, fault, token, Before, Nothing, Layout, Gap, Other, Piece, Step, Stands, Fails, Ends, Situation, margin_step, first_margin, line_end, counts, is_bang, takes_bang, escape_fault, literal_by, opener, chunk_by, chunk, starts_zero, word_step, front_step, in_code, by_mode, by_before, step_at}
+use Rattle.starlark_grammar.specs.Pieces.{fault, token, Before, Nothing, Layout, Gap, Other, Piece, Step, Stands, Fails, Ends, Situation, margin_step, first_margin, line_end, counts, is_bang, takes_bang, literal_by, opener, chunk_by, chunk, starts_zero, word_step, front_step, in_code, by_mode, by_before, step_at}
 use Rattle.starlark_grammar.specs.Reading.{tokens_onto, History, nothing, after, after_all, situation, next_step, pieces_len, lexemes_along}
 use Rattle.starlark_grammar.specs.Longest.{IsReading}
 use Rattle.starlark_grammar.specs.Cuts.{is_layout}
+use Rattle.starlark_grammar.proofs.Literals.LiteralSteps.{chunk_holds, opener_holds, escape_holds}
 use Rattle.starlark_grammar.proofs.Words.Fronts.{longest_front_is}
 use Rattle.starlark_grammar.proofs.Reading.Readings.{none_next, started, piece_fits}
 use Rattle.starlark_grammar.proofs.Reading.Steps.{is_nothing}
@@ -119,40 +119,21 @@ NoLayout (Stands piece) = is_layout piece.sort ≡ false
 NoLayout (Fails fault) = ⊤
 NoLayout Ends = ⊤
 
-plain_escape : (begin : ℕ) (text : Text) → NoLayout (escape_fault begin text)
-plain_escape begin [] = tt
-plain_escape begin (b ∷ bs) = tt
-
 plain_literal : (mode : Mode) (kind : Kind) (opening : Opening) (len : ℕ) (remainder : Text) (body : Body) (stop : Stop) → NoLayout (literal_by mode kind opening len remainder body stop)
 plain_literal mode kind opening len remainder body Closing = refl
-plain_literal mode kind opening len remainder body (BadEscape read last) = plain_escape _ _
-plain_literal mode kind opening len remainder body Line = tt
-plain_literal mode kind opening len remainder body Ended = tt
-plain_literal mode kind opening len remainder body OpeningBrace = tt
-plain_literal mode kind opening len remainder body ClosingBrace = tt
-
-plain_body : (mode : Mode) (kind : Kind) (opening : Opening) (len : ℕ) (remainder : Text) (body : Body) → NoLayout (literal_by mode kind opening len remainder body body.stop)
-plain_body mode kind opening len remainder body = plain_literal mode kind opening len remainder body body.stop
+plain_literal mode kind opening len remainder body (BadEscape read last) = escape_holds NoLayout _ _ (λ end. tt) (λ escape end. tt)
+plain_literal mode kind opening len remainder body stop = tt
 
 plain_opener : (mode : Mode) (kind : Kind) (opening : Opening) (len : ℕ) (remainder : Text) → NoLayout (opener mode kind opening len remainder)
-plain_opener mode OfFString opening len remainder = refl
-plain_opener mode OfText opening len remainder = plain_body mode OfText opening (len + more_quotes opening) (drop (more_quotes opening) remainder) (body_at (record { kind = OfText; opening = opening }) (drop (more_quotes opening) remainder))
-plain_opener mode OfBytes opening len remainder = plain_body mode OfBytes opening (len + more_quotes opening) (drop (more_quotes opening) remainder) (body_at (record { kind = OfBytes; opening = opening }) (drop (more_quotes opening) remainder))
+plain_opener mode kind opening len remainder = opener_holds NoLayout mode kind opening len remainder refl (λ len rest body stop. plain_literal mode kind opening len rest body stop)
+
+plain_chunk_by : (opening : Opening) (text : Text) (body : Body) (stop : Stop) → NoLayout (chunk_by opening text body stop)
+plain_chunk_by opening text body OpeningBrace = refl
+plain_chunk_by opening text body Closing = refl
+plain_chunk_by opening text body stop = tt
 
 plain_chunk : (opening : Opening) (text : Text) → NoLayout (chunk opening text)
-unfolding chunk
-plain_chunk opening text = go (body_at (record { kind = OfFString; opening = opening }) text)
-  where
-    by : (body : Body) (stop : Stop) → NoLayout (chunk_by opening text body stop)
-    by body OpeningBrace = refl
-    by body Closing = refl
-    by body ClosingBrace = tt
-    by body (BadEscape read last) = tt
-    by body Line = tt
-    by body Ended = tt
-
-    go : (body : Body) → NoLayout (chunk_by opening text body body.stop)
-    go body = by body body.stop
+plain_chunk opening text = chunk_holds NoLayout opening text (plain_chunk_by opening text)
 
 plain_if : (b : Bool) (one other : Step) → NoLayout one → NoLayout other → NoLayout (if b then one else other)
 plain_if true one other h k = h
@@ -246,6 +227,32 @@ counted_step s b bs len started counted front = before_is s.before started ∙ a
     before_is Gap h = refl
     before_is Other h = refl
 
+-- the line end that a text ends with, where the text goes on
+pub record LastLineEnd (s : Situation) (text more : Text) (piece : Piece) : Type 0 where
+  pub len : ℕ
+  pub total : length (take len text) + length (drop len text) ≡ length text
+  pub stands : line_end (length (take len text)) s.levels (drop len text) ≡ Stands piece
+  pub step : step_at language s (text ++ more) ≡ line_end (length (take len text)) s.levels (drop len text ++ more)
+
+pub last_line_end : (s : Situation) (text more : Text) (piece : Piece) → ends_line text ≡ true → is_layout piece.sort ≡ true → is_nothing s.before ≡ false → step_at language s text ≡ Stands piece → LastLineEnd s text more piece
+last_line_end s text more piece ends laid started stands = counted (counted_end s text piece laid started stands) text refl
+  where
+    counted : CountedEnd s text piece → (t : Text) → text ≡ t → LastLineEnd s text more piece
+    counted end [] same = absurd (both_ways _ (subst (λ (t : Text). ends_line t ≡ false) (sym same) refl) ends)
+    counted end (b ∷ bs) same =
+        let n = end.len in
+        let inside = (longest_front_is (class_in language) text word.LineEnd n end.front).inside in
+        let front : longest_front (class_in language) ((b ∷ bs) ++ more) ≡ Some (word.LineEnd, n) = subst (λ (t : Text). longest_front (class_in language) (t ++ more) ≡ Some (word.LineEnd, n)) same (longest_followed text more ends ∙ end.front) in
+        let step = subst (λ (t : Text). step_at language s (t ++ more) ≡ line_end (length (take n (t ++ more))) s.levels (drop n (t ++ more))) (sym same) (counted_step s b (bs ++ more) n started end.counted front) in
+        let taken : take n (text ++ more) ≡ take n text = take-append-le n text more inside in
+        let left : drop n (text ++ more) ≡ drop n text ++ more = drop-append-le n text more inside in
+        record {
+          len = n;
+          total = omega (arith, length-take n text, length-drop n text, inside);
+          stands = end.stands;
+          step = step ∙ rw (taken, left) refl;
+        }
+
 -- how long the piece of a margin is
 pub margin_step_len : (len : ℕ) (lexemes : List Lexeme) (levels : List ℕ) (margin : Margin) (piece : Piece) → margin_step len lexemes levels margin ≡ Stands piece → piece.len ≡ len + margin_len margin
 unfolding margin_step
@@ -300,20 +307,12 @@ last_joined s text more piece first ends levels laid reach stands begins = go s.
     Claim before = (by_before language s before (text ++ more) ≡ Stands (joined_piece (length text) piece.lexemes first)) × (piece.width ≡ None)
 
     later : is_nothing s.before ≡ false → Claim s.before
-    later started = counted (counted_end s text piece laid started stands) text refl
-      where
-        counted : CountedEnd s text piece → (t : Text) → text ≡ t → Claim s.before
-        counted end [] same = absurd (both_ways _ (subst (λ (t : Text). ends_line t ≡ false) (sym same) refl) ends)
-        counted end (b ∷ bs) same =
-            let n = end.len in
-            let inside = (longest_front_is (class_in language) text word.LineEnd n end.front).inside in
-            let front : longest_front (class_in language) ((b ∷ bs) ++ more) ≡ Some (word.LineEnd, n) = subst (λ (t : Text). longest_front (class_in language) (t ++ more) ≡ Some (word.LineEnd, n)) same (longest_followed text more ends ∙ end.front) in
-            let step = subst (λ (t : Text). step_at language s (t ++ more) ≡ line_end (length (take n (t ++ more))) s.levels (drop n (t ++ more))) (sym same) (counted_step s b (bs ++ more) n started end.counted front) in
-            let taken : take n (text ++ more) ≡ take n text = take-append-le n text more inside in
-            let left : drop n (text ++ more) ≡ drop n text ++ more = drop-append-le n text more inside in
-            let total : length (take n text) + length (drop n text) ≡ length text = omega (arith, length-take n text, length-drop n text, inside) in
-            let found = joined_margin (length (take n text)) (record { begin = 0; node = Newline; end = length (take n text) } ∷ []) (drop n text) more piece first (whole_after n text (whole_from_ends text ends)) (rw levels at end.stands) (omega (arith, reach, total)) begins in
-            (step ∙ rw (taken, left, levels) (found.0 ∙ ap (λ n. Stands (joined_piece n piece.lexemes first)) total), found.1)
+    later started =
+        let end = last_line_end s text more piece ends laid started stands in
+        let len : ℕ = length (take end.len text) in
+        let flat : line_end len [] (drop end.len text) ≡ Stands piece = subst (λ (ls : List ℕ). line_end len ls (drop end.len text) ≡ Stands piece) levels end.stands in
+        let found = joined_margin len (record { begin = 0; node = Newline; end = len } ∷ []) (drop end.len text) more piece first (whole_after end.len text (whole_from_ends text ends)) flat (omega (arith, reach, end.total)) begins in
+        (end.step ∙ ap (λ (ls : List ℕ). line_end len ls (drop end.len text ++ more)) levels ∙ found.0 ∙ ap (λ n. Stands (joined_piece n piece.lexemes first)) end.total, found.1)
 
     go : (before : Before) → s.before ≡ before → by_before language s before text ≡ Stands piece → Claim before
     go Nothing same e =
@@ -441,6 +440,12 @@ inside history text piece next stands remainder = go (drop piece.len text) refl 
     go [] e f = absurd (none_next language (after history piece) next (started history piece (piece_fits language history text piece stands).sort) f)
     go (b ∷ bs) e f = omega (arith, length-drop piece.len text, ap length e)
 
+-- a piece that ends before its text does, and a reading of the rest of a text that goes on
+pub reads_on : (history : History) (text more : Text) (piece : Piece) (pieces : List Piece) → ends_line text ≡ true → piece.len < length text → next_step language history text ≡ Stands piece → IsReading language (after history piece) (drop piece.len text ++ more) pieces
+    → IsReading language history (text ++ more) (piece ∷ pieces)
+reads_on history text more piece pieces ends less stands reads =
+    (next_stays history text more piece ends less stands, subst (λ (t : Text). IsReading language (after history piece) t pieces) (sym (drop-append-le piece.len text more (omega (arith, less)))) reads)
+
 total_at : (at n : ℕ) (text : Text) → n < length text → at + n + length (drop n text) ≡ at + length text
 total_at at n text less = omega (arith, length-drop n text)
 
@@ -454,11 +459,10 @@ join_reading history text more (piece ∷ next ∷ pieces) first ends some reads
     let total = sum_by-cons (λ (piece : Piece). piece.len) piece (next ∷ pieces) in
     let less = inside history text piece next reads.0 reads.1.0 in
     let rest = join_reading (after history piece) (drop piece.len text) more (next ∷ pieces) first (ends_line_drop piece.len text less ends) (no_cons next pieces) reads.1 (omega (arith, reach, total, length-drop piece.len text)) settled begins in
-    let left : drop piece.len (text ++ more) ≡ drop piece.len text ++ more = drop-append-le piece.len text more (omega (arith, less)) in
     record {
       pieces' = piece ∷ rest.pieces';
       some = no_cons piece rest.pieces';
-      reads = (next_stays history text more piece ends less reads.0, subst (λ (t : Text). IsReading language (after history piece) t rest.pieces') (sym left) rest.reads);
+      reads = reads_on history text more piece rest.pieces' ends less reads.0 rest.reads;
       len = omega (arith, rest.len, less, length-drop piece.len text, sum_by-cons (λ (piece : Piece). piece.len) piece rest.pieces');
       past = rest.past;
       lexemes = λ at. ap (λ ls. map (moved at) piece.lexemes ++ ls) (rest.lexemes (at + piece.len) ∙ ap (λ n. lexemes_along (at + piece.len) (next ∷ pieces) ++ map (moved n) first.lexemes) (total_at at piece.len text less))

@@ -355,6 +355,22 @@ pub ends_some : (text : Text) → ends_line text ≡ true → 0 < length text
 ends_some [] h = cc
 ends_some (b ∷ bs) h = omega arith
 
+-- by the text's first margin alone
+unfoldable pub laid_alone : (text : Text) (at : ℕ) → at ≤ length text → 0 < at → ends_with nat_eq (take at text) (codes "\n") ≡ true → list_all is_comment_only (lines (take at text)) ≡ true → IsLaid text at
+unfolding open_fstring is_balanced open_widths
+laid_alone text at inside some ends comments = record {
+  pieces = [];
+  n = 0;
+  reads = tt;
+  margin = First refl refl;
+  flat = record { none_open = refl; balanced = refl; no_width = refl };
+  order = omega arith;
+  inside = inside;
+  some = some;
+  ends = ends;
+  comments = comments;
+}
+
 -- by the pieces of the front: a margin at the text's begin, or one after other pieces
 laid_by : (text : Text) (at : ℕ) (init : List Piece) (last : Piece) → at ≤ length text → ends_with nat_eq (take at text) (codes "\n") ≡ true → IsReading language nothing (take at text) init
     → next_step language (after_all nothing init) (drop (pieces_len init) (take at text)) ≡ Stands last → Settled (after (after_all nothing init) last) → pieces_len init + last.len ≡ at → IsLaid text at
@@ -364,18 +380,7 @@ laid_by text at [] last inside ends reads stands end total =
     let len : length front ≡ at = length-take-le at text inside in
     let line = ends_line_of front ends in
     let found = margin_whole 0 [] [] front last (whole_from_ends front line) (sym (first_step front) ∙ stands) (omega (arith, total, len)) in
-    record {
-      pieces = [];
-      n = 0;
-      reads = tt;
-      margin = First refl refl;
-      flat = record { none_open = refl; balanced = refl; no_width = refl };
-      order = omega arith;
-      inside = inside;
-      some = omega (arith, ends_some front line, len);
-      ends = ends;
-      comments = found.0;
-    }
+    laid_alone text at inside (omega (arith, ends_some front line, len)) ends found.0
 laid_by text at (piece ∷ pieces) last inside ends reads stands end total =
     let front = take at text in
     let history = after_all nothing (piece ∷ pieces) in

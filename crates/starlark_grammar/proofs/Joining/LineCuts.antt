@@ -7,66 +7,30 @@ use Rattle.std.proofs.lemmas.List.{length-map, length-take-le}
 use Rattle.std.proofs.lemmas.List.Sums.{sum_by-cons}
 use Rattle.starlark_grammar.proofs.Lists.{drop-sum}
 use Rattle.starlark_grammar.specs.declared.class.Class.TheVariants as word
-use Rattle.starlark_grammar.specs.Words.{Text, class_in, language, line_ends, names, openers, patterns, symbols}
-use Rattle.starlark_grammar.specs.declared.class.Class.{Class}
+use Rattle.starlark_grammar.specs.Words.{Text, class_in, language}
 use Rattle.starlark_grammar.specs.Front.{longest_front}
 use Rattle.starlark_grammar.specs.Tokens.{Lexeme, Newline, Outcome, moved}
-use Rattle.starlark_grammar.specs.Margins.{is_comment_only, is_lf, lines, open_widths}
-use Rattle.starlark_grammar.specs.Depths.{is_balanced, open_fstring}
+use Rattle.starlark_grammar.specs.Margins.{is_comment_only, is_lf, lines}
 use Rattle.starlark_grammar.specs.Pieces.{Piece, Stands}
 use Rattle.starlark_grammar.specs.Reading.{History, after, after_all, lexemes_along, next_step, nothing, outcome, pieces_len, read}
 use Rattle.starlark_grammar.specs.Longest.{IsLongestReading, IsReading}
 use Rattle.starlark_grammar.specs.Cuts.{is_clean_cut, is_kept_cut, without_closing}
 use Rattle.starlark_grammar.specs.Laws.{Begins}
 use Rattle.starlark_grammar.specs.TextLaws.{HasFirstMargin}
-use Rattle.starlark_grammar.proofs.Words.Classes.{language_all_fit, none_found, row_fits}
+use Rattle.starlark_grammar.proofs.Words.Classes.{line_end_fits}
 use Rattle.starlark_grammar.proofs.Words.Fronts.{front_sound}
 use Rattle.starlark_grammar.proofs.Order.OrderedLexemes.{is_line}
 use Rattle.starlark_grammar.proofs.Reading.Readings.{read_is, readings_agree}
 use Rattle.starlark_grammar.proofs.Joining.CleanCuts.{cut, cuts_join, pieces_both}
 use Rattle.starlark_grammar.proofs.Joining.Laws.{cuts_of_joined}
-use Rattle.starlark_grammar.proofs.Joining.LaidCuts.{First, IsLaid, laid_clean, laid_lexemes}
+use Rattle.starlark_grammar.proofs.Joining.LaidCuts.{IsLaid, laid_clean, laid_lexemes, laid_alone}
 
 -- A line end ends with an LF.
-
-abbrev ends_feed : Class → Text → Bool
-ends_feed word.LineEnd front = ends_with nat_eq front (codes "\n")
-ends_feed class front = true
-
-openers_end : list_all (λ (row : Text × Class). ends_feed row.1 row.0) openers ≡ true
-unfolding openers
-openers_end = refl
-
-line_ends_end : list_all (λ (row : Text × Class). ends_feed row.1 row.0) line_ends ≡ true
-unfolding line_ends
-line_ends_end = refl
-
-symbols_end : list_all (λ (row : Text × Class). ends_feed row.1 row.0) symbols ≡ true
-unfolding symbols
-symbols_end = refl
-
-names_end : list_all (λ (row : Text × Class). ends_feed row.1 row.0) names ≡ true
-unfolding names
-names_end = refl
-
-patterns_end : (front : Text) (class : Class) → class_in patterns front ≡ Some class → ends_feed class front ≡ true
-unfolding class_in patterns
-patterns_end front class =
-    row_fits ends_feed front _ word.Skipped class _ (λ h. refl)
-    (row_fits ends_feed front _ word.Comment class _ (λ h. refl)
-    (row_fits ends_feed front _ word.Tabs class _ (λ h. refl)
-    (row_fits ends_feed front _ word.Identifier class _ (λ h. refl)
-    (row_fits ends_feed front _ word.Decimal class _ (λ h. refl)
-    (row_fits ends_feed front _ word.Hexadecimal class _ (λ h. refl)
-    (row_fits ends_feed front _ word.Octal class _ (λ h. refl)
-    (row_fits ends_feed front _ word.Binary class _ (λ h. refl)
-    (row_fits ends_feed front _ word.Float class _ (λ h. refl)
-    (row_fits ends_feed front _ word.Float class _ (λ h. refl) (none_found ends_feed front class))))))))))
 
 pub line_end_ends : (rest : Text) (n : ℕ) → longest_front (class_in language) rest ≡ Some (word.LineEnd, n) → ends_with nat_eq (take n rest) (codes "\n") ≡ true
 line_end_ends rest n front =
     let sound = front_sound (class_in language) rest word.LineEnd n front in
-    language_all_fit ends_feed openers_end line_ends_end symbols_end names_end patterns_end (take n rest) word.LineEnd sound.2
+    line_end_fits (λ front. ends_with nat_eq front (codes "\n")) refl refl (take n rest) sound.2
 
 -- A comment-only line
 
@@ -95,19 +59,9 @@ take_whole (b ∷ bs) = ap (λ t. b ∷ t) (take_whole bs)
 
 module _ (line : Text) (comment : is_comment_only line ≡ true) (one : is_line line ≡ true) (ends : ends_with nat_eq line (codes "\n") ≡ true) where
   alone : IsLaid line (length line)
-  unfolding open_fstring is_balanced open_widths
-  alone = record {
-    pieces = [];
-    n = 0;
-    reads = tt;
-    margin = First refl refl;
-    flat = record { none_open = refl; balanced = refl; no_width = refl };
-    order = omega arith;
-    inside = omega arith;
-    some = some_comment line comment;
-    ends = ap (λ (t : Text). ends_with nat_eq t (codes "\n")) (take_whole line) ∙ ends;
-    comments = ap (λ (t : Text). list_all is_comment_only (lines t)) (take_whole line) ∙ ap (list_all is_comment_only) (one_line line one (some_comment line comment)) ∙ ap (λ (b : Bool). b && true) comment;
-  }
+  alone =
+      laid_alone line (length line) (omega arith) (some_comment line comment) (ap (λ (t : Text). ends_with nat_eq t (codes "\n")) (take_whole line) ∙ ends)
+      (ap (λ (t : Text). list_all is_comment_only (lines t)) (take_whole line) ∙ ap (list_all is_comment_only) (one_line line one (some_comment line comment)) ∙ ap (λ (b : Bool). b && true) comment)
 
   -- it is a clean cut
   pub line_clean : is_clean_cut line ≡ true
@@ -115,7 +69,7 @@ module _ (line : Text) (comment : is_comment_only line ≡ true) (one : is_line 
 
   -- of one lexeme
   pub line_lexeme : length (without_closing (outcome line).lexemes) ≡ 1
-  unfolding alone
+  unfolding alone laid_alone
   line_lexeme =
       ap (λ (t : Text). length (without_closing (outcome t).lexemes)) (sym (take_whole line)) ∙ laid_lexemes line (length line) alone
       ∙ ap (λ (t : Text). 0 + (0 + length (lines t))) (take_whole line) ∙ ap (λ (ls : List Text). 0 + (0 + length ls)) (one_line line one (some_comment line comment))

@@ -15,16 +15,17 @@ use Rattle.starlark_grammar.specs.declared.class.LiteralKind.{LiteralKind as Kin
 use Rattle.starlark_grammar.specs.declared.class.LiteralKind.TheVariants.{Text as OfText, Bytes as OfBytes, FString as OfFString}
 use Rattle.starlark_grammar.specs.Items.{Literal, Line, Ended, Item, Found, Goes, Stops, goes, closing_quotes, broken, is_character, numbered, hexadecimal, octal, escaped_newline, simple_escapes, simple, is_of_bytes, escape, drops_backslash, raw_pair, brace, is_brace, found_at, Body, body_len, body_onward, body_from, body_at}
 use Rattle.starlark_grammar.specs.FrontCharacter.{first_character}
+use Rattle.starlark_grammar.proofs.Choices.{by_test}
 use Rattle.starlark_grammar.proofs.Literals.Bodies.{found_fits, FoundFits}
 use Rattle.starlark_grammar.proofs.Joining.Followed.{ends_line, ends_line_rest}
-use Rattle.starlark_grammar.proofs.Joining.FollowedBodies.{both, both_equal, closing_in_line, is_closed, starts_followed}
+use Rattle.starlark_grammar.proofs.Joining.FollowedBodies.{both, both_equal, closing_in_line, is_closed, starts_followed, octal_by}
 
 -- What is found in a text is found in its front, where an item ends before the front does, or a body is closed.
 abbrev pub FoundShortened : ℕ → Found → Found → Type 0
 FoundShortened len (Goes item) other = item.len < len → other ≡ Goes item
 FoundShortened len (Stops stop) other = is_closed stop ≡ true → other ≡ Stops stop
 
-same_shortened : (len : ℕ) (found : Found) → FoundShortened len found found
+pub same_shortened : (len : ℕ) (found : Found) → FoundShortened len found found
 same_shortened len (Goes item) = λ inside. refl
 same_shortened len (Stops stop) = λ closed. refl
 
@@ -32,16 +33,12 @@ broken_shortened : (len good : ℕ) (remainder : Text) (other : Found) → Found
 broken_shortened len good [] other = λ closed. cc
 broken_shortened len good (b ∷ bs) other = λ closed. cc
 
-goes_shortened : (whole len : ℕ) (value : Text) (test : Bool) (other : Found) → (len < whole → other ≡ (if test then goes len value else broken len [])) → FoundShortened whole (if test then goes len value else broken len []) other
-goes_shortened whole len value true other h = h
-goes_shortened whole len value false other h = λ closed. cc
-
 numbered_shortened : (whole len : ℕ) (is_byte : Bool) (n : ℕ) (other : Found) → (len < whole → other ≡ numbered len is_byte n) → FoundShortened whole (numbered len is_byte n) other
-numbered_shortened whole len true n other h = goes_shortened whole len (n ∷ []) (nat_lt n 256) other h
-numbered_shortened whole len false n other h = goes_shortened whole len (encode_utf8 n) (is_character n) other h
+numbered_shortened whole len true n other h = by_test (λ found. FoundShortened whole found other) (nat_lt n 256) (goes len (n ∷ [])) (broken len []) (λ yes less. h less ∙ rw yes refl) (λ no closed. cc)
+numbered_shortened whole len false n other h = by_test (λ found. FoundShortened whole found other) (is_character n) (goes len (encode_utf8 n)) (broken len []) (λ yes less. h less ∙ rw yes refl) (λ no closed. cc)
 
 -- a run that ends before the front does
-prefix_shortened : (test : ℕ → Bool) (most : ℕ) (text more : Text) → prefix_len test (take most (text ++ more)) < length text → prefix_len test (take most text) ≡ prefix_len test (take most (text ++ more))
+pub prefix_shortened : (test : ℕ → Bool) (most : ℕ) (text more : Text) → prefix_len test (take most (text ++ more)) < length text → prefix_len test (take most text) ≡ prefix_len test (take most (text ++ more))
 prefix_shortened test zero text more h = refl
 prefix_shortened test (suc most) [] more h = absurd (omega (arith, h))
 prefix_shortened test (suc most) (b ∷ bs) more h = go (test b) (prefix_shortened test most bs more) h
@@ -67,26 +64,21 @@ hexadecimal_shortened wanted is_byte text more = go (prefix_len is_ascii_hexdigi
         (λ full. numbered_shortened (2 + length text) (2 + n) is_byte (digits_value 16 (take n (text ++ more))) _ (equal n e full))
         (λ short. broken_shortened (2 + length text) (2 + n) (drop n (text ++ more)) _)
 
+-- an octal escape that ends before the front does
+pub octal_of_front : (is_byte : Bool) (text more : Text) (n : ℕ) → prefix_len is_octal_digit (take 3 (text ++ more)) ≡ n → 1 + n < 1 + length text → octal is_byte text ≡ octal_by is_byte n (text ++ more)
+octal_of_front is_byte text more n e inside =
+    let again : prefix_len is_octal_digit (take 3 text) ≡ n = prefix_shortened is_octal_digit 3 text more (omega (arith, e, inside)) ∙ e in
+    ap (λ n. octal_by is_byte n text) again ∙ ap (λ (digits : Text). numbered (1 + n) is_byte (digits_value 8 digits)) (sym (take-append-le n text more (omega (arith, inside))))
+
 octal_shortened : (is_byte : Bool) (text more : Text) → FoundShortened (1 + length text) (octal is_byte (text ++ more)) (octal is_byte text)
-octal_shortened is_byte text more = go (prefix_len is_octal_digit (take 3 (text ++ more))) refl
-  where
-    by : ℕ → Text → Found
-    by n text = numbered (1 + n) is_byte (digits_value 8 (take n text))
-
-    equal : (n : ℕ) → prefix_len is_octal_digit (take 3 (text ++ more)) ≡ n → 1 + n < 1 + length text → octal is_byte text ≡ by n (text ++ more)
-    equal n e inside =
-        let again : prefix_len is_octal_digit (take 3 text) ≡ n = prefix_shortened is_octal_digit 3 text more (omega (arith, e, inside)) ∙ e in
-        ap (λ n. by n text) again ∙ ap (λ (digits : Text). numbered (1 + n) is_byte (digits_value 8 digits)) (sym (take-append-le n text more (omega (arith, inside))))
-
-    go : (n : ℕ) → prefix_len is_octal_digit (take 3 (text ++ more)) ≡ n → FoundShortened (1 + length text) (by n (text ++ more)) (octal is_byte text)
-    go n e = numbered_shortened (1 + length text) (1 + n) is_byte (digits_value 8 (take n (text ++ more))) _ (equal n e)
+octal_shortened is_byte text more = numbered_shortened (1 + length text) _ is_byte _ _ (octal_of_front is_byte text more (prefix_len is_octal_digit (take 3 (text ++ more))) refl)
 
 escaped_feed_shortened : (text more : Text) → FoundShortened (2 + length text) (escaped_newline (text ++ more)) (escaped_newline text)
 escaped_feed_shortened [] [] = λ closed. cc
 escaped_feed_shortened [] (c ∷ more) = both (λ one other. FoundShortened 2 one (escaped_newline [])) (c == byte "\n") _ _ (Stops Ended) (Stops Ended) (λ e. λ inside. absurd (omega (arith, inside))) (λ e. broken_shortened 2 2 (c ∷ more) (escaped_newline []))
 escaped_feed_shortened (b ∷ bs) more = both (FoundShortened (2 + length (b ∷ bs))) (b == byte "\n") _ _ _ _ (λ e. same_shortened _ (goes 3 [])) (λ e. broken_shortened (2 + length (b ∷ bs)) 2 (b ∷ (bs ++ more)) (broken 2 (b ∷ bs)))
 
-character_shortened : (text more : Text) → length (first_character (text ++ more)) < length text → first_character text ≡ first_character (text ++ more)
+pub character_shortened : (text more : Text) → length (first_character (text ++ more)) < length text → first_character text ≡ first_character (text ++ more)
 character_shortened [] more inside = absurd (omega (arith, inside))
 character_shortened (b ∷ bs) more inside =
     ap (λ (rest : Text). b ∷ rest) (sym (take-append-le (continuation_len b) bs more (omega (arith, inside, length-take (continuation_len b) (bs ++ more), length-append bs more))))
@@ -95,7 +87,7 @@ simple_shortened : (len : ℕ) (value : Option ℕ) (one other : Text) → (1 + 
 simple_shortened len (Some value) one other h = λ inside. refl
 simple_shortened len None one other h = λ inside. ap (simple None) (h inside)
 
-escape_shortened : (kind : Kind) (text more : Text) → 0 < length text → FoundShortened (1 + length text) (escape kind (text ++ more)) (escape kind text)
+pub escape_shortened : (kind : Kind) (text more : Text) → 0 < length text → FoundShortened (1 + length text) (escape kind (text ++ more)) (escape kind text)
 unfolding escape
 escape_shortened kind [] more some = absurd (omega (arith, some))
 escape_shortened kind (b ∷ bs) more some =
@@ -109,18 +101,21 @@ escape_shortened kind (b ∷ bs) more some =
     both P (is_octal_digit b) _ _ _ _ (λ e. octal_shortened (is_of_bytes kind) (b ∷ bs) more) (λ e.
     simple_shortened _ (lookup (nat_eq b) simple_escapes) (first_character (b ∷ (bs ++ more))) (first_character (b ∷ bs)) (λ inside. character_shortened (b ∷ bs) more (omega (arith, inside)))))))))
 
-raw_pair_shortened : (kind : Kind) (quote : Quote) (text more : Text) → 0 < length text → FoundShortened (1 + length text) (raw_pair kind quote (text ++ more)) (raw_pair kind quote text)
+pub raw_pair_shortened : (kind : Kind) (quote : Quote) (text more : Text) → 0 < length text → FoundShortened (1 + length text) (raw_pair kind quote (text ++ more)) (raw_pair kind quote text)
 unfolding raw_pair
 raw_pair_shortened kind quote [] more some = absurd (omega (arith, some))
 raw_pair_shortened kind quote (b ∷ bs) more some = λ inside.
     ap (λ (character : Text). goes (1 + length character) (if drops_backslash kind quote b then character else byte "\\" ∷ character)) (character_shortened (b ∷ bs) more (omega (arith, inside)))
 
 -- after a byte that is no LF a text that ends with one goes on
-goes_on : (b : ℕ) (bs : Text) → ends_line (b ∷ bs) ≡ true → (b ≡ 10 → ⊥) → 0 < length bs
+pub goes_on : (b : ℕ) (bs : Text) → ends_line (b ∷ bs) ≡ true → (b ≡ 10 → ⊥) → 0 < length bs
 goes_on b [] h other = absurd (other (eqb-true b 10 h))
 goes_on b (c ∷ cs) h other = omega arith
 
-no_brace : (kind : Kind) (b : ℕ) → is_brace kind b ≡ true → b ≡ 10 → ⊥
+pub after_backslash : (b : ℕ) (bs : Text) → ends_line (b ∷ bs) ≡ true → b ≡ 92 → 0 < length bs
+after_backslash b bs h e = goes_on b bs h (λ feed. omega (arith, e, feed))
+
+pub no_brace : (kind : Kind) (b : ℕ) → is_brace kind b ≡ true → b ≡ 10 → ⊥
 no_brace kind b h e = go kind (subst (λ n. is_brace kind n ≡ true) e h)
   where
     go : (kind : Kind) → is_brace kind 10 ≡ true → ⊥
@@ -139,12 +134,11 @@ found_shortened literal [] more h = cc
 found_shortened literal (b ∷ bs) more h =
     let P : Found → Found → Type 0 = FoundShortened (length (b ∷ bs)) in
     let one : 1 + length bs ≡ length (b ∷ bs) = omega arith in
-    let backslash : b ≡ 92 → 0 < length bs = λ e. goes_on b bs h (λ feed. omega (arith, e, feed)) in
     both_equal P (starts_with nat_eq (b ∷ (bs ++ more)) (closing_quotes literal.opening)) (starts_with nat_eq (b ∷ bs) (closing_quotes literal.opening)) _ _ _ _ (sym (starts_followed (b ∷ bs) (closing_quotes literal.opening) more h (closing_in_line literal.opening))) (λ closed. refl)
     (both P (b == byte "\n" && not literal.opening.is_triple) _ _ _ _ (λ e. same_shortened (length (b ∷ bs)) (Stops Line)) (λ e.
     both P (b == byte "\r") _ _ _ _ (λ e. same_shortened (length (b ∷ bs)) (goes 1 [])) (λ e.
-    both P (b == byte "\\" && literal.opening.is_raw) _ _ _ _ (λ e. subst (λ n. FoundShortened n (raw_pair literal.kind literal.opening.quote (bs ++ more)) (raw_pair literal.kind literal.opening.quote bs)) one (raw_pair_shortened literal.kind literal.opening.quote bs more (backslash (eqb-true b 92 (left_true (b == byte "\\") literal.opening.is_raw e))))) (λ e.
-    both P (b == byte "\\") _ _ _ _ (λ e. subst (λ n. FoundShortened n (escape literal.kind (bs ++ more)) (escape literal.kind bs)) one (escape_shortened literal.kind bs more (backslash (eqb-true b 92 e)))) (λ e.
+    both P (b == byte "\\" && literal.opening.is_raw) _ _ _ _ (λ e. subst (λ n. FoundShortened n (raw_pair literal.kind literal.opening.quote (bs ++ more)) (raw_pair literal.kind literal.opening.quote bs)) one (raw_pair_shortened literal.kind literal.opening.quote bs more (after_backslash b bs h (eqb-true b 92 (left_true (b == byte "\\") literal.opening.is_raw e))))) (λ e.
+    both P (b == byte "\\") _ _ _ _ (λ e. subst (λ n. FoundShortened n (escape literal.kind (bs ++ more)) (escape literal.kind bs)) one (escape_shortened literal.kind bs more (after_backslash b bs h (eqb-true b 92 e)))) (λ e.
     both P (is_brace literal.kind b) _ _ _ _ (λ e. brace_shortened _ b bs more (goes_on b bs h (no_brace literal.kind b e))) (λ e.
     λ inside. ap (λ (character : Text). goes (length character) character) (character_shortened (b ∷ bs) more inside)))))))
   where

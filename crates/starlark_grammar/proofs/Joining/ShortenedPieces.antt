@@ -1,25 +1,24 @@
 -- A piece that stands in a text stands in it too where the text ends sooner, with an LF after the piece.
 use Rattle.std.proofs.Common.{◌≡◌, ℕ, ◌+◌, ◌≤◌, ◌<◌, Bool, true, false, List, [], ◌∷◌, ◌++◌, length, take, drop, refl, ap, ◌∙◌, sym, subst, Option, Some, None, arith}
 use Rattle.std.specs.Prelude.{◌&&◌, if◌then◌else◌}
-use Rattle.std.proofs.lemmas.List.{length-take-le, length-drop, take-append-le, drop-append-le}
+use Rattle.std.proofs.lemmas.List.{length-drop, drop-append-le}
 use Rattle.starlark_grammar.specs.declared.class.Class.TheVariants as word
 use Rattle.starlark_grammar.specs.Words.{Text, class_in, language}
 use Rattle.starlark_grammar.specs.declared.class.LiteralKind.{LiteralKind as Kind}
 use Rattle.starlark_grammar.specs.declared.class.Class.{Class}
 use Rattle.starlark_grammar.specs.declared.class.LiteralKind.TheVariants.{Text as OfText, Bytes as OfBytes, FString as OfFString}
 use Rattle.starlark_grammar.specs.Front.{longest_front}
-use Rattle.starlark_grammar.specs.Tokens.{Opening, FStringBang, Lexeme, Newline}
+use Rattle.starlark_grammar.specs.Tokens.{Opening, Lexeme, Newline}
 use Rattle.starlark_grammar.specs.Items.{Stop, Closing, Line, Ended, OpeningBrace, ClosingBrace, BadEscape, Body, body_at, body_len, closing_quotes}
 use Rattle.starlark_grammar.specs.Depths.{Mode, Outside, InText, AtTop, Deeper}
 use Rattle.starlark_grammar.specs.Margins.{margin_of, margin_len}
-use Rattle.starlark_grammar.specs.Pieces.{Before, Nothing, Layout, Gap, Other, Piece, Step, Stands, Situation, token, margin_step, line_end, opening_of, more_quotes, escape_fault, literal_by, literal, opener, chunk_by, chunk, counts, word_step, front_step, takes_bang, is_bang, in_code, by_mode, by_before, step_at}
+use Rattle.starlark_grammar.specs.Pieces.{Before, Nothing, Layout, Gap, Other, Piece, Step, Stands, Situation, margin_step, line_end, opening_of, more_quotes, escape_fault, literal_by, literal, opener, chunk_by, chunk, counts, word_step, front_step, takes_bang, is_bang, in_code, by_mode, by_before, step_at}
 use Rattle.starlark_grammar.specs.Reading.{History, situation, next_step}
-use Rattle.starlark_grammar.proofs.Words.Fronts.{front_sound}
 use Rattle.starlark_grammar.proofs.WordNewlines.{in_line, line_fits, language_lines}
 use Rattle.starlark_grammar.proofs.Joining.Followed.{ends_line, ends_line_drop, longest_followed}
 use Rattle.starlark_grammar.proofs.Joining.FollowedBodies.{is_closed}
 use Rattle.starlark_grammar.proofs.Joining.FollowedMargins.{Followed, Whole, Within, followed, has_whole_lines, whole_after}
-use Rattle.starlark_grammar.proofs.Joining.FollowedPieces.{bang_followed, opening_followed, opening_inside, word_inside}
+use Rattle.starlark_grammar.proofs.Joining.FollowedPieces.{FrontGoesOn, bang_stays, code_step, front_goes_on, opening_followed, opening_inside}
 use Rattle.starlark_grammar.proofs.Joining.Joined.{margin_step_len, step_within, whole_from_ends}
 use Rattle.starlark_grammar.proofs.Joining.ShortenedBodies.{body_shortened}
 
@@ -99,9 +98,6 @@ margin_shortened len lexemes levels text more piece whole stands less = go (foll
 
 word_shortened : (s : Situation) (class : Class) (front remainder more : Text) (piece : Piece) → (in_line front ≡ true → ends_line remainder ≡ true) → has_whole_lines remainder ≡ true → line_fits class front ≡ true → word_step s class front (remainder ++ more) ≡ Stands piece → piece.len < length front + length remainder
     → word_step s class front remainder ≡ Stands piece
-word_shortened s word.Skipped front remainder more piece ends whole fits e inside = e
-word_shortened s word.Comment front remainder more piece ends whole fits e inside = e
-word_shortened s word.Tabs front remainder more piece ends whole fits e inside = e
 word_shortened s word.LineEnd front remainder more piece ends whole fits e inside = go (counts s.mode s.is_balanced) e
   where
     step : Bool → Text → Step
@@ -114,52 +110,28 @@ word_shortened s (word.Opener kind is_raw quote) front remainder more piece ends
     let h = ends fits in
     opener_shortened s.mode kind (opening_of is_raw quote remainder) (length front) remainder more piece h (opening_inside is_raw quote remainder h)
     (sym (ap (λ (opening : Opening). opener s.mode kind opening (length front) (remainder ++ more)) (opening_followed is_raw quote remainder more h)) ∙ e) inside
-word_shortened s word.Reserved front remainder more piece ends whole fits e inside = e
-word_shortened s word.Identifier front remainder more piece ends whole fits e inside = e
-word_shortened s word.Decimal front remainder more piece ends whole fits e inside = e
-word_shortened s word.Hexadecimal front remainder more piece ends whole fits e inside = e
-word_shortened s word.Octal front remainder more piece ends whole fits e inside = e
-word_shortened s word.Binary front remainder more piece ends whole fits e inside = e
-word_shortened s word.Float front remainder more piece ends whole fits e inside = e
-word_shortened s (word.Fixed terminal) front remainder more piece ends whole fits e inside = e
+word_shortened s class front remainder more piece ends whole fits e inside = e
 
 front_shortened : (s : Situation) (text more : Text) (found : Option (Class × ℕ)) (piece : Piece) → ends_line text ≡ true → longest_front (class_in language) text ≡ found → front_step s (text ++ more) found ≡ Stands piece → piece.len < length text → front_step s text found ≡ Stands piece
 front_shortened s text more None piece h found e inside = cc
 front_shortened s text more (Some front) piece h found e inside =
-    word_shortened s front.0 (take front.1 text) (drop front.1 text) more piece ends (whole_after front.1 text (whole_from_ends text h)) (language_lines (take front.1 text) front.0 sound.2) (sym again ∙ e)
-    (omega (arith, inside, length-take-le front.1 text sound.1, length-drop front.1 text, sound.1))
+    word_shortened s front.0 (take front.1 text) (drop front.1 text) more piece goes.ends (whole_after front.1 text (whole_from_ends text h)) (language_lines (take front.1 text) front.0 goes.sound.2) (sym goes.again ∙ e)
+    (omega (arith, inside, goes.len, length-drop front.1 text, goes.sound.1))
   where
-    sound : (1 ≤ front.1) × (front.1 ≤ length text) × (class_in language (take front.1 text) ≡ Some front.0)
-    sound = front_sound (class_in language) text front.0 front.1 found
-
-    ends : in_line (take front.1 text) ≡ true → ends_line (drop front.1 text) ≡ true
-    ends line = ends_line_drop front.1 text (word_inside front.1 text h line) h
-
-    again : front_step s (text ++ more) (Some front) ≡ word_step s front.0 (take front.1 text) (drop front.1 text ++ more)
-    again =
-        ap (λ (t : Text). word_step s front.0 t (drop front.1 (text ++ more))) (take-append-le front.1 text more sound.1)
-        ∙ ap (λ (t : Text). word_step s front.0 (take front.1 text) t) (drop-append-le front.1 text more sound.1)
+    goes : FrontGoesOn s text more front
+    goes = front_goes_on s text more front h found
 
 code_shortened : (s : Situation) (text more : Text) (piece : Piece) → ends_line text ≡ true → in_code language s (text ++ more) ≡ Stands piece → piece.len < length text → in_code language s text ≡ Stands piece
 code_shortened s [] more piece h e inside = absurd (omega (arith, inside))
-code_shortened s (b ∷ bs) more piece h e inside = go (takes_bang s.mode s.before && is_bang (b ∷ bs)) same (longest_front (class_in language) (b ∷ bs)) refl found e
+code_shortened s (b ∷ bs) more piece h e inside = go (takes_bang s.mode s.before && is_bang (b ∷ bs)) (bang_stays s b bs more h) (longest_front (class_in language) (b ∷ bs)) refl (longest_followed (b ∷ bs) more h) e
   where
-    same : (takes_bang s.mode s.before && is_bang (b ∷ (bs ++ more))) ≡ (takes_bang s.mode s.before && is_bang (b ∷ bs))
-    same = ap (λ bang. takes_bang s.mode s.before && bang) (bang_followed b bs more h)
-
-    found : longest_front (class_in language) (b ∷ (bs ++ more)) ≡ longest_front (class_in language) (b ∷ bs)
-    found = longest_followed (b ∷ bs) more h
-
-    step : Bool → Text → Option (Class × ℕ) → Step
-    step bang text front = if bang then token 1 FStringBang else front_step s text front
-
-    once : (bang : Bool) (front : Option (Class × ℕ)) → longest_front (class_in language) (b ∷ bs) ≡ front → step bang (b ∷ (bs ++ more)) front ≡ Stands piece → step bang (b ∷ bs) front ≡ Stands piece
+    once : (bang : Bool) (front : Option (Class × ℕ)) → longest_front (class_in language) (b ∷ bs) ≡ front → code_step s bang (b ∷ (bs ++ more)) front ≡ Stands piece → code_step s bang (b ∷ bs) front ≡ Stands piece
     once true front known e = e
     once false front known e = front_shortened s (b ∷ bs) more front piece h known e inside
 
     go : (bang : Bool) → (takes_bang s.mode s.before && is_bang (b ∷ (bs ++ more))) ≡ bang → (front : Option (Class × ℕ)) → longest_front (class_in language) (b ∷ bs) ≡ front → longest_front (class_in language) (b ∷ (bs ++ more)) ≡ front
-        → step (takes_bang s.mode s.before && is_bang (b ∷ (bs ++ more))) (b ∷ (bs ++ more)) (longest_front (class_in language) (b ∷ (bs ++ more))) ≡ Stands piece
-        → step bang (b ∷ bs) front ≡ Stands piece
+        → code_step s (takes_bang s.mode s.before && is_bang (b ∷ (bs ++ more))) (b ∷ (bs ++ more)) (longest_front (class_in language) (b ∷ (bs ++ more))) ≡ Stands piece
+        → code_step s bang (b ∷ bs) front ≡ Stands piece
     go bang again front known found e = once bang front known (rw (again, found) at e)
 
 -- So does what stands at a place.

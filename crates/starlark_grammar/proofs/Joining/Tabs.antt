@@ -2,27 +2,26 @@
 use Rattle.std.proofs.Common.{◌≡◌, ℕ, ◌+◌, ◌≤◌, ◌<◌, Bool, true, false, not, List, [], ◌∷◌, ◌++◌, length, take, drop, map, refl, ap, ◌∙◌, sym, subst, Some, None, arith, append-nil, ◌⊎◌, inl, inr}
 use Rattle.std.specs.Prelude.{◌||◌, ◌==◌, if◌then◌else◌}
 use Rattle.std.specs.List.{list_all}
-use Rattle.std.proofs.lemmas.Bool.{and_parts, both_ways}
+use Rattle.std.proofs.lemmas.Bool.{and_parts}
 use Rattle.std.proofs.lemmas.List.Sums.{sum_by-cons}
-use Rattle.std.proofs.lemmas.List.{drop-append-le, take-append-le, length-drop, length-take}
+use Rattle.std.proofs.lemmas.List.{drop-append-le, length-drop}
 use Rattle.starlark_grammar.specs.declared.class.Class.TheVariants as word
-use Rattle.starlark_grammar.specs.Words.{Text, class_in, language}
-use Rattle.starlark_grammar.specs.Front.{longest_front}
+use Rattle.starlark_grammar.specs.Words.{Text, language}
 use Rattle.starlark_grammar.specs.Tokens.{Newline, InvalidTab, Lexeme, Spanned, Fault, moved, Outcome}
-use Rattle.starlark_grammar.specs.Margins.{Margin, margin_of, is_content, has_tab, width_of, fits, comments_from, comment_lines}
+use Rattle.starlark_grammar.specs.Margins.{Margin, margin_of, is_content, has_tab, width_of, fits}
 use Rattle.starlark_grammar.specs.Pieces.{Layout, Piece, Step, Stands, Fails, Ends, Situation, margin_step, step_at}
 use Rattle.starlark_grammar.specs.Reading.{History, nothing, after, after_all, situation, next_step, pieces_len, lexemes_along, outcome_of, outcome}
 use Rattle.starlark_grammar.specs.Longest.{IsReading, IsLongestReading}
 use Rattle.starlark_grammar.specs.Cuts.{is_layout, is_clean_cut, without_closing, is_newline, before_newline, tabbed}
 use Rattle.starlark_grammar.specs.TextLaws.{HasFirstMargin}
+use Rattle.starlark_grammar.proofs.MarginComments.{margin_holds}
 use Rattle.starlark_grammar.proofs.Lists.{drop-sum}
-use Rattle.starlark_grammar.proofs.Words.Fronts.{longest_front_is}
 use Rattle.starlark_grammar.proofs.Reading.Readings.{outcome_only, started, piece_fits}
 use Rattle.starlark_grammar.proofs.Reading.Steps.{is_nothing}
-use Rattle.starlark_grammar.proofs.Joining.Followed.{ends_line, ends_line_drop, longest_followed}
+use Rattle.starlark_grammar.proofs.Joining.Followed.{ends_line, ends_line_drop}
 use Rattle.starlark_grammar.proofs.Joining.FollowedMargins.{whole_after, Followed, Whole, Within, margin_after, followed, has_whole_lines}
 use Rattle.starlark_grammar.proofs.Joining.Settled.{Settled}
-use Rattle.starlark_grammar.proofs.Joining.Joined.{whole_from_ends, CountedEnd, counted_end, counted_step, margin_step_len, blank_step, next_stays, inside, all_moved}
+use Rattle.starlark_grammar.proofs.Joining.Joined.{whole_from_ends, last_line_end, margin_step_len, blank_step, next_stays, inside, all_moved, reads_on}
 use Rattle.starlark_grammar.proofs.Joining.CleanCuts.{Cut, cut, along_both, pieces_both, but_last}
 
 -- First margins
@@ -89,13 +88,8 @@ first_margin_is text = go (next_step language nothing text) refl
 abbrev no_newline : List Lexeme → Bool
 no_newline lexemes = list_all (λ (lexeme : Lexeme). not (is_newline lexeme.node)) lexemes
 
-comments_only : (at : ℕ) (lines : List Text) → no_newline (comments_from at lines) ≡ true
-comments_only at [] = refl
-comments_only at (line ∷ lines) = comments_only (at + length line) lines
-
 margin_comments : (text : Text) → no_newline (margin_of text).comments ≡ true
-unfolding margin_of
-margin_comments text = comments_only 0 (comment_lines text)
+margin_comments = margin_holds (λ ls. no_newline ls ≡ true) refl (λ at line rest h. h)
 
 none_moved : (n : ℕ) (lexemes : List Lexeme) → no_newline lexemes ≡ true → no_newline (map (moved n) lexemes) ≡ true
 none_moved n [] h = refl
@@ -155,31 +149,19 @@ record LineEnds (piece : Piece) : Type 0 where
 -- a line end that counts, at the end of a text, with a tab after it
 line_tabbed : (s : Situation) (text more : Text) (piece : Piece) → is_nothing s.before ≡ false → ends_line text ≡ true → is_layout piece.sort ≡ true → piece.len ≡ length text → step_at language s text ≡ Stands piece → HasTab (margin_of more)
     → (step_at language s (text ++ more) ≡ Fails tab) × LineEnds piece
-line_tabbed s text more piece later ends laid reach stands has = counted (counted_end s text piece laid later stands) text refl
-  where
-    Claim : Type 0
-    Claim = (step_at language s (text ++ more) ≡ Fails tab) × LineEnds piece
-
-    counted : CountedEnd s text piece → (t : Text) → text ≡ t → Claim
-    counted end [] same = absurd (both_ways _ (subst (λ (t : Text). ends_line t ≡ false) (sym same) refl) ends)
-    counted end (b ∷ bs) same =
-        let n = end.len in
-        let inside = (longest_front_is (class_in language) text word.LineEnd n end.front).inside in
-        let front : longest_front (class_in language) ((b ∷ bs) ++ more) ≡ Some (word.LineEnd, n) = subst (λ (t : Text). longest_front (class_in language) (t ++ more) ≡ Some (word.LineEnd, n)) same (longest_followed text more ends ∙ end.front) in
-        let step = subst (λ (t : Text). step_at language s (t ++ more) ≡ margin_step (length (take n (t ++ more))) (record { begin = 0; node = Newline; end = length (take n (t ++ more)) } ∷ []) s.levels (margin_of (drop n (t ++ more)))) (sym same) (counted_step s b (bs ++ more) n later end.counted front) in
-        let taken : take n (text ++ more) ≡ take n text = take-append-le n text more inside in
-        let left : drop n (text ++ more) ≡ drop n text ++ more = drop-append-le n text more inside in
-        let total : length (take n text) + length (drop n text) ≡ length text = omega (arith, length-take n text, length-drop n text, inside) in
-        let line : Lexeme = record { begin = 0; node = Newline; end = length (take n text) } in
-        let found = tab_margin (length (take n text)) (line ∷ []) s.levels (drop n text) more piece (whole_after n text (whole_from_ends text ends)) end.stands (omega (arith, reach, total)) has in (
-          step ∙ rw (taken, left) found.fails,
-          record {
-            len = length (take n text);
-            comments = map (moved (length (take n text))) (margin_of (drop n text)).comments;
-            lexemes = found.found;
-            none = none_moved (length (take n text)) (margin_of (drop n text)).comments (margin_comments (drop n text));
-          },
-        )
+line_tabbed s text more piece later ends laid reach stands has =
+    let end = last_line_end s text more piece ends laid later stands in
+    let len : ℕ = length (take end.len text) in
+    let line : Lexeme = record { begin = 0; node = Newline; end = len } in
+    let found = tab_margin len (line ∷ []) s.levels (drop end.len text) more piece (whole_after end.len text (whole_from_ends text ends)) end.stands (omega (arith, reach, end.total)) has in (
+      end.step ∙ found.fails,
+      record {
+        len = len;
+        comments = map (moved len) (margin_of (drop end.len text)).comments;
+        lexemes = found.found;
+        none = none_moved len (margin_of (drop end.len text)).comments (margin_comments (drop end.len text));
+      },
+    )
 
 -- Readings
 
@@ -218,9 +200,8 @@ tabbed_reading history text more [] later ends some reads reach settled has = ab
 tabbed_reading history text more (piece ∷ []) later ends some reads reach settled has =
     last_tabbed history text more piece later ends reads.0 (omega (arith, reach, sum_by-cons (λ (piece : Piece). piece.len) piece [])) settled has
 tabbed_reading history text more (piece ∷ next ∷ pieces) later ends some reads reach settled has =
-    let total = sum_by-cons (λ (piece : Piece). piece.len) piece (next ∷ pieces) in
     let less = inside history text piece next reads.0 reads.1.0 in
-    let rest = tabbed_reading (after history piece) (drop piece.len text) more (next ∷ pieces) (started history piece (piece_fits language history text piece reads.0).sort) (ends_line_drop piece.len text less ends) (no_cons next pieces) reads.1 (omega (arith, reach, total, length-drop piece.len text)) settled has in
+    let rest = tabbed_reading (after history piece) (drop piece.len text) more (next ∷ pieces) (started history piece (piece_fits language history text piece reads.0).sort) (ends_line_drop piece.len text less ends) (no_cons next pieces) reads.1 (omega (arith, reach, sum_by-cons (λ (piece : Piece). piece.len) piece (next ∷ pieces), length-drop piece.len text)) settled has in
     let left : drop piece.len (text ++ more) ≡ drop piece.len text ++ more = drop-append-le piece.len text more (omega (arith, less)) in
     let gone : drop (pieces_len (piece ∷ rest.front)) (text ++ more) ≡ drop (pieces_len rest.front) (drop piece.len text ++ more) =
     ap (λ n. drop n (text ++ more)) (sum_by-cons (λ (piece : Piece). piece.len) piece rest.front) ∙ drop-sum piece.len (pieces_len rest.front) (text ++ more) ∙ ap (drop (pieces_len rest.front)) left in
@@ -228,7 +209,7 @@ tabbed_reading history text more (piece ∷ next ∷ pieces) later ends some rea
       front = piece ∷ rest.front;
       last = rest.last;
       split = ap (λ ps. piece ∷ ps) rest.split;
-      reads = (next_stays history text more piece ends less reads.0, subst (λ (t : Text). IsReading language (after history piece) t rest.front) (sym left) rest.reads);
+      reads = reads_on history text more piece rest.front ends less reads.0 rest.reads;
       fails = ap (next_step language (after_all (after history piece) rest.front)) gone ∙ rest.fails;
       some = rest.some;
       line = rest.line;

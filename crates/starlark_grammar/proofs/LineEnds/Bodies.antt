@@ -23,7 +23,7 @@ use Rattle.starlark_grammar.specs.LineEnds.{holds_escaped_newline}
 use Rattle.starlark_grammar.proofs.Lists.{drop-sum, drop-remainder}
 use Rattle.starlark_grammar.proofs.WordNewlines.{in_line}
 use Rattle.starlark_grammar.proofs.Literals.Bodies.{FoundFits, found_fits}
-use Rattle.starlark_grammar.proofs.Order.Edges.{starts_split, digits_run, hex_plain, octal_plain}
+use Rattle.starlark_grammar.proofs.Order.Edges.{digits_run, four_bytes, hex_plain, octal_plain, starts_split, three_bytes, two_bytes}
 use Rattle.starlark_grammar.proofs.Words.Bytes.{is_plain}
 use Rattle.starlark_grammar.proofs.Joining.FollowedBodies.{both, both_equal, is_closed, closing_in_line}
 use Rattle.starlark_grammar.proofs.LineEnds.Texts.{crlf, no_return, crlf_front, starts_crlf, run_crlf}
@@ -56,22 +56,13 @@ encode_apart : (c : ℕ) (rest : Text) → c < 1114112 → apart 0 rest ≡ true
 unfolding encode
 encode_apart c rest small more = go (cases_lt c 128) (cases_lt c 2048) (cases_lt c 65536)
   where
-    two : (a : ℕ) → 192 ≤ a → a < 224 → continuation_len a ≡ 1
-    two a h k = rw (le-ltb a 128 (omega (arith, h)), lt-ltb a 224 k) refl
-
-    three : (a : ℕ) → 224 ≤ a → a < 240 → continuation_len a ≡ 2
-    three a h k = rw (le-ltb a 128 (omega (arith, h)), le-ltb a 224 h, lt-ltb a 240 k) refl
-
-    four : (a : ℕ) → 240 ≤ a → continuation_len a ≡ 3
-    four a h = rw (le-ltb a 128 (omega (arith, h)), le-ltb a 224 (omega (arith, h)), le-ltb a 240 h) refl
-
     go : (c < 128) ⊎ (128 ≤ c) → (c < 2048) ⊎ (2048 ≤ c) → (c < 65536) ⊎ (65536 ≤ c) → apart 0 (encode c ++ rest) ≡ true
     go (inl h) k m = rw (lt-ltb c 128 h) (apart_lead 0 c rest (low_byte c h) more)
-    go (inr h) (inl k) m = rw (le-ltb c 128 h, lt-ltb c 2048 k) (apart_lead 1 (192 + c / 64) ((128 + c % 64) ∷ rest) (two (192 + c / 64) (omega arith) (omega (arith, k))) (following 0 c rest more))
+    go (inr h) (inl k) m = rw (le-ltb c 128 h, lt-ltb c 2048 k) (apart_lead 1 (192 + c / 64) ((128 + c % 64) ∷ rest) (two_bytes (192 + c / 64) (omega arith) (omega (arith, k))) (following 0 c rest more))
     go (inr h) (inr k) (inl m) = rw (le-ltb c 128 h, le-ltb c 2048 k, lt-ltb c 65536 m)
-        (apart_lead 2 (224 + c / 4096) ((128 + c / 64 % 64) ∷ (128 + c % 64) ∷ rest) (three (224 + c / 4096) (omega arith) (omega (arith, m))) (following 1 (c / 64) ((128 + c % 64) ∷ rest) (following 0 c rest more)))
+        (apart_lead 2 (224 + c / 4096) ((128 + c / 64 % 64) ∷ (128 + c % 64) ∷ rest) (three_bytes (224 + c / 4096) (omega arith) (omega (arith, m))) (following 1 (c / 64) ((128 + c % 64) ∷ rest) (following 0 c rest more)))
     go (inr h) (inr k) (inr m) = rw (le-ltb c 128 h, le-ltb c 2048 k, le-ltb c 65536 m)
-        (apart_lead 3 (240 + c / 262144) ((128 + c / 4096 % 64) ∷ (128 + c / 64 % 64) ∷ (128 + c % 64) ∷ rest) (four (240 + c / 262144) (omega arith))
+        (apart_lead 3 (240 + c / 262144) ((128 + c / 4096 % 64) ∷ (128 + c / 64 % 64) ∷ (128 + c % 64) ∷ rest) (four_bytes (240 + c / 262144) (omega arith))
         (following 2 (c / 4096) ((128 + c / 64 % 64) ∷ (128 + c % 64) ∷ rest) (following 1 (c / 64) ((128 + c % 64) ∷ rest) (following 0 c rest more))))
 
 -- a text of characters

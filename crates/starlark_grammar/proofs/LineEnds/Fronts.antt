@@ -13,8 +13,9 @@ use Rattle.starlark_grammar.specs.declared.class.Class.{Class}
 use Rattle.starlark_grammar.specs.declared.class.Class.TheVariants.{Skipped, Comment, Tabs, LineEnd, Identifier, Decimal, Hexadecimal, Octal, Binary, Float}
 use Rattle.starlark_grammar.specs.Front.{longer, longest_front}
 use Rattle.starlark_grammar.specs.Margins.{is_lf}
+use Rattle.starlark_grammar.proofs.Words.EachByte.{binary_named, hexadecimal_named, octal_named}
 use Rattle.starlark_grammar.proofs.Words.Tables.{class_in-language}
-use Rattle.starlark_grammar.proofs.WordNewlines.{in_line, same_in_line, run_in_line, comment_in_line, identifier_in_line, digit_in_line, based_in_line, hexadecimal_in_line, octal_in_line, binary_in_line, float_in_line, pointed_in_line}
+use Rattle.starlark_grammar.proofs.WordNewlines.{in_line, same_in_line, run_in_line, comment_in_line, identifier_in_line, digits_in_line, based_in_line, float_in_line, pointed_in_line}
 use Rattle.starlark_grammar.proofs.LineEnds.Texts.{crlf, no_return, crlf_line, stripped, stripped_plain, stripped_crlf}
 
 -- Words that aren't in a line: line ends, and those that are escaped
@@ -54,10 +55,10 @@ patterns_line word out =
     (row_line word (is_comment word) Comment _ out (comment_in_line word)
     (row_line word (is_run (nat_eq 9) word) Tabs _ out (run_in_line (nat_eq 9) word (λ b h. same_in_line 9 b refl h))
     (row_line word (is_identifier word) Identifier _ out (identifier_in_line word)
-    (row_line word (is_run is_ascii_digit word) Decimal _ out (run_in_line is_ascii_digit word digit_in_line)
-    (row_line word (is_based 120 88 is_ascii_hexdigit word) Hexadecimal _ out (based_in_line 120 88 is_ascii_hexdigit word refl refl hexadecimal_in_line)
-    (row_line word (is_based 111 79 is_octal_digit word) Octal _ out (based_in_line 111 79 is_octal_digit word refl refl octal_in_line)
-    (row_line word (is_based 98 66 is_binary_digit word) Binary _ out (based_in_line 98 66 is_binary_digit word refl refl binary_in_line)
+    (row_line word (is_run is_ascii_digit word) Decimal _ out (digits_in_line word)
+    (row_line word (is_based 120 88 is_ascii_hexdigit word) Hexadecimal _ out (based_in_line 120 88 is_ascii_hexdigit word refl refl hexadecimal_named)
+    (row_line word (is_based 111 79 is_octal_digit word) Octal _ out (based_in_line 111 79 is_octal_digit word refl refl octal_named)
+    (row_line word (is_based 98 66 is_binary_digit word) Binary _ out (based_in_line 98 66 is_binary_digit word refl refl binary_named)
     (row_line word (is_float word) Float _ out (float_in_line word)
     (row_line word (is_pointed word) Float _ out (pointed_in_line word) refl)))))))))
 

@@ -10,6 +10,7 @@ use Rattle.starlark_grammar.specs.Words.{Text}
 use Rattle.starlark_grammar.specs.Tokens.{Token, Newline, Comment, Indent, Dedent, Lexeme, InvalidTab, Indentation, moved}
 use Rattle.starlark_grammar.specs.Margins.{is_blank, is_lf, blanks_len, lines, begins_comment, is_comment_only, without_return, comment_part, comment_of, comments_from, comment_lines, Margin, margin_from, margin_of, margin_len, is_content, has_tab, width_of, is_widest, fits, indentation}
 use Rattle.starlark_grammar.specs.Pieces.{Layout, Piece, Stands, Fails, margin_step}
+use Rattle.starlark_grammar.proofs.MarginComments.{margin_holds}
 use Rattle.starlark_grammar.proofs.Lists.{drop-sum}
 use Rattle.starlark_grammar.proofs.LineEnds.Texts.{crlf, no_return, crlf_both}
 use Rattle.starlark_grammar.proofs.LineEnds.Bodies.{form_other}
@@ -338,13 +339,8 @@ neutral_both : (one other : List Lexeme) → neutral one ≡ true → neutral ot
 neutral_both [] other h k = k
 neutral_both (lexeme ∷ one) other h k = let parts = and_parts (is_neutral lexeme.node) (neutral one) h in rw (parts.0) (neutral_both one other parts.1 k)
 
-neutral_comments : (at : ℕ) (ls : List Text) → neutral (comments_from at ls) ≡ true
-neutral_comments at [] = refl
-neutral_comments at (line ∷ ls) = neutral_comments (at + length line) ls
-
 neutral_margin : (text : Text) → neutral (margin_of text).comments ≡ true
-unfolding margin_of
-neutral_margin text = neutral_comments 0 (comment_lines text)
+neutral_margin = margin_holds (λ ls. neutral ls ≡ true) refl (λ at line rest h. h)
 
 -- a margin that stands, in the form
 pub record MarginStands (len : ℕ) (before : List Lexeme) (levels : List ℕ) (text : Text) (at : ℕ) (piece : Piece) : Type 0 where

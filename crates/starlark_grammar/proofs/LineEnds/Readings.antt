@@ -66,18 +66,7 @@ opens_raw_of : (class : Class) (len : ℕ) → is_raw_class class ≡ true → o
 opens_raw_of (word.Opener OfText is_raw quote) len h = h
 opens_raw_of (word.Opener OfBytes is_raw quote) len h = h
 opens_raw_of (word.Opener OfFString is_raw quote) len h = cc
-opens_raw_of word.Skipped len h = cc
-opens_raw_of word.Comment len h = cc
-opens_raw_of word.Tabs len h = cc
-opens_raw_of word.LineEnd len h = cc
-opens_raw_of word.Reserved len h = cc
-opens_raw_of word.Identifier len h = cc
-opens_raw_of word.Decimal len h = cc
-opens_raw_of word.Hexadecimal len h = cc
-opens_raw_of word.Octal len h = cc
-opens_raw_of word.Binary len h = cc
-opens_raw_of word.Float len h = cc
-opens_raw_of (word.Fixed terminal) len h = cc
+opens_raw_of class len h = cc
 
 front_stands : (s : Situation) (text : Text) (found : Option (Class × ℕ)) (piece : Piece) → no_return text ≡ true → IsUtf8 text → longest_front (class_in language) text ≡ found → (opens_raw found ≡ true → holds_escaped_newline (take piece.len text) ≡ false)
     → front_step s text found ≡ Stands piece → StandsCrlf s.mode text (crlf text) (front_step s (crlf text) (longest_front (class_in language) (crlf text))) piece

@@ -19,6 +19,7 @@ use Rattle.starlark_grammar.specs.Tokens.{Opening, Lexeme, moved}
 use Rattle.starlark_grammar.specs.Items.{Literal, Item, Stop, Closing, Line, Ended, OpeningBrace, ClosingBrace, BadEscape, Found, Goes, Stops, closing_quotes, quote_byte, broken, numbered, is_character, hexadecimal, octal, escaped_newline, simple, simple_escapes, escape, raw_pair, brace, found_at, Body, body_len, body_onward, body_from, body_at, is_brace, is_of_bytes}
 use Rattle.starlark_grammar.specs.FrontCharacter.{first_character}
 use Rattle.starlark_grammar.specs.Laws.{AtBoundaries}
+use Rattle.starlark_grammar.proofs.ClosingQuotes.{quotes_hold}
 use Rattle.starlark_grammar.proofs.Lists.{drop-sum, drop-remainder}
 use Rattle.starlark_grammar.proofs.Literals.Bodies.{FoundFits, found_fits}
 use Rattle.starlark_grammar.proofs.Words.Bytes.{is_plain}
@@ -69,6 +70,16 @@ starts_split text needle h =
 lead : (a : ℕ) (bs rest : Text) → continuation_len a ≡ length bs → first_character (a ∷ (bs ++ rest)) ≡ a ∷ bs
 lead a bs rest e = ap (λ n. a ∷ take n (bs ++ rest)) e ∙ ap (λ (t : Text). a ∷ t) (take-append_seam bs rest)
 
+-- How many bytes follow a first byte of two, three or four bytes.
+pub two_bytes : (a : ℕ) → 192 ≤ a → a < 224 → continuation_len a ≡ 1
+two_bytes a h k = rw (le-ltb a 128 (omega (arith, h)), lt-ltb a 224 k) refl
+
+pub three_bytes : (a : ℕ) → 224 ≤ a → a < 240 → continuation_len a ≡ 2
+three_bytes a h k = rw (le-ltb a 128 (omega (arith, h)), le-ltb a 224 h, lt-ltb a 240 k) refl
+
+pub four_bytes : (a : ℕ) → 240 ≤ a → continuation_len a ≡ 3
+four_bytes a h = rw (le-ltb a 128 (omega (arith, h)), le-ltb a 224 (omega (arith, h)), le-ltb a 240 h) refl
+
 pub encoded : (c : ℕ) (rest : Text) → c < 1114112 → first_character (encode c ++ rest) ≡ encode c
 unfolding encode
 encoded c rest small = go (cases_lt c 128) (cases_lt c 2048) (cases_lt c 65536)
@@ -76,20 +87,11 @@ encoded c rest small = go (cases_lt c 128) (cases_lt c 2048) (cases_lt c 65536)
     one : c < 128 → continuation_len c ≡ 0
     one h = rw (lt-ltb c 128 h) refl
 
-    two : (a : ℕ) → 192 ≤ a → a < 224 → continuation_len a ≡ 1
-    two a h k = rw (le-ltb a 128 (omega (arith, h)), lt-ltb a 224 k) refl
-
-    three : (a : ℕ) → 224 ≤ a → a < 240 → continuation_len a ≡ 2
-    three a h k = rw (le-ltb a 128 (omega (arith, h)), le-ltb a 224 h, lt-ltb a 240 k) refl
-
-    four : (a : ℕ) → 240 ≤ a → continuation_len a ≡ 3
-    four a h = rw (le-ltb a 128 (omega (arith, h)), le-ltb a 224 (omega (arith, h)), le-ltb a 240 h) refl
-
     go : (c < 128) ⊎ (128 ≤ c) → (c < 2048) ⊎ (2048 ≤ c) → (c < 65536) ⊎ (65536 ≤ c) → first_character (encode c ++ rest) ≡ encode c
     go (inl h) k m = rw (lt-ltb c 128 h) (lead c [] rest (one h))
-    go (inr h) (inl k) m = rw (le-ltb c 128 h, lt-ltb c 2048 k) (lead (192 + c / 64) _ rest (two (192 + c / 64) (omega arith) (omega (arith, k))))
-    go (inr h) (inr k) (inl m) = rw (le-ltb c 128 h, le-ltb c 2048 k, lt-ltb c 65536 m) (lead (224 + c / 4096) _ rest (three (224 + c / 4096) (omega arith) (omega (arith, m))))
-    go (inr h) (inr k) (inr m) = rw (le-ltb c 128 h, le-ltb c 2048 k, le-ltb c 65536 m) (lead (240 + c / 262144) _ rest (four (240 + c / 262144) (omega arith)))
+    go (inr h) (inl k) m = rw (le-ltb c 128 h, lt-ltb c 2048 k) (lead (192 + c / 64) _ rest (two_bytes (192 + c / 64) (omega arith) (omega (arith, k))))
+    go (inr h) (inr k) (inl m) = rw (le-ltb c 128 h, le-ltb c 2048 k, lt-ltb c 65536 m) (lead (224 + c / 4096) _ rest (three_bytes (224 + c / 4096) (omega arith) (omega (arith, m))))
+    go (inr h) (inr k) (inr m) = rw (le-ltb c 128 h, le-ltb c 2048 k, le-ltb c 65536 m) (lead (240 + c / 262144) _ rest (four_bytes (240 + c / 262144) (omega arith)))
 
 -- after the first character
 pub character_edge : (text : Text) → IsUtf8 text → IsCharBoundary text (length (first_character text))
@@ -287,13 +289,7 @@ unfolding body_at
 stop_at literal text = body_stop literal 0 text
 
 pub quotes_plain : (opening : Opening) → is_plain (closing_quotes opening) ≡ true
-quotes_plain opening = go opening.is_triple opening.quote
-  where
-    go : (triple : Bool) (quote : Quote) → is_plain (closing_quotes (record { is_raw = opening.is_raw; quote = quote; is_triple = triple })) ≡ true
-    go true SingleQuote = refl
-    go true DoubleQuote = refl
-    go false SingleQuote = refl
-    go false DoubleQuote = refl
+quotes_plain = quotes_hold is_ascii refl refl
 
 -- before closing quotes, and after them
 pub closing_edges : (opening : Opening) (text : Text) (at : ℕ) → IsUtf8 text → drop at text ≡ closing_quotes opening ++ drop (length (closing_quotes opening)) (drop at text) → IsCharBoundary text at × IsCharBoundary text (at + length (closing_quotes opening))

@@ -12,6 +12,7 @@ use Rattle.starlark_grammar.specs.Items.{Stop, Closing, Line, Ended, OpeningBrac
 use Rattle.starlark_grammar.specs.Depths.{Mode, Outside, InText, AtTop, Deeper}
 use Rattle.starlark_grammar.specs.Margins.{lines, is_lf, is_comment_only, comment_lines, blanks_len, margin_from, Margin, margin_of, margin_len, is_content, has_tab, width_of, fits}
 use Rattle.starlark_grammar.specs.Pieces.{Before, Nothing, Layout, Gap, Other, Piece, Step, Stands, Fails, Ends, Situation, piece, token, fault, margin_step, opening_of, more_quotes, escape_fault, literal_by, literal, opener, chunk_by, chunk, counts, starts_zero, word_step, front_step, takes_bang, is_bang, in_code, by_mode, by_before, step_at}
+use Rattle.starlark_grammar.proofs.ClosingQuotes.{some_quotes}
 use Rattle.starlark_grammar.proofs.Lists.{take_fits}
 use Rattle.starlark_grammar.proofs.Words.Fronts.{front_sound}
 use Rattle.starlark_grammar.proofs.Literals.Bodies.{StopFits, body_fits, starts_fits, character_fits}
@@ -127,13 +128,6 @@ opener_fits mode OfText opening len remainder text some inside quotes = literal_
 opener_fits mode OfBytes opening len remainder text some inside quotes = literal_fits mode OfBytes opening (len + more_quotes opening) (drop (more_quotes opening) remainder) text (omega arith) (omega (arith, length-drop (more_quotes opening) remainder))
 
 -- Texts of f-strings
-
-some_quotes : (opening : Opening) → 1 ≤ length (closing_quotes opening)
-some_quotes opening = go opening.is_triple
-  where
-    go : (triple : Bool) → 1 ≤ length (closing_quotes (record { is_raw = opening.is_raw; quote = opening.quote; is_triple = triple }))
-    go true = omega arith
-    go false = omega arith
 
 chunk_by_fits : (opening : Opening) (text : Text) (body : Body) (stop : Stop) → body_len body ≤ length text → StopFits opening (drop (body_len body) text) stop → StepFits 1 text (chunk_by opening text body stop)
 chunk_by_fits opening text body OpeningBrace fits stop = record { some = omega arith; inside = omega (arith, length-drop (body_len body) text); sort = refl }

@@ -5,25 +5,24 @@ use Rattle.std.specs.List.{list_all, onto_first}
 use Rattle.std.specs.Str.{byte}
 use Rattle.std.proofs.lemmas.Bool.{and_parts, both_ways}
 use Rattle.std.proofs.lemmas.Bool.Decides.{nat_tests}
-use Rattle.std.proofs.lemmas.List.{drop-append-le, take-append-le, length-drop, length-take}
+use Rattle.std.proofs.lemmas.List.{length-drop}
 use Rattle.std.proofs.lemmas.List.Folds.{list_all-append}
 use Rattle.std.proofs.lemmas.List.Sums.{sum_by-cons}
 use Rattle.starlark_grammar.specs.declared.class.Class.TheVariants as word
-use Rattle.starlark_grammar.specs.Words.{Text, class_in, language}
-use Rattle.starlark_grammar.specs.Front.{longest_front}
+use Rattle.starlark_grammar.specs.Words.{Text, language}
 use Rattle.starlark_grammar.specs.Tokens.{Token, Newline, Dedent, Lexeme, moved}
 use Rattle.starlark_grammar.specs.Depths.{open_fstring, is_balanced, is_any_opening, is_any_closing}
 use Rattle.starlark_grammar.specs.Margins.{margin_of, margin_from, is_blank, is_lf, is_content, is_comment_only, blanks_len, lines, fits, indentation, open_widths}
-use Rattle.starlark_grammar.specs.Pieces.{Before, Nothing, Layout, Gap, Other, Piece, Stands, Situation, margin_step, line_end, by_before, step_at}
+use Rattle.starlark_grammar.specs.Pieces.{Before, Nothing, Layout, Gap, Other, Piece, Stands, Situation, margin_step, by_before, step_at}
 use Rattle.starlark_grammar.specs.Reading.{History, tokens_onto, after, after_all, situation, next_step, pieces_len, lexemes_along}
 use Rattle.starlark_grammar.specs.Longest.{IsReading}
 use Rattle.starlark_grammar.specs.Cuts.{is_layout}
-use Rattle.starlark_grammar.proofs.Words.Fronts.{longest_front_is}
+use Rattle.starlark_grammar.proofs.Indentation.Widths.{positive}
 use Rattle.starlark_grammar.proofs.Reading.Readings.{started, piece_fits}
 use Rattle.starlark_grammar.proofs.Reading.Steps.{is_nothing}
-use Rattle.starlark_grammar.proofs.Joining.Followed.{ends_line, ends_line_drop, longest_followed}
+use Rattle.starlark_grammar.proofs.Joining.Followed.{ends_line, ends_line_drop}
 use Rattle.starlark_grammar.proofs.Joining.FollowedMargins.{whole_after, Followed, Whole, Within, margin_after, followed, has_whole_lines}
-use Rattle.starlark_grammar.proofs.Joining.Joined.{whole_from_ends, map_both, CountedEnd, counted_end, counted_step, margin_step_len, blank_step, next_stays, inside}
+use Rattle.starlark_grammar.proofs.Joining.Joined.{whole_from_ends, map_both, last_line_end, margin_step_len, blank_step, inside, reads_on}
 use Rattle.starlark_grammar.specs.Joining.{begins_plainly}
 
 -- The first margin of a text that begins plainly
@@ -131,20 +130,11 @@ closed_step s text more piece ends fresh positive laid reach stands begins = go 
     Claim before = (by_before language s before (text ++ more) ≡ Stands (closing_piece (length s.levels) piece)) × (piece.width ≡ None)
 
     later : is_nothing s.before ≡ false → Claim s.before
-    later started = counted (counted_end s text piece laid started stands) text refl
-      where
-        counted : CountedEnd s text piece → (t : Text) → text ≡ t → Claim s.before
-        counted end [] same = absurd (both_ways _ (subst (λ (t : Text). ends_line t ≡ false) (sym same) refl) ends)
-        counted end (b ∷ bs) same =
-            let n = end.len in
-            let inside = (longest_front_is (class_in language) text word.LineEnd n end.front).inside in
-            let front : longest_front (class_in language) ((b ∷ bs) ++ more) ≡ Some (word.LineEnd, n) = subst (λ (t : Text). longest_front (class_in language) (t ++ more) ≡ Some (word.LineEnd, n)) same (longest_followed text more ends ∙ end.front) in
-            let step = subst (λ (t : Text). step_at language s (t ++ more) ≡ line_end (length (take n (t ++ more))) s.levels (drop n (t ++ more))) (sym same) (counted_step s b (bs ++ more) n started end.counted front) in
-            let taken : take n (text ++ more) ≡ take n text = take-append-le n text more inside in
-            let left : drop n (text ++ more) ≡ drop n text ++ more = drop-append-le n text more inside in
-            let total : length (take n text) + length (drop n text) ≡ length text = omega (arith, length-take n text, length-drop n text, inside) in
-            let found = closed_margin (length (take n text)) (record { begin = 0; node = Newline; end = length (take n text) } ∷ []) s.levels (drop n text) more piece (whole_after n text (whole_from_ends text ends)) end.stands (omega (arith, reach, total)) begins positive in
-            (step ∙ rw (taken, left) found.0, found.1)
+    later started =
+        let end = last_line_end s text more piece ends laid started stands in
+        let len : ℕ = length (take end.len text) in
+        let found = closed_margin len (record { begin = 0; node = Newline; end = len } ∷ []) s.levels (drop end.len text) more piece (whole_after end.len text (whole_from_ends text ends)) end.stands (omega (arith, reach, end.total)) begins positive in
+        (end.step ∙ found.0, found.1)
 
     first : s.levels ≡ [] → by_before language s Nothing text ≡ Stands piece → Claim Nothing
     first none e =
@@ -158,16 +148,6 @@ closed_step s text more piece ends fresh positive laid reach stands begins = go 
     go Other same e = subst Claim same (later (ap is_nothing same))
 
 -- Open widths
-
-positive_widths : (widths : List ℕ) → list_all (nat_lt 0) (open_widths widths) ≡ true
-unfolding open_widths
-positive_widths [] = refl
-positive_widths (w ∷ widths) = go (nat_lt 0 w) (list_all (nat_lt w) widths) refl (positive_widths widths)
-  where
-    go : (more least : Bool) → nat_lt 0 w ≡ more → list_all (nat_lt 0) (open_widths widths) ≡ true → list_all (nat_lt 0) (if more && least then w ∷ open_widths widths else open_widths widths) ≡ true
-    go true true e rest = rw e rest
-    go true false e rest = rest
-    go false least e rest = rest
 
 -- after content of width 0 none is open
 pub none_wider : (widths : List ℕ) → open_widths (widths ++ 0 ∷ []) ≡ []
@@ -247,7 +227,7 @@ close_last : (history : History) (text more : Text) (piece : Piece) → ends_lin
     → Closed history text more (piece ∷ [])
 unfolding next_step situation after
 close_last history text more piece ends stands reach laid fresh begins =
-    let found = closed_step (situation history) text more piece ends fresh (positive_widths history.widths) laid reach stands begins in
+    let found = closed_step (situation history) text more piece ends fresh (positive history.widths) laid reach stands begins in
     let widths : history.widths ≡ history.widths ++ option_to_list piece.width = sym (ap (λ w. history.widths ++ option_to_list w) found.1 ∙ append-nil history.widths) in
     let count = length (open_widths history.widths) in
     let last = closing_piece count piece in
@@ -282,11 +262,10 @@ close_reading history text more (piece ∷ next ∷ pieces) ends some reads reac
     let less = inside history text piece next reads.0 reads.1.0 in
     let begun = started history piece (piece_fits language history text piece reads.0).sort in
     let rest = close_reading (after history piece) (drop piece.len text) more (next ∷ pieces) (ends_line_drop piece.len text less ends) (no_cons next pieces) reads.1 (omega (arith, reach, total, length-drop piece.len text)) laid (λ e. absurd (both_ways _ begun e)) begins in
-    let left : drop piece.len (text ++ more) ≡ drop piece.len text ++ more = drop-append-le piece.len text more (omega (arith, less)) in
     record {
       pieces' = piece ∷ rest.pieces';
       some = no_cons piece rest.pieces';
-      reads = (next_stays history text more piece ends less reads.0, subst (λ (t : Text). IsReading language (after history piece) t rest.pieces') (sym left) rest.reads);
+      reads = reads_on history text more piece rest.pieces' ends less reads.0 rest.reads;
       len = omega (arith, rest.len, less, length-drop piece.len text, sum_by-cons (λ (piece : Piece). piece.len) piece rest.pieces');
       past = rest.past;
       lexemes = λ at. ap (λ ls. map (moved at) piece.lexemes ++ ls) (rest.lexemes (at + piece.len) ∙ ap (λ n. lexemes_along (at + piece.len) (next ∷ pieces) ++ dedents (open_count (after_all history (piece ∷ next ∷ pieces))) n) (along at piece.len less))

@@ -11,7 +11,6 @@ use Rattle.starlark_grammar.specs.Tokens.{Fault, Lexeme, Newline, Outcome, Spann
 use Rattle.starlark_grammar.specs.Cuts.{is_faultless}
 use Rattle.starlark_grammar.specs.Pieces.{Ends, Fails, Stands, Step}
 use Rattle.starlark_grammar.specs.Reading.{after_all, closing, lexemes_along, nothing, outcome, outcome_of, pieces_len, read}
-use Rattle.starlark_grammar.proofs.Lists.{drop-remainder}
 use Rattle.starlark_grammar.proofs.Reading.Readings.{read_is}
 use Rattle.starlark_grammar.proofs.Rows.Shapes.{all_definitions}
 use Rattle.starlark_grammar.proofs.Joining.Joined.{map_both, moved_both}
@@ -22,7 +21,7 @@ use Rattle.starlark_grammar.specs.Joining.{ClosedAfterFaults, ClosedFaultless, C
 use Rattle.starlark_grammar.specs.Recovery.{Recovered, faults_of, lexemes_of, moved_outcome, outcomes, recovered, restart}
 use Rattle.starlark_grammar.proofs.Recovery.LineCuts.{has_newline_later, has_newline_moved, left_out_later, left_out_moved, line_cuts_join, line_cuts_of_joined, plain_some}
 use Rattle.starlark_grammar.proofs.Recovery.Order.{faults_moved, lexemes_moved}
-use Rattle.starlark_grammar.proofs.Recovery.TextOutcomes.{empty_faultless, faultless_recovers, lexes_on, restart_bounds, restart_later}
+use Rattle.starlark_grammar.proofs.Recovery.TextOutcomes.{empty_faultless, faultless_recovers, lexes_on, restart_bounds, rest_is}
 use Rattle.starlark_grammar.proofs.Recovery.DecidedFaults.{decided, decided_faults_stay}
 use Rattle.starlark_grammar.proofs.Recovery.MovedRestarts.{not_zero, plain_tab, restart_moved}
 
@@ -31,33 +30,21 @@ use Rattle.starlark_grammar.proofs.Recovery.MovedRestarts.{not_zero, plain_tab, 
 -- with some bytes passed over, what is left is looked at
 closed_passed : (passed : ℕ) (text : Text) → is_closed_from passed text ≡ is_closed (drop passed text)
 unfolding is_closed is_closed_from
-closed_passed zero [] = refl
-closed_passed (suc passed) [] = refl
-closed_passed zero (b ∷ bs) = refl
 closed_passed (suc passed) (b ∷ bs) = closed_passed passed bs
-
-by_some : (text : Text) (has : Option (Spanned Fault)) (rest : ℕ → Bool) (fault : Spanned Fault) → has ≡ Some fault → is_closed_by text has rest ≡ (is_decided text fault && rest (restart text fault))
-by_some text None rest fault some = cc
-by_some text (Some other) rest fault some =
-    let same : other ≡ fault = cc in ap (λ f. is_decided text f && rest (restart text f)) same
-
-by_none : (text : Text) (has : Option (Spanned Fault)) (rest : ℕ → Bool) → has ≡ None → is_closed_by text has rest ≡ is_line_cut text
-by_none text None rest none = refl
-by_none text (Some fault) rest none = cc
+closed_passed passed text = refl
 
 pub closed_after_faults : ClosedAfterFaults
 unfolding is_closed is_closed_from
 closed_after_faults [] fault has = let none = empty_faultless in cc
 closed_after_faults (b ∷ bs) fault has =
-    let later = restart_later (b ∷ bs) fault (omega arith) in
-    by_some (b ∷ bs) (outcome (b ∷ bs)).fault (λ at. is_closed_from (at - 1) bs) fault has
-    ∙ ap (λ closed. is_decided (b ∷ bs) fault && closed) (closed_passed (restart (b ∷ bs) fault - 1) bs ∙ ap is_closed (sym (drop-remainder (restart (b ∷ bs) fault) b bs later)))
+    ap (λ has. is_closed_by (b ∷ bs) has (λ at. is_closed_from (at - 1) bs)) has
+    ∙ ap (λ closed. is_decided (b ∷ bs) fault && closed) (closed_passed (restart (b ∷ bs) fault - 1) bs ∙ ap is_closed (rest_is b bs fault))
 
 -- a text without fault is closed exactly where it is a cut between lines
 pub closed_faultless : (text : Text) → 0 < length text → (outcome text).fault ≡ None → is_closed text ≡ is_line_cut text
 unfolding is_closed is_closed_from
 closed_faultless [] some none = absurd (omega (arith, some))
-closed_faultless (b ∷ bs) some none = by_none (b ∷ bs) (outcome (b ∷ bs)).fault (λ at. is_closed_from (at - 1) bs) none
+closed_faultless (b ∷ bs) some none = ap (λ has. is_closed_by (b ∷ bs) has (λ at. is_closed_from (at - 1) bs)) none
 
 pub faultless_closed : ClosedFaultless
 unfolding is_closed is_closed_from
@@ -79,7 +66,7 @@ twice : {A : Type 0} (a b : ℕ) (xs : List (Spanned A)) → map (moved a) (map 
 twice a b [] = refl
 twice a b (x ∷ xs) = rw (moved_both a b (a + b) x refl, twice a b xs) refl
 
-unmoved : {A : Type 0} (xs : List (Spanned A)) → map (moved 0) xs ≡ xs
+pub unmoved : {A : Type 0} (xs : List (Spanned A)) → map (moved 0) xs ≡ xs
 unmoved [] = refl
 unmoved (x ∷ xs) =
     let begin : 0 + x.begin ≡ x.begin = omega arith in
@@ -134,10 +121,6 @@ found_on text fault has found =
     let rest : List Lexeme = (recovered (drop (restart text fault) text)).lexemes in
     ap (λ (r : Recovered). has_newline r.lexemes) (recovered_on text fault has)
     ∙ has_newline_later (outcome text).lexemes (map (moved (restart text fault)) rest) (has_newline_moved (restart text fault) rest ∙ found)
-
--- the rest after a fault, as the outcomes are computed
-rest_is : (b : ℕ) (bs : Text) (fault : Spanned Fault) → drop (restart (b ∷ bs) fault - 1) bs ≡ drop (restart (b ∷ bs) fault) (b ∷ bs)
-rest_is b bs fault = sym (drop-remainder (restart (b ∷ bs) fault) b bs (restart_later (b ∷ bs) fault (omega arith)))
 
 pub newline_found : (passed : ℕ) (text : Text) → NewlineFound (drop passed text)
 newline_found zero [] = found_alone [] empty_faultless

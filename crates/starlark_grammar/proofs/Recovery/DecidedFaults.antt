@@ -21,7 +21,7 @@ use Rattle.starlark_grammar.proofs.Joining.Tabs.{first_step, outcome_by}
 use Rattle.starlark_grammar.specs.Joining.{DecidedFaultsStay, is_decided}
 use Rattle.starlark_grammar.specs.Recovery.{is_margin_tab, is_tab, line_end_len, margin_line, next_line, restart, stopped_at}
 use Rattle.starlark_grammar.proofs.Recovery.FollowedFaults.{FaultStays, fault_stays, margin_within}
-use Rattle.starlark_grammar.proofs.Recovery.MarginTabs.{LineFails, TabAt, begins_with_tab, line_end_stands, line_is, tab_next, tab_no_line}
+use Rattle.starlark_grammar.proofs.Recovery.MarginTabs.{LineFails, TabAt, begins_with_tab, line_end_stands, line_is, no_line_end, tab_next, tab_no_line}
 
 -- The reading of a text up to its fault.
 pub record FaultRead (text : Text) (fault : Spanned Fault) : Type 0 where
@@ -173,24 +173,13 @@ tab_content text fault here less tab whole = go (begins_with_line_end (drop faul
     go : (line : Bool) → begins_with_line_end (drop fault.begin text) ≡ line → ⊥
     go false none =
         let zero_begin : fault.begin ≡ 0 = eqb-true fault.begin 0 (first_of (fault.begin == 0) (begins_with_line_end (drop fault.begin text)) none parts.1) in
-        let no_len : line_end_len (drop fault.begin text) ≡ 0 = none_len (drop fault.begin text) none in
+        let no_len : line_end_len (drop fault.begin text) ≡ 0 = no_line_end (drop fault.begin text) none in
         let start : fault.begin + line_end_len (drop fault.begin text) ≡ 0 = omega (arith, zero_begin, no_len) in
         some_content text fault here less (subst (λ n. IsRest (drop n text)) start whole)
       where
         first_of : (x y : Bool) → y ≡ false → (x || y) ≡ true → x ≡ true
         first_of true y e h = refl
         first_of false y e h = let wrong : true ≡ false = sym h ∙ e in cc
-
-        none_len : (t : Text) → begins_with_line_end t ≡ false → line_end_len t ≡ 0
-        none_len t h = by (starts_with nat_eq t (codes "\n")) (starts_with nat_eq t (codes "\r\n")) h
-          where
-            len : Bool → Bool → ℕ
-            len one two = if one then 1 else (if two then 2 else 0)
-
-            by : (one two : Bool) → (one || two) ≡ false → len one two ≡ 0
-            by true two h = cc
-            by false true h = cc
-            by false false h = refl
     go true line = by at.stands
       where
         by : (first_margin (drop (pieces_len here.pieces) text) ≡ Fails here.found) ⊎ ((begins_with_tab (drop (pieces_len here.pieces) text) ≡ true) ⊎ LineFails (drop (pieces_len here.pieces) text) here.found) → ⊥

@@ -18,6 +18,7 @@ use Rattle.starlark_grammar.specs.Gaps.{InOrder}
 use Rattle.starlark_grammar.specs.Pieces.{Before, Nothing, Layout, Gap, Other, Piece, Step, Stands, Fails, Situation, token, margin_step, first_margin, more_quotes, opening_of, escape_fault, literal_by, opener, chunk_text, chunk_piece, chunk_by, chunk, counts, starts_zero, word_step, front_step, takes_bang, is_bang, in_code, by_mode, by_before, step_at}
 use Rattle.starlark_grammar.specs.Reading.{History, nothing, after, situation, next_step, pieces_len, lexemes_along, before_fault}
 use Rattle.starlark_grammar.specs.Longest.{IsReading}
+use Rattle.starlark_grammar.proofs.Literals.LiteralSteps.{by_mode_holds}
 use Rattle.starlark_grammar.proofs.Choices.{either}
 use Rattle.starlark_grammar.proofs.Joining.Tabs.{first_step}
 use Rattle.starlark_grammar.proofs.Order.Gaps.{gap_none}
@@ -26,7 +27,7 @@ use Rattle.starlark_grammar.proofs.Order.OrderedLexemes.{margin_gap, margin_orde
 use Rattle.starlark_grammar.proofs.Reading.Steps.{Each, margin_fits}
 use Rattle.starlark_grammar.proofs.Recovery.DecidedFaults.{FaultRead, fault_read}
 use Rattle.starlark_grammar.proofs.Recovery.FollowedFaults.{FaultStays, fault_end, same_fault}
-use Rattle.starlark_grammar.proofs.Recovery.MarginTabs.{line_end_stands}
+use Rattle.starlark_grammar.proofs.Recovery.MarginTabs.{line_end_stands, no_line_end}
 use Rattle.starlark_grammar.proofs.Recovery.TextOutcomes.{restart_bounds}
 use Rattle.starlark_grammar.specs.Recovery.{is_margin_tab, is_tab, line_end_len, margin_line, next_line, restart, stopped_at}
 use Rattle.starlark_grammar.specs.RecoveryLaws.{LexemesBeforeFaults}
@@ -162,17 +163,14 @@ in_code_ends s [] = tt
 in_code_ends s (b ∷ bs) =
     either StepEnds (takes_bang s.mode s.before && is_bang (b ∷ bs)) _ _ (token_ends 1 FStringBang) (front_step_ends s (b ∷ bs) (longest_front (class_in language) (b ∷ bs)))
 
-by_place_ends : (s : Situation) (mode : Mode) (text : Text) → StepEnds (by_mode language s mode text)
-by_place_ends s Outside text = in_code_ends s text
-by_place_ends s (InText opening) text = chunk_ends opening text
-by_place_ends s AtTop text = in_code_ends s text
-by_place_ends s Deeper text = in_code_ends s text
+by_mode_ends : (s : Situation) (mode : Mode) (text : Text) → StepEnds (by_mode language s mode text)
+by_mode_ends s mode text = by_mode_holds StepEnds s mode text (in_code_ends s text) (λ opening. chunk_ends opening text)
 
 by_before_ends : (s : Situation) (before : Before) (text : Text) → StepEnds (by_before language s before text)
 by_before_ends s Nothing text = margin_step_ends 0 [] [] (margin_of text) tt (comments_end text)
-by_before_ends s Layout text = by_place_ends s s.mode text
-by_before_ends s Gap text = by_place_ends s s.mode text
-by_before_ends s Other text = by_place_ends s s.mode text
+by_before_ends s Layout text = by_mode_ends s s.mode text
+by_before_ends s Gap text = by_mode_ends s s.mode text
+by_before_ends s Other text = by_mode_ends s s.mode text
 
 -- Readings
 
@@ -196,17 +194,6 @@ along_ends at history text (piece ∷ pieces) reads =
 restart_past : (text : Text) (fault : Spanned Fault) (n : ℕ) → n ≤ length text → n ≤ stopped_at text fault → n ≤ restart text fault
 unfolding restart next_line
 restart_past text fault n inside less = omega (arith, inside, less)
-
-no_line_end : (text : Text) → begins_with_line_end text ≡ false → line_end_len text ≡ 0
-no_line_end text h = by (starts_with nat_eq text (codes "\n")) (starts_with nat_eq text (codes "\r\n")) h
-  where
-    len : Bool → Bool → ℕ
-    len one two = if one then 1 else (if two then 2 else 0)
-
-    by : (one two : Bool) → (one || two) ≡ false → len one two ≡ 0
-    by true two h = cc
-    by false true h = cc
-    by false false h = refl
 
 -- the fault of a tab at the start of a text stops the reading at the last line of the first margin
 stopped_margin : (text : Text) (fault : Spanned Fault) → fault.begin ≡ 0 → is_tab fault.node ≡ true → begins_with_line_end text ≡ false → (margin_of text).at ≤ stopped_at text fault

@@ -2,7 +2,7 @@
 use Rattle.std.proofs.Common.{◌≡◌, ℕ, ◌+◌, ◌≤◌, ◌<◌, Bool, true, false, List, [], ◌∷◌, ◌++◌, length, take, drop, refl, ap, ◌∙◌, sym, subst, Option, Some, None, arith}
 use Rattle.std.specs.Prelude.{◌&&◌, if◌then◌else◌}
 use Rattle.std.proofs.lemmas.Bool.{and_right, eqb-true}
-use Rattle.std.proofs.lemmas.List.{drop-append-le, length-drop, length-take, length-take-le, take-append-le}
+use Rattle.std.proofs.lemmas.List.{drop-append-le, length-drop, length-take, take-append-le}
 use Rattle.std.proofs.lemmas.List.Sums.{sum_by-cons}
 use Rattle.starlark_grammar.specs.declared.class.Class.TheVariants as word
 use Rattle.starlark_grammar.specs.Words.{Text, class_in, language}
@@ -11,21 +11,20 @@ use Rattle.starlark_grammar.specs.declared.class.Class.{Class}
 use Rattle.starlark_grammar.specs.declared.class.LiteralKind.TheVariants.{Text as OfText, Bytes as OfBytes, FString as OfFString}
 use Rattle.starlark_grammar.specs.FrontCharacter.{first_character}
 use Rattle.starlark_grammar.specs.Front.{longest_front}
-use Rattle.starlark_grammar.specs.Tokens.{Opening, FStringBang, InvalidInput, Lexeme, Spanned, Fault}
+use Rattle.starlark_grammar.specs.Tokens.{Opening, InvalidInput, Lexeme, Spanned, Fault}
 use Rattle.starlark_grammar.specs.Items.{Stop, Closing, Line, Ended, OpeningBrace, ClosingBrace, BadEscape, Body, body_at, body_len}
 use Rattle.starlark_grammar.specs.Depths.{Mode, Outside, InText, AtTop, Deeper}
 use Rattle.starlark_grammar.specs.Margins.{margin_of}
-use Rattle.starlark_grammar.specs.Pieces.{Before, Nothing, Layout, Gap, Other, Piece, Step, Stands, Fails, Situation, token, fault, margin_step, line_end, opening_of, more_quotes, is_plain, unfinished, escape_fault, literal_by, literal, opener, chunk_by, chunk, counts, word_step, front_step, takes_bang, is_bang, in_code, by_mode, by_before, step_at}
+use Rattle.starlark_grammar.specs.Pieces.{Before, Nothing, Layout, Gap, Other, Piece, Step, Stands, Fails, Situation, fault, margin_step, line_end, opening_of, more_quotes, is_plain, unfinished, escape_fault, literal_by, literal, opener, chunk_by, chunk, counts, word_step, front_step, takes_bang, is_bang, in_code, by_mode, by_before, step_at}
 use Rattle.starlark_grammar.specs.Reading.{History, after, after_all, situation, next_step, pieces_len}
 use Rattle.starlark_grammar.specs.Longest.{IsReading}
 use Rattle.starlark_grammar.proofs.Lists.{drop-sum}
 use Rattle.starlark_grammar.proofs.WordNewlines.{in_line, line_fits, language_lines}
 use Rattle.starlark_grammar.proofs.Literals.Bodies.{StopFits, body_fits}
-use Rattle.starlark_grammar.proofs.Words.Fronts.{front_sound}
 use Rattle.starlark_grammar.proofs.Joining.Followed.{ends_line, ends_line_drop, longest_followed}
 use Rattle.starlark_grammar.proofs.Joining.FollowedBodies.{character_followed}
 use Rattle.starlark_grammar.proofs.Joining.FollowedMargins.{Followed, Whole, Within, followed, has_whole_lines, whole_after}
-use Rattle.starlark_grammar.proofs.Joining.FollowedPieces.{bang_followed, opening_followed, opening_inside, word_inside}
+use Rattle.starlark_grammar.proofs.Joining.FollowedPieces.{FrontGoesOn, bang_stays, code_step, front_goes_on, opening_followed, opening_inside}
 use Rattle.starlark_grammar.proofs.Joining.Joined.{blank_step, next_stays, step_within, whole_from_ends}
 use Rattle.starlark_grammar.proofs.Recovery.FollowedStops.{StopInside, body_single, body_stays}
 
@@ -148,12 +147,8 @@ chunk_inside opening text body (BadEscape read last) found e less = omega (arith
 chunk_inside opening text body Ended found e less = absurd (omega (arith, less, fault_end _ found e))
 
 pub chunk_same : (opening : Opening) (text other : Text) (body : Body) (stop : Stop) (found : Spanned Fault) → chunk_by opening text body stop ≡ Fails found → found.end < length text → chunk_by opening other body stop ≡ Fails found
-chunk_same opening text other body OpeningBrace found e less = e
-chunk_same opening text other body Closing found e less = e
-chunk_same opening text other body ClosingBrace found e less = e
-chunk_same opening text other body Line found e less = e
-chunk_same opening text other body (BadEscape read last) found e less = e
 chunk_same opening text other body Ended found e less = absurd (omega (arith, less, fault_end _ found e))
+chunk_same opening text other body stop found e less = e
 
 chunk_fails : (opening : Opening) (text more : Text) (found : Spanned Fault) → ends_line text ≡ true → chunk opening text ≡ Fails found → found.end < length text → chunk opening (text ++ more) ≡ Fails found
 unfolding chunk
@@ -167,9 +162,6 @@ chunk_fails opening text more found h e less =
 
 word_fails : (s : Situation) (class : Class) (front remainder more : Text) (found : Spanned Fault) → (in_line front ≡ true → ends_line remainder ≡ true) → line_fits class front ≡ true → has_whole_lines remainder ≡ true → word_step s class front remainder ≡ Fails found → found.end < length front + length remainder
     → word_step s class front (remainder ++ more) ≡ Fails found
-word_fails s word.Skipped front remainder more found ends fits whole e less = e
-word_fails s word.Comment front remainder more found ends fits whole e less = e
-word_fails s word.Tabs front remainder more found ends fits whole e less = e
 word_fails s word.LineEnd front remainder more found ends fits whole e less = go (counts s.mode s.is_balanced) e
   where
     step : Bool → Text → Step
@@ -182,53 +174,26 @@ word_fails s (word.Opener kind is_raw quote) front remainder more found ends fit
     let h = ends fits in
     ap (λ (opening : Opening). opener s.mode kind opening (length front) (remainder ++ more)) (opening_followed is_raw quote remainder more h)
     ∙ opener_fails s.mode kind (opening_of is_raw quote remainder) (length front) remainder more found h (opening_inside is_raw quote remainder h) e less
-word_fails s word.Reserved front remainder more found ends fits whole e less = e
-word_fails s word.Identifier front remainder more found ends fits whole e less = e
-word_fails s word.Decimal front remainder more found ends fits whole e less = e
-word_fails s word.Hexadecimal front remainder more found ends fits whole e less = e
-word_fails s word.Octal front remainder more found ends fits whole e less = e
-word_fails s word.Binary front remainder more found ends fits whole e less = e
-word_fails s word.Float front remainder more found ends fits whole e less = e
-word_fails s (word.Fixed terminal) front remainder more found ends fits whole e less = e
+word_fails s class front remainder more found ends fits whole e less = e
 
 front_fails : (s : Situation) (text more : Text) (front : Option (Class × ℕ)) (found : Spanned Fault) → ends_line text ≡ true → longest_front (class_in language) text ≡ front → front_step s text front ≡ Fails found → found.end < length text → front_step s (text ++ more) front ≡ Fails found
 front_fails s text more None found h known e less =
     let end : length (first_character text) ≡ found.end = fault_end _ found e in
     ap (λ (t : Text). fault 0 (InvalidInput t) (length t)) (character_followed text more (omega (arith, less, end))) ∙ e
 front_fails s text more (Some front) found h known e less =
-    again ∙ word_fails s front.0 (take front.1 text) (drop front.1 text) more found ends (language_lines (take front.1 text) front.0 sound.2) (whole_after front.1 text (whole_from_ends text h)) e (omega (arith, less, len, length-drop front.1 text, sound.1))
+    goes.again ∙ word_fails s front.0 (take front.1 text) (drop front.1 text) more found goes.ends (language_lines (take front.1 text) front.0 goes.sound.2) (whole_after front.1 text (whole_from_ends text h)) e (omega (arith, less, goes.len, length-drop front.1 text, goes.sound.1))
   where
-    sound : (1 ≤ front.1) × (front.1 ≤ length text) × (class_in language (take front.1 text) ≡ Some front.0)
-    sound = front_sound (class_in language) text front.0 front.1 known
-
-    ends : in_line (take front.1 text) ≡ true → ends_line (drop front.1 text) ≡ true
-    ends line = ends_line_drop front.1 text (word_inside front.1 text h line) h
-
-    again : front_step s (text ++ more) (Some front) ≡ word_step s front.0 (take front.1 text) (drop front.1 text ++ more)
-    again =
-        ap (λ (t : Text). word_step s front.0 t (drop front.1 (text ++ more))) (take-append-le front.1 text more sound.1)
-        ∙ ap (λ (t : Text). word_step s front.0 (take front.1 text) t) (drop-append-le front.1 text more sound.1)
-
-    len : length (take front.1 text) ≡ front.1
-    len = length-take-le front.1 text sound.1
+    goes : FrontGoesOn s text more front
+    goes = front_goes_on s text more front h known
 
 code_fails : (s : Situation) (text more : Text) (found : Spanned Fault) → ends_line text ≡ true → in_code language s text ≡ Fails found → found.end < length text → in_code language s (text ++ more) ≡ Fails found
 code_fails s [] more found h e less = cc
 code_fails s (b ∷ bs) more found h e less =
-    ap (λ (front : Option (Class × ℕ)). step (takes_bang s.mode s.before && is_bang (b ∷ (bs ++ more))) (b ∷ (bs ++ more)) front) known
-    ∙ ap (λ bang. step bang (b ∷ (bs ++ more)) (longest_front (class_in language) (b ∷ bs))) same
+    ap (λ (front : Option (Class × ℕ)). code_step s (takes_bang s.mode s.before && is_bang (b ∷ (bs ++ more))) (b ∷ (bs ++ more)) front) (longest_followed (b ∷ bs) more h)
+    ∙ ap (λ bang. code_step s bang (b ∷ (bs ++ more)) (longest_front (class_in language) (b ∷ bs))) (bang_stays s b bs more h)
     ∙ go (takes_bang s.mode s.before && is_bang (b ∷ bs)) e
   where
-    step : Bool → Text → Option (Class × ℕ) → Step
-    step bang text front = if bang then token 1 FStringBang else front_step s text front
-
-    same : (takes_bang s.mode s.before && is_bang (b ∷ (bs ++ more))) ≡ (takes_bang s.mode s.before && is_bang (b ∷ bs))
-    same = ap (λ bang. takes_bang s.mode s.before && bang) (bang_followed b bs more h)
-
-    known : longest_front (class_in language) (b ∷ (bs ++ more)) ≡ longest_front (class_in language) (b ∷ bs)
-    known = longest_followed (b ∷ bs) more h
-
-    go : (bang : Bool) → step bang (b ∷ bs) (longest_front (class_in language) (b ∷ bs)) ≡ Fails found → step bang (b ∷ (bs ++ more)) (longest_front (class_in language) (b ∷ bs)) ≡ Fails found
+    go : (bang : Bool) → code_step s bang (b ∷ bs) (longest_front (class_in language) (b ∷ bs)) ≡ Fails found → code_step s bang (b ∷ (bs ++ more)) (longest_front (class_in language) (b ∷ bs)) ≡ Fails found
     go true e = e
     go false e = front_fails s (b ∷ bs) more (longest_front (class_in language) (b ∷ bs)) found h refl e less
 

@@ -1,5 +1,5 @@
 -- Bodies at the front of a text whose last byte is an LF stay where the text goes on, if they stop before its end.
-use Rattle.std.proofs.Common.{◌≡◌, ℕ, zero, suc, ◌+◌, ◌-◌, ◌≤◌, ◌<◌, Bool, true, false, cond, not, [], ◌∷◌, ◌++◌, length, take, drop, refl, ap, ◌∙◌, sym, subst, Option, Some, None, arith, ◌⊎◌, inl, inr}
+use Rattle.std.proofs.Common.{◌≡◌, ℕ, zero, suc, ◌+◌, ◌-◌, ◌≤◌, ◌<◌, Bool, true, false, not, [], ◌∷◌, ◌++◌, length, take, drop, refl, ap, ◌∙◌, sym, subst, Option, Some, None, arith, ◌⊎◌, inl, inr}
 use Rattle.std.specs.Prelude.{⊤, ◌&&◌, ◌==◌, if◌then◌else◌, nat_eq, nat_lt, encode_utf8}
 use Rattle.std.specs.Char.{is_ascii_hexdigit}
 use Rattle.std.specs.List.{prefix_len, starts_with}
@@ -18,7 +18,7 @@ use Rattle.starlark_grammar.proofs.Choices.{either, by_test}
 use Rattle.starlark_grammar.proofs.Lists.{drop-nil}
 use Rattle.starlark_grammar.proofs.Literals.Bodies.{found_fits, FoundFits}
 use Rattle.starlark_grammar.proofs.Joining.Followed.{ends_line, ends_line_rest}
-use Rattle.starlark_grammar.proofs.Joining.FollowedBodies.{FoundFollowed, StopFollowed, both, both_equal, character_followed, closing_in_line, found_followed, starts_followed}
+use Rattle.starlark_grammar.proofs.Joining.FollowedBodies.{FoundFollowed, StopFollowed, both, both_equal, character_followed, closing_in_line, found_followed, prefix_followed, starts_followed, octal_onward}
 
 -- Bad escapes
 
@@ -31,29 +31,14 @@ broken_bad : (good : ℕ) (text more : Text) → BadFollowed (good + length text
 broken_bad good [] more = λ inside. absurd (omega (arith, inside))
 broken_bad good (b ∷ bs) more = λ inside. ap (broken_by good) (character_followed (b ∷ bs) more (omega (arith, inside)))
 
-goes_bad : (whole len : ℕ) (value : Text) (test : Bool) (other : Found) → (len < whole → other ≡ (if test then goes len value else broken len [])) → BadFollowed whole (if test then goes len value else broken len []) other
-goes_bad whole len value true other h = tt
-goes_bad whole len value false other h = h
-
 numbered_bad : (whole len : ℕ) (is_byte : Bool) (n : ℕ) (other : Found) → (len < whole → other ≡ numbered len is_byte n) → BadFollowed whole (numbered len is_byte n) other
-numbered_bad whole len true n other h = goes_bad whole len (n ∷ []) (nat_lt n 256) other h
-numbered_bad whole len false n other h = goes_bad whole len (encode_utf8 n) (is_character n) other h
+numbered_bad whole len true n other h = by_test (λ found. BadFollowed whole found other) (nat_lt n 256) (goes len (n ∷ [])) (broken len []) (λ yes. tt) (λ no less. h less ∙ rw no refl)
+numbered_bad whole len false n other h = by_test (λ found. BadFollowed whole found other) (is_character n) (goes len (encode_utf8 n)) (broken len []) (λ yes. tt) (λ no less. h less ∙ rw no refl)
 
 drop_whole : (n : ℕ) (text : Text) → length text ≤ n → drop n text ≡ []
 drop_whole n [] h = drop-nil n
 drop_whole zero (b ∷ bs) h = absurd (omega (arith, h))
 drop_whole (suc n) (b ∷ bs) h = drop_whole n bs (omega (arith, h))
-
--- a run that ends before the end
-prefix_followed : (test : ℕ → Bool) (most : ℕ) (text more : Text) → prefix_len test (take most text) < length text → prefix_len test (take most (text ++ more)) ≡ prefix_len test (take most text)
-prefix_followed test zero text more h = refl
-prefix_followed test (suc most) [] more h = absurd (omega arith)
-prefix_followed test (suc most) (b ∷ bs) more h = go (test b) (prefix_followed test most bs more) h
-  where
-    go : (passes : Bool) → (prefix_len test (take most bs) < length bs → prefix_len test (take most (bs ++ more)) ≡ prefix_len test (take most bs))
-        → cond passes (1 + prefix_len test (take most bs)) 0 < length (b ∷ bs) → cond passes (1 + prefix_len test (take most (bs ++ more))) 0 ≡ cond passes (1 + prefix_len test (take most bs)) 0
-    go true rest h = ap (λ n. 1 + n) (rest (omega arith))
-    go false rest h = refl
 
 hexadecimal_bad : (wanted : ℕ) (is_byte : Bool) (text more : Text) → BadFollowed (2 + length text) (hexadecimal wanted is_byte text) (hexadecimal wanted is_byte (text ++ more))
 hexadecimal_bad wanted is_byte text more = go (prefix_len is_ascii_hexdigit (take wanted text)) refl
@@ -84,18 +69,7 @@ hexadecimal_bad wanted is_byte text more = go (prefix_len is_ascii_hexdigit (tak
         (λ miss. short n e miss (cases_lt n (length text)))
 
 octal_bad : (is_byte : Bool) (text more : Text) → BadFollowed (1 + length text) (octal is_byte text) (octal is_byte (text ++ more))
-octal_bad is_byte text more = go (prefix_len is_octal_digit (take 3 text)) refl
-  where
-    by : ℕ → Text → Found
-    by n text = numbered (1 + n) is_byte (digits_value 8 (take n text))
-
-    equal : (n : ℕ) → prefix_len is_octal_digit (take 3 text) ≡ n → 1 + n < 1 + length text → octal is_byte (text ++ more) ≡ by n text
-    equal n e inside =
-        let again : prefix_len is_octal_digit (take 3 (text ++ more)) ≡ n = prefix_followed is_octal_digit 3 text more (omega (arith, inside, e)) ∙ e in
-        ap (λ n. by n (text ++ more)) again ∙ ap (λ (digits : Text). numbered (1 + n) is_byte (digits_value 8 digits)) (take-append-le n text more (omega (arith, inside)))
-
-    go : (n : ℕ) → prefix_len is_octal_digit (take 3 text) ≡ n → BadFollowed (1 + length text) (by n text) (octal is_byte (text ++ more))
-    go n e = numbered_bad (1 + length text) (1 + n) is_byte (digits_value 8 (take n text)) _ (equal n e)
+octal_bad is_byte text more = numbered_bad (1 + length text) _ is_byte _ _ (octal_onward is_byte text more (prefix_len is_octal_digit (take 3 text)) refl)
 
 escaped_feed_bad : (text more : Text) → BadFollowed (2 + length text) (escaped_newline text) (escaped_newline (text ++ more))
 escaped_feed_bad [] more = λ inside. absurd (omega (arith, inside))

@@ -1,25 +1,24 @@
 -- Cuts between lines, and what they and a text after them are together.
-use Rattle.std.proofs.Common.{◌≡◌, ℕ, zero, suc, ◌+◌, ◌<◌, Bool, true, false, List, [], ◌∷◌, ◌++◌, length, drop, map, refl, ap, ◌∙◌, sym, subst, Option, Some, None, arith, append_assoc, append-nil}
+use Rattle.std.proofs.Common.{◌≡◌, ℕ, zero, suc, ◌+◌, ◌<◌, Bool, true, false, List, [], ◌∷◌, ◌++◌, length, drop, map, refl, ap, ◌∙◌, sym, subst, Some, None, arith, append_assoc, append-nil}
 use Rattle.std.specs.Prelude.{◌&&◌, ◌||◌, codes, nat_eq, option_map}
 use Rattle.std.specs.List.{ends_with}
 use Rattle.std.proofs.lemmas.Bool.{and_parts, both_ways}
-use Rattle.std.proofs.lemmas.List.{length-drop}
 use Rattle.std.proofs.lemmas.List.Sums.{sum_by-cons}
 use Rattle.std.proofs.Math.Seq.{drop-append-add}
 use Rattle.starlark_grammar.specs.Words.{Text, language}
-use Rattle.starlark_grammar.specs.Tokens.{Newline, Lexeme, Spanned, moved, Fault, Outcome}
+use Rattle.starlark_grammar.specs.Tokens.{Newline, Lexeme, moved, Outcome}
 use Rattle.starlark_grammar.specs.Depths.{mode_by, mode_after, open_fstring, is_balanced}
 use Rattle.starlark_grammar.specs.Margins.{open_widths}
 use Rattle.starlark_grammar.specs.Pieces.{Layout, Piece, Step, Stands, Fails, Ends, Situation, margin_step}
-use Rattle.starlark_grammar.specs.Reading.{History, nothing, after, after_all, situation, next_step, pieces_len, read, lexemes_along, closing, before_fault, outcome_of, outcome_in, outcome}
+use Rattle.starlark_grammar.specs.Reading.{History, nothing, after, after_all, situation, next_step, pieces_len, read, lexemes_along, closing, outcome_of, outcome_in, outcome}
 use Rattle.starlark_grammar.specs.Longest.{IsReading, IsLongestReading}
 use Rattle.starlark_grammar.specs.Cuts.{is_layout, is_outside, is_newline, is_faultless}
-use Rattle.starlark_grammar.proofs.Reading.Readings.{one_longest, longest_onward, read_is, reading_fits, ends_at_end, outcome_only}
+use Rattle.starlark_grammar.proofs.Reading.Readings.{one_longest, longest_onward, read_is, outcome_only}
 use Rattle.starlark_grammar.proofs.Reading.Steps.{is_nothing}
-use Rattle.starlark_grammar.proofs.Joining.Followed.{ends_line, ends_line_of}
+use Rattle.starlark_grammar.proofs.Joining.Followed.{ends_line, ends_line_of, ends_line_some}
 use Rattle.starlark_grammar.proofs.Joining.Settled.{Settled, outside_none, remainder, widths_settled, situation_after, after_onto, next_after, all_after}
-use Rattle.starlark_grammar.proofs.Joining.Joined.{moved_both, all_moved, map_both}
-use Rattle.starlark_grammar.proofs.Joining.CleanCuts.{pieces_both, along_both, past_both, longest_both, CharacterStarts, begun}
+use Rattle.starlark_grammar.proofs.Joining.Joined.{moved_both, map_both}
+use Rattle.starlark_grammar.proofs.Joining.CleanCuts.{CharacterStarts, along_both, begun, faultless_reading, longest_both, past_both, pieces_both, along_later, same_outcome, some_before, some_both}
 use Rattle.starlark_grammar.proofs.Joining.Tabs.{first_step}
 use Rattle.starlark_grammar.proofs.Joining.Laws.{ends_after}
 use Rattle.starlark_grammar.specs.Joining.{is_between_lines, is_line_cut, has_newline, without_last_newline, begins_plainly, LineCutsJoin, LineCutsOfJoined}
@@ -115,28 +114,18 @@ line_cut_of text pieces last longest same faultless between ends = record {
   some = λ e. both_ways _ (subst (λ (ps : List Piece). is_layout (after_all nothing ps).before ≡ false) (sym e) refl) parts.0;
   ends = ends;
   reads = longest.reads;
-  reach = reach;
+  reach = whole.1;
   layout = parts.0;
   none_open = parts.1;
   balanced = parts.2;
-  is = same ∙ ap (outcome_of text pieces) at_end ∙ ap (λ n. record { lexemes = lexemes_along 0 pieces ++ closing n (after_all nothing pieces); fault = None }) reach;
+  is = same ∙ ap (outcome_of text pieces) whole.0 ∙ ap (λ n. record { lexemes = lexemes_along 0 pieces ++ closing n (after_all nothing pieces); fault = None }) whole.1;
 }
   where
     parts : (is_layout (after_all nothing pieces).before ≡ true) × (open_fstring 0 (after_all nothing pieces).tokens ≡ None) × (is_balanced (after_all nothing pieces).tokens ≡ true)
     parts = between_parts (after_all nothing pieces) between
 
-    at_end : last ≡ Ends
-    at_end = go last refl faultless
-      where
-        go : (step : Step) → last ≡ step → is_faultless step ≡ true → last ≡ Ends
-        go (Stands piece) e h = absurd (longest.no_piece piece e)
-        go (Fails fault) e h = cc
-        go Ends e h = e
-
-    reach : pieces_len pieces ≡ length text
-    reach =
-        let none = ends_at_end language (after_all nothing pieces) (drop (pieces_len pieces) text) (longest.stands_last ∙ at_end) in
-        omega (arith, reading_fits language nothing text pieces longest.reads, length-drop (pieces_len pieces) text, ap length none)
+    whole : (last ≡ Ends) × (pieces_len pieces ≡ length text)
+    whole = faultless_reading text pieces last longest faultless
 
 pub line_cut : (text : Text) → is_line_cut text ≡ true → LineCut text (read language text).pieces
 unfolding is_line_cut outcome outcome_in
@@ -146,11 +135,7 @@ line_cut text h =
     line_cut_of text (read language text).pieces (read language text).last (read_is language text) refl two.0 two.1 (ends_line_of text one.1)
 
 pub line_cut_some : (text : Text) → is_line_cut text ≡ true → 0 < length text
-line_cut_some text h = go text (line_cut text h).ends
-  where
-    go : (text : Text) → ends_line text ≡ true → 0 < length text
-    go [] e = cc
-    go (b ∷ bs) e = omega arith
+line_cut_some text h = ends_line_some text (line_cut text h).ends
 
 -- whether a text is a cut between lines, by a longest reading of it
 pub line_cut_by : (text : Text) (pieces : List Piece) (last : Step) → IsLongestReading language nothing text pieces last
@@ -209,15 +194,6 @@ closing_after at earlier history h =
 closing_moved : (n at : ℕ) (history : History) → closing (n + at) history ≡ map (moved n) (closing at history)
 closing_moved n at history = ap (λ (ls : List Lexeme). record { begin = n + at; node = Newline; end = n + at } ∷ ls) (sym (dedents_moved n (open_count history) at))
 
-along_moved : (n at : ℕ) (pieces : List Piece) → lexemes_along (n + at) pieces ≡ map (moved n) (lexemes_along at pieces)
-along_moved n at [] = refl
-along_moved n at (piece ∷ pieces) =
-    let next : n + at + piece.len ≡ n + (at + piece.len) = omega arith in
-    ap (λ k. map (moved (n + at)) piece.lexemes ++ lexemes_along k pieces) next
-    ∙ ap (λ ls. map (moved (n + at)) piece.lexemes ++ ls) (along_moved n (at + piece.len) pieces)
-    ∙ ap (λ ls. ls ++ map (moved n) (lexemes_along (at + piece.len) pieces)) (sym (all_moved n at (n + at) piece.lexemes refl))
-    ∙ sym (map_both (moved n) (map (moved at) piece.lexemes) (lexemes_along (at + piece.len) pieces))
-
 -- a margin, and nothing else
 abbrev margin_alone : History
 margin_alone = record { tokens = []; widths = []; before = Layout }
@@ -244,17 +220,6 @@ closed_settled history none_open balanced = record {
 
 closed_alone : (history : History) → closed_after history ≡ remainder (closed_after history) margin_alone
 closed_alone history = ap (λ ws. record { tokens = (closed_after history).tokens; widths = ws; before = Layout }) (sym (append-nil (closed_after history).widths))
-
-same_outcome : {one other : List Lexeme} {fault end : Option (Spanned Fault)} → one ≡ other → fault ≡ end → ◌≡◌ {A = Outcome} (record { lexemes = one; fault = fault }) (record { lexemes = other; fault = end })
-same_outcome e f = rw (e, f) refl
-
-some_before : (text : Text) (pieces : List Piece) → ¬ (pieces ≡ []) → before_fault text pieces ≡ lexemes_along 0 pieces
-some_before text [] some = absurd (some refl)
-some_before text (piece ∷ pieces) some = refl
-
-some_both : (one other : List Piece) → ¬ (one ≡ []) → ¬ (one ++ other ≡ [])
-some_both [] other some e = some refl
-some_both (piece ∷ one) other some e = cc
 
 no_fresh : is_nothing nothing.before ≡ true → open_widths nothing.widths ≡ []
 unfolding open_widths
@@ -295,7 +260,7 @@ module _ (text more : Text) (pieces : List Piece) (here : LineCut text pieces) (
       along_both 0 closed.pieces' there.pieces
       ∙ ap (λ ls. ls ++ lexemes_along (0 + pieces_len closed.pieces') there.pieces) (closed.lexemes 0 ∙ ap (λ n. lexemes_along 0 pieces ++ dedents (open_count (after_all nothing pieces)) n) at ∙ sym (line_cut_lexemes text pieces here))
       ∙ ap (λ n. without_last_newline (outcome text).lexemes ++ lexemes_along n there.pieces) start
-      ∙ ap (λ ls. without_last_newline (outcome text).lexemes ++ ls) (along_moved (length text) 0 there.pieces)
+      ∙ ap (λ ls. without_last_newline (outcome text).lexemes ++ ls) (along_later (length text) 0 there.pieces)
 
   -- what is read of both, and what is read of the second text alone
   pub past : after_all nothing (closed.pieces' ++ there.pieces) ≡ remainder (closed_after (after_all nothing pieces)) (after_all margin_alone there.pieces)

@@ -1,12 +1,12 @@
 -- Where the fault of a tab stands: at a first margin, at a line end that counts, or at the tab.
 use Rattle.std.proofs.Common.{◌≡◌, ℕ, zero, suc, ◌+◌, ◌≤◌, Bool, true, false, not, List, [], ◌∷◌, length, take, drop, refl, ap, ◌∙◌, sym, subst, Option, Some, None, arith, ◌⊎◌, inl, inr}
 use Rattle.std.specs.Prelude.{⊤, ◌&&◌, ◌||◌, ◌==◌, if◌then◌else◌, nat_eq, codes}
-use Rattle.std.specs.List.{list_all}
+use Rattle.std.specs.List.{list_all, starts_with}
 use Rattle.std.specs.Str.{bytes_eq}
 use Rattle.std.proofs.lemmas.Bool.{and_parts, both_ways, eqb-true}
 use Rattle.std.proofs.lemmas.Slice.Eq.{bytes_eq-Decides}
 use Rattle.starlark_grammar.specs.declared.class.Class.TheVariants as word
-use Rattle.starlark_grammar.specs.Words.{Text, begins, class_in, is_run, language, line_ends, names, openers, patterns, symbols}
+use Rattle.starlark_grammar.specs.Words.{Text, begins, class_in, is_run, language, line_ends, names, openers, symbols}
 use Rattle.starlark_grammar.specs.declared.class.LiteralKind.{LiteralKind as Kind}
 use Rattle.starlark_grammar.specs.declared.class.Class.{Class}
 use Rattle.starlark_grammar.specs.declared.class.LiteralKind.TheVariants.{Text as OfText, Bytes as OfBytes, FString as OfFString}
@@ -16,10 +16,11 @@ use Rattle.starlark_grammar.specs.Tokens.{Newline, Opening, Int, StartsZero, FSt
 use Rattle.starlark_grammar.specs.Items.{Stop, Closing, Line, Ended, OpeningBrace, ClosingBrace, BadEscape, Body, body_at}
 use Rattle.starlark_grammar.specs.Depths.{Mode, Outside, InText, AtTop, Deeper}
 use Rattle.starlark_grammar.specs.Margins.{Margin, margin_of, margin_len, is_content, has_tab, lines, width_of, fits, begins_with_line_end}
-use Rattle.starlark_grammar.specs.Pieces.{Before, Nothing, Layout, Gap, Other, Piece, Step, Stands, Fails, Ends, Situation, token, fault, margin_step, first_margin, line_end, more_quotes, is_plain, unfinished, escape_fault, literal_by, opener, chunk_by, chunk, counts, starts_zero, word_step, front_step, takes_bang, is_bang, in_code, by_mode, by_before, step_at}
+use Rattle.starlark_grammar.specs.Pieces.{Before, Nothing, Layout, Gap, Other, Piece, Step, Stands, Fails, Ends, Situation, token, fault, margin_step, first_margin, line_end, is_plain, unfinished, literal_by, opener, chunk_by, chunk, counts, starts_zero, word_step, front_step, takes_bang, is_bang, in_code, by_mode, by_before, step_at}
 use Rattle.starlark_grammar.specs.Reading.{History, situation, next_step}
+use Rattle.starlark_grammar.proofs.Literals.LiteralSteps.{opener_holds, escape_holds}
 use Rattle.starlark_grammar.proofs.Choices.{either}
-use Rattle.starlark_grammar.proofs.Words.Classes.{all_fit, language_all_fit, none_found, row_fits}
+use Rattle.starlark_grammar.proofs.Words.Classes.{RowsFit, language_all_fit, patterns_all_fit}
 use Rattle.starlark_grammar.proofs.Words.Fronts.{front_sound}
 use Rattle.starlark_grammar.specs.Joining.{begins_plainly}
 use Rattle.starlark_grammar.specs.Recovery.{is_tab, line_end_len}
@@ -27,6 +28,18 @@ use Rattle.starlark_grammar.proofs.Reading.Steps.{is_nothing}
 use Rattle.starlark_grammar.proofs.Recovery.FollowedFaults.{same_fault}
 
 -- Words of tabs, and line ends
+
+-- a text that begins with no line end has one of no length
+pub no_line_end : (text : Text) → begins_with_line_end text ≡ false → line_end_len text ≡ 0
+no_line_end text h = by (starts_with nat_eq text (codes "\n")) (starts_with nat_eq text (codes "\r\n")) h
+  where
+    len : Bool → Bool → ℕ
+    len one two = if one then 1 else (if two then 2 else 0)
+
+    by : (one two : Bool) → (one || two) ≡ false → len one two ≡ 0
+    by true two h = cc
+    by false true h = cc
+    by false false h = refl
 
 abbrev is_line_end : Text → Bool
 is_line_end front = bytes_eq front (codes "\n") || bytes_eq front (codes "\r\n")
@@ -36,42 +49,16 @@ is_layout_word word.Tabs front = begins (nat_eq 9) front
 is_layout_word word.LineEnd front = is_line_end front
 is_layout_word class front = true
 
-openers_are : all_fit is_layout_word openers ≡ true
-unfolding openers
-openers_are = refl
-
-line_ends_are : all_fit is_layout_word line_ends ≡ true
-unfolding line_ends
-line_ends_are = refl
-
-symbols_are : all_fit is_layout_word symbols ≡ true
-unfolding symbols
-symbols_are = refl
-
-names_are : all_fit is_layout_word names ≡ true
-unfolding names
-names_are = refl
+rows_are : RowsFit is_layout_word
+unfolding openers line_ends symbols names
+rows_are = (refl, refl, refl, refl)
 
 run_begins : (test : ℕ → Bool) (front : Text) → is_run test front ≡ true → begins test front ≡ true
 run_begins test [] h = cc
 run_begins test (b ∷ bs) h = (and_parts (test b) (list_all test bs) h).0
 
-patterns_are : (front : Text) (class : Class) → class_in patterns front ≡ Some class → is_layout_word class front ≡ true
-unfolding class_in patterns
-patterns_are front class =
-    row_fits is_layout_word front _ word.Skipped class _ (λ h. refl)
-    (row_fits is_layout_word front _ word.Comment class _ (λ h. refl)
-    (row_fits is_layout_word front (is_run (nat_eq 9) front) word.Tabs class _ (λ h. run_begins (nat_eq 9) front h)
-    (row_fits is_layout_word front _ word.Identifier class _ (λ h. refl)
-    (row_fits is_layout_word front _ word.Decimal class _ (λ h. refl)
-    (row_fits is_layout_word front _ word.Hexadecimal class _ (λ h. refl)
-    (row_fits is_layout_word front _ word.Octal class _ (λ h. refl)
-    (row_fits is_layout_word front _ word.Binary class _ (λ h. refl)
-    (row_fits is_layout_word front _ word.Float class _ (λ h. refl)
-    (row_fits is_layout_word front _ word.Float class _ (λ h. refl) (none_found is_layout_word front class))))))))))
-
 layout_word : (front : Text) (class : Class) → class_in language front ≡ Some class → is_layout_word class front ≡ true
-layout_word = language_all_fit is_layout_word openers_are line_ends_are symbols_are names_are patterns_are
+layout_word = language_all_fit is_layout_word rows_are (λ front. patterns_all_fit is_layout_word front (λ h. refl) (λ h. refl) (run_begins (nat_eq 9) front) (λ h. refl) (λ h. refl) (λ h. refl) (λ h. refl) (λ h. refl) (λ h. refl) (λ h. refl))
 
 -- a text that begins with a tab
 abbrev pub begins_with_tab : Text → Bool
@@ -146,25 +133,13 @@ untabbed_unfinished (InText other) OfFString opening remainder = refl
 untabbed_unfinished AtTop OfFString opening remainder = refl
 untabbed_unfinished Deeper OfFString opening remainder = refl
 
-untabbed_escape : (begin : ℕ) (text : Text) → NoTab (escape_fault begin text)
-untabbed_escape begin [] = refl
-untabbed_escape begin (b ∷ bs) = refl
-
 untabbed_literal : (mode : Mode) (kind : Kind) (opening : Opening) (len : ℕ) (remainder : Text) (body : Body) (stop : Stop) → NoTab (literal_by mode kind opening len remainder body stop)
 untabbed_literal mode kind opening len remainder body Closing = tt
-untabbed_literal mode kind opening len remainder body (BadEscape read last) = untabbed_escape _ _
-untabbed_literal mode kind opening len remainder body Line = untabbed_unfinished mode kind opening remainder
-untabbed_literal mode kind opening len remainder body Ended = untabbed_unfinished mode kind opening remainder
-untabbed_literal mode kind opening len remainder body OpeningBrace = untabbed_unfinished mode kind opening remainder
-untabbed_literal mode kind opening len remainder body ClosingBrace = untabbed_unfinished mode kind opening remainder
-
-untabbed_body : (mode : Mode) (kind : Kind) (opening : Opening) (len : ℕ) (remainder : Text) (body : Body) → NoTab (literal_by mode kind opening len remainder body body.stop)
-untabbed_body mode kind opening len remainder body = untabbed_literal mode kind opening len remainder body body.stop
+untabbed_literal mode kind opening len remainder body (BadEscape read last) = escape_holds NoTab _ _ (λ end. refl) (λ escape end. refl)
+untabbed_literal mode kind opening len remainder body stop = untabbed_unfinished mode kind opening remainder
 
 untabbed_opener : (mode : Mode) (kind : Kind) (opening : Opening) (len : ℕ) (remainder : Text) → NoTab (opener mode kind opening len remainder)
-untabbed_opener mode OfFString opening len remainder = tt
-untabbed_opener mode OfText opening len remainder = untabbed_body mode OfText opening (len + more_quotes opening) (drop (more_quotes opening) remainder) (body_at (record { kind = OfText; opening = opening }) (drop (more_quotes opening) remainder))
-untabbed_opener mode OfBytes opening len remainder = untabbed_body mode OfBytes opening (len + more_quotes opening) (drop (more_quotes opening) remainder) (body_at (record { kind = OfBytes; opening = opening }) (drop (more_quotes opening) remainder))
+untabbed_opener mode kind opening len remainder = opener_holds NoTab mode kind opening len remainder tt (λ len rest body stop. untabbed_literal mode kind opening len rest body stop)
 
 untabbed_chunk : (opening : Opening) (text : Text) → NoTab (chunk opening text)
 unfolding chunk

@@ -17,6 +17,7 @@ use Rattle.starlark_grammar.specs.Pieces.{Ends, Layout, Piece, Stands, Step, cou
 use Rattle.starlark_grammar.specs.Reading.{History, after, after_all, closing, lexemes_along, next_step, nothing, outcome, pieces_len, read, situation}
 use Rattle.starlark_grammar.specs.Longest.{IsLongestReading, IsReading}
 use Rattle.starlark_grammar.specs.Cuts.{is_faultless, is_newline, is_outside}
+use Rattle.starlark_grammar.proofs.Recovery.LineCuts.{line_cut_by}
 use Rattle.starlark_grammar.proofs.Lists.{drop-sum}
 use Rattle.starlark_grammar.proofs.Words.Fronts.{front_sound}
 use Rattle.starlark_grammar.proofs.Reading.Steps.{is_nothing}
@@ -31,15 +32,6 @@ use Rattle.starlark_grammar.proofs.Joining.Settled.{outside_none}
 use Rattle.starlark_grammar.proofs.Joining.Tabs.{outcome_by}
 use Rattle.starlark_grammar.specs.Joining.{LastNewlineCuts, NewlinesCut, begins_plainly, begins_undented, has_newline, is_between_lines, is_dedent, is_line_cut, without_last_newline}
 use Rattle.starlark_grammar.proofs.Recovery.NewlinePieces.{NewlineAt, newline_found, newline_there, none_repeated}
-
--- whether a text is a cut between lines, by its reading
-pub line_cut_by : (text : Text) (pieces : List Piece) (last : Step) → IsLongestReading language nothing text pieces last
-    → is_line_cut text ≡ (is_faultless last && is_between_lines (after_all nothing pieces) && ends_with nat_eq text (codes "\n"))
-unfolding is_line_cut
-line_cut_by text pieces last longest =
-    let same = one_longest language nothing text (read language text).pieces pieces (read language text).last last (read_is language text) longest in
-    ap (λ (ps : List Piece). is_faultless (read language text).last && is_between_lines (after_all nothing ps) && ends_with nat_eq text (codes "\n")) same.0
-    ∙ ap (λ (step : Step). is_faultless step && is_between_lines (after_all nothing pieces) && ends_with nat_eq text (codes "\n")) same.1
 
 -- the last `Newline`, which no other follows
 last_left_out : (xs : List Lexeme) (newline : Lexeme) (rest : List Lexeme) → is_newline newline.node ≡ true → has_newline rest ≡ false → without_last_newline (xs ++ (newline ∷ rest)) ≡ xs ++ rest

@@ -15,13 +15,15 @@ use Rattle.starlark_grammar.specs.Words.{Text, class_in, language}
 use Rattle.starlark_grammar.specs.Front.{longest_front}
 use Rattle.starlark_grammar.specs.Numbers.{integer_of}
 use Rattle.starlark_grammar.specs.Tokens.{Token, Opening, Lexeme, moved, Int, Indent, Dedent, Newline, StartsZero, Outcome, FStringBang, FStringEnd, FStringExprStart, InvalidTab, Indentation}
-use Rattle.starlark_grammar.specs.Items.{Stop, Closing, Line, Ended, OpeningBrace, ClosingBrace, BadEscape, Body, body_at, body_len, body_value, closing_quotes}
-use Rattle.starlark_grammar.specs.Depths.{Mode, Outside, InText, AtTop, Deeper, is_balanced, mode_after}
-use Rattle.starlark_grammar.specs.Margins.{comments_from, comment_lines, Margin, margin_of, margin_len, is_content, has_tab, width_of, fits, is_widest, indentation, open_widths}
-use Rattle.starlark_grammar.specs.Pieces.{Before, Nothing, Layout, Gap, Other, Piece, Step, Stands, Fails, Ends, Situation, fault, token, margin_step, line_end, more_quotes, escape_fault, literal_by, opener, chunk_text, chunk_piece, chunk_by, chunk, terminal_token, counts, starts_zero, word_step, front_step, takes_bang, is_bang, in_code, by_mode, by_before, step_at, opening_of}
+use Rattle.starlark_grammar.specs.Items.{Stop, Closing, Line, Ended, OpeningBrace, ClosingBrace, BadEscape, Body, body_len, body_value, closing_quotes}
+use Rattle.starlark_grammar.specs.Depths.{Mode, AtTop, is_balanced, mode_after}
+use Rattle.starlark_grammar.specs.Margins.{Margin, margin_of, margin_len, is_content, has_tab, width_of, fits, is_widest, indentation, open_widths}
+use Rattle.starlark_grammar.specs.Pieces.{Before, Nothing, Layout, Gap, Other, Piece, Step, Stands, Fails, Ends, Situation, fault, token, margin_step, line_end, literal_by, opener, chunk_text, chunk_piece, chunk_by, chunk, terminal_token, counts, starts_zero, word_step, front_step, takes_bang, is_bang, in_code, by_mode, by_before, step_at, opening_of}
 use Rattle.starlark_grammar.specs.Reading.{History, nothing, after, after_all, situation, next_step, pieces_len, read, lexemes_along, closing, outcome_of, outcome}
 use Rattle.starlark_grammar.specs.Longest.{IsReading}
 use Rattle.starlark_grammar.specs.Cuts.{is_layout, is_newline}
+use Rattle.starlark_grammar.proofs.Literals.LiteralSteps.{by_mode_holds, chunk_holds, opener_holds, escape_holds}
+use Rattle.starlark_grammar.proofs.MarginComments.{margin_holds}
 use Rattle.starlark_grammar.proofs.Lists.{drop-sum}
 use Rattle.starlark_grammar.proofs.Choices.{either}
 use Rattle.starlark_grammar.proofs.Words.Fronts.{front_sound}
@@ -50,13 +52,8 @@ pub none_repeated : (k : ℕ) (x : Lexeme) → is_newline x.node ≡ false → h
 none_repeated zero x h = refl
 none_repeated (suc k) x h = rw h (none_repeated k x h)
 
-comments_none : (at : ℕ) (ls : List Text) → has_newline (comments_from at ls) ≡ false
-comments_none at [] = refl
-comments_none at (line ∷ ls) = comments_none (at + length line) ls
-
 margin_none : (text : Text) → has_newline (margin_of text).comments ≡ false
-unfolding margin_of
-margin_none text = comments_none 0 (comment_lines text)
+margin_none = margin_holds (λ ls. has_newline ls ≡ false) refl (λ at line rest h. h)
 
 indentation_none : (levels : List ℕ) (margin : Margin) → has_newline (indentation levels margin) ≡ false
 unfolding indentation
@@ -99,27 +96,15 @@ PlainStep Ends = ⊤
 token_plain : (len : ℕ) (node : Token) → is_newline node ≡ false → is_dedent node ≡ false → PlainStep (token len node)
 token_plain len node h k = rw (h, k) refl
 
-escape_plain : (begin : ℕ) (text : Text) → PlainStep (escape_fault begin text)
-escape_plain begin [] = tt
-escape_plain begin (b ∷ bs) = tt
-
 literal_plain : (mode : Mode) (kind : Kind) (opening : Opening) (len : ℕ) (rest : Text) (body : Body) (stop : Stop) → PlainStep (literal_by mode kind opening len rest body stop)
 literal_plain mode OfText opening len rest body Closing = refl
 literal_plain mode OfBytes opening len rest body Closing = refl
 literal_plain mode OfFString opening len rest body Closing = refl
-literal_plain mode kind opening len rest body (BadEscape read last) = escape_plain _ _
-literal_plain mode kind opening len rest body Line = tt
-literal_plain mode kind opening len rest body Ended = tt
-literal_plain mode kind opening len rest body OpeningBrace = tt
-literal_plain mode kind opening len rest body ClosingBrace = tt
-
-body_plain : (mode : Mode) (kind : Kind) (opening : Opening) (len : ℕ) (rest : Text) (body : Body) → PlainStep (literal_by mode kind opening len rest body body.stop)
-body_plain mode kind opening len rest body = literal_plain mode kind opening len rest body body.stop
+literal_plain mode kind opening len rest body (BadEscape read last) = escape_holds PlainStep _ _ (λ end. tt) (λ escape end. tt)
+literal_plain mode kind opening len rest body stop = tt
 
 opener_plain : (mode : Mode) (kind : Kind) (opening : Opening) (len : ℕ) (rest : Text) → PlainStep (opener mode kind opening len rest)
-opener_plain mode OfFString opening len rest = refl
-opener_plain mode OfText opening len rest = body_plain mode OfText opening (len + more_quotes opening) (drop (more_quotes opening) rest) (body_at (record { kind = OfText; opening = opening }) (drop (more_quotes opening) rest))
-opener_plain mode OfBytes opening len rest = body_plain mode OfBytes opening (len + more_quotes opening) (drop (more_quotes opening) rest) (body_at (record { kind = OfBytes; opening = opening }) (drop (more_quotes opening) rest))
+opener_plain mode kind opening len rest = opener_holds PlainStep mode kind opening len rest refl (λ len rest body stop. literal_plain mode kind opening len rest body stop)
 
 chunk_piece_plain : (body : Body) (node : Token) (len : ℕ) → is_newline node ≡ false → is_dedent node ≡ false → PlainStep (chunk_piece body node len)
 chunk_piece_plain body node len h k = go (body_value body)
@@ -137,11 +122,7 @@ chunk_by_plain opening text body Line = tt
 chunk_by_plain opening text body Ended = tt
 
 chunk_plain : (opening : Opening) (text : Text) → PlainStep (chunk opening text)
-unfolding chunk
-chunk_plain opening text = go (body_at (record { kind = OfFString; opening = opening }) text)
-  where
-    go : (body : Body) → PlainStep (chunk_by opening text body body.stop)
-    go body = chunk_by_plain opening text body body.stop
+chunk_plain opening text = chunk_holds PlainStep opening text (chunk_by_plain opening text)
 
 terminal_plain : (mode : Mode) (token : Terminal) → (is_newline (terminal_token mode token) ≡ false) × (is_dedent (terminal_token mode token) ≡ false)
 terminal_plain AtTop terminal.ClosingCurly = (refl, refl)
@@ -177,17 +158,14 @@ code_plain : (s : Situation) (text : Text) → PlainStep (in_code language s tex
 code_plain s [] = tt
 code_plain s (b ∷ bs) = either PlainStep (takes_bang s.mode s.before && is_bang (b ∷ bs)) (token 1 FStringBang) (front_step s (b ∷ bs) (longest_front (class_in language) (b ∷ bs))) refl (front_plain s (b ∷ bs) (longest_front (class_in language) (b ∷ bs)))
 
-place_plain : (s : Situation) (mode : Mode) (text : Text) → PlainStep (by_mode language s mode text)
-place_plain s Outside text = code_plain s text
-place_plain s (InText opening) text = chunk_plain opening text
-place_plain s AtTop text = code_plain s text
-place_plain s Deeper text = code_plain s text
+mode_plain : (s : Situation) (mode : Mode) (text : Text) → PlainStep (by_mode language s mode text)
+mode_plain s mode text = by_mode_holds PlainStep s mode text (code_plain s text) (λ opening. chunk_plain opening text)
 
 before_plain : (s : Situation) (before : Before) (text : Text) → PlainStep (by_before language s before text)
 before_plain s Nothing text = margin_plain 0 [] [] (margin_of text)
-before_plain s Layout text = place_plain s s.mode text
-before_plain s Gap text = place_plain s s.mode text
-before_plain s Other text = place_plain s s.mode text
+before_plain s Layout text = mode_plain s s.mode text
+before_plain s Gap text = mode_plain s s.mode text
+before_plain s Other text = mode_plain s s.mode text
 
 -- of a piece that is no margin's all lexemes are plain
 piece_plain : (history : History) (text : Text) (piece : Piece) → next_step language history text ≡ Stands piece → is_layout piece.sort ≡ false → list_all is_plain piece.lexemes ≡ true

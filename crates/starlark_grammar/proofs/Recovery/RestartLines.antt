@@ -1,10 +1,10 @@
 -- Lexing begins again right after an LF or at the end of the text, and no LF is before that after the fault or its tab.
 use Rattle.std.proofs.Common.{◌≡◌, ℕ, suc, ◌+◌, ◌-◌, ◌≤◌, ◌<◌, Bool, true, false, not, List, [], ◌∷◌, ◌++◌, length, take, drop, get_or, refl, ap, ◌∙◌, sym, subst, Some, arith, ◌⊎◌, inl, inr, length-append, append_assoc, cond, one-add}
-use Rattle.std.specs.Prelude.{◌&&◌, ◌||◌, ◌==◌, if◌then◌else◌, nat_eq, max, sum_by, take_while, codes}
+use Rattle.std.specs.Prelude.{◌&&◌, ◌||◌, ◌==◌, nat_eq, max, sum_by, take_while, codes}
 use Rattle.std.specs.Cmp.Lexicographic.{pointwise}
-use Rattle.std.specs.List.{ends_with, list_all, list_any, onto_first, prefix_len, starts_with}
+use Rattle.std.specs.List.{ends_with, list_all, list_any, prefix_len}
 use Rattle.std.specs.Str.{byte, bytes_eq}
-use Rattle.std.proofs.lemmas.Bool.{and_parts, both_ways, cases_lt, eqb-true, not-true}
+use Rattle.std.proofs.lemmas.Bool.{and_parts, both_ways, cases_lt, eqb-true, not-false}
 use Rattle.std.proofs.lemmas.List.{get_or-drop, length-drop, take-append-drop}
 use Rattle.std.proofs.lemmas.List.Sums.{prefix_len-le-length, prefix_len_passes, prefix_len_stops, sum_by-cons}
 use Rattle.std.proofs.lemmas.Option.{get_or_from_slice_get, slice_get-get_or}
@@ -17,16 +17,17 @@ use Rattle.starlark_grammar.specs.Reading.{after_all, nothing, pieces_len}
 use Rattle.starlark_grammar.specs.Longest.{IsReading}
 use Rattle.starlark_grammar.proofs.Lists.{drop-sum}
 use Rattle.starlark_grammar.proofs.Reading.Steps.{is_nothing}
-use Rattle.starlark_grammar.proofs.Order.OrderedLexemes.{Split, first_line, is_line}
+use Rattle.starlark_grammar.proofs.Order.OrderedLexemes.{Split, first_line}
 use Rattle.starlark_grammar.proofs.Joining.Followed.{ends_line, ends_line_made}
 use Rattle.starlark_grammar.proofs.Joining.FollowedMargins.{has_whole_lines, lines_followed}
 use Rattle.starlark_grammar.proofs.Joining.Joined.{margin_step_len, whole_from_ends}
 use Rattle.starlark_grammar.proofs.Joining.Tabs.{first_step}
 use Rattle.starlark_grammar.proofs.Recovery.DecidedFaults.{FaultRead, fault_read}
-use Rattle.starlark_grammar.proofs.Recovery.MarginTabs.{BeginsLine, LineFails, TabLater, begins_with_tab, line_end_stands, line_is, margin_tab, tab_first, tab_later, tab_no_line}
+use Rattle.starlark_grammar.proofs.Recovery.MarginTabs.{BeginsLine, LineFails, TabLater, begins_with_tab, line_end_stands, line_is, margin_tab, no_line_end, tab_first, tab_later, tab_no_line}
 use Rattle.starlark_grammar.proofs.Recovery.ShortenedFaults.{none_before}
 use Rattle.starlark_grammar.specs.Recovery.{is_margin_tab, is_tab, line_end_len, next_line, restart, stopped_at}
 use Rattle.starlark_grammar.specs.RecoveryLaws.{IsLfAt, LeadsToTab, RestartsAfterTabs, RestartsAtLines, RestartsAtNextLine}
+use Rattle.starlark_grammar.proofs.Joining.LineCuts.{one_line}
 
 -- Lines
 
@@ -36,12 +37,8 @@ is_other b = not (is_lf b)
 other_no_lf : (b : ℕ) → is_other b ≡ true → b ≡ 10 → ⊥
 other_no_lf b other is = both_ways _ (ap is_other is) other
 
-lf_of : (b : ℕ) → is_other b ≡ false → b ≡ 10
-lf_of b other = eqb-true b 10 (by (b == 10) refl other)
-  where
-    by : (test : Bool) → (b == 10) ≡ test → not test ≡ false → (b == 10) ≡ true
-    by true is other = is
-    by false is other = cc
+pub lf_of : (b : ℕ) → is_other b ≡ false → b ≡ 10
+lf_of b other = eqb-true b 10 (not-false (b == 10) other)
 
 -- the next line begins at the text's end or right after an LF, …
 next_line_begins : (text : Text) (at : ℕ) → (next_line text at ≡ length text) ⊎ IsLfAt text (next_line text at - 1)
@@ -85,20 +82,6 @@ restarts_at_next_line text fault has none at begin end less lf =
 
 abbrev lines_sum : List Text → ℕ
 lines_sum ls = sum_by (λ (line : Text). length line) ls
-
--- a line with an LF nowhere but at its end
-one_line : (line : Text) → 0 < length line → is_line line ≡ true → lines line ≡ line ∷ []
-unfolding lines
-one_line [] some one = absurd (omega (arith, some))
-one_line (b ∷ []) some one = by (is_lf b)
-  where
-    by : (lf : Bool) → (if lf then (b ∷ []) ∷ [] else onto_first b []) ≡ (b ∷ []) ∷ []
-    by true = refl
-    by false = refl
-one_line (b ∷ c ∷ bs) some one =
-    let parts = and_parts (not (is_lf b)) (is_line (c ∷ bs)) one in
-    let other : is_lf b ≡ false = not-true (is_lf b) parts.0 in
-    rw other (ap (onto_first b) (one_line (c ∷ bs) (omega arith) parts.1))
 
 whole_both : (one other : Text) → has_whole_lines one ≡ true → has_whole_lines other ≡ true → has_whole_lines (one ++ other) ≡ true
 whole_both [] other h k = k
@@ -151,7 +134,7 @@ passed text (line ∷ more) e = by (is_comment_only line) refl (passed split.res
         alone (inr found) =
             let size : length line ≡ length found.0 + 1 = ap length found.1 ∙ length-append found.0 (10 ∷ []) in
             ap (list_all is_comment_only) (lines_followed line later.front (whole_line found.0 found.1))
-            ∙ ap (λ (ls : List Text). list_all is_comment_only (ls ++ lines later.front)) (one_line line (omega (arith, size)) split.one)
+            ∙ ap (λ (ls : List Text). list_all is_comment_only (ls ++ lines later.front)) (one_line line split.one (omega (arith, size)))
             ∙ ap (λ (b : Bool). b && list_all is_comment_only (lines later.front)) is ∙ later.alone
 
         ended : (split.rest ≡ []) ⊎ ((front : Text) × (line ≡ front ++ 10 ∷ [])) → (later.rest ≡ []) ⊎ (has_whole_lines later.front ≡ true) → (later.rest ≡ []) ⊎ (has_whole_lines (line ++ later.front) ≡ true)
@@ -304,17 +287,6 @@ stopped_code : (text : Text) (fault : Spanned Fault) → fault.end ≡ fault.beg
 unfolding stopped_at
 stopped_code text fault empty none = rw none (omega (arith, empty))
 
-no_len : (text : Text) → begins_with_line_end text ≡ false → line_end_len text ≡ 0
-no_len text h = by (starts_with nat_eq text (codes "\n")) (starts_with nat_eq text (codes "\r\n")) h
-  where
-    len : Bool → Bool → ℕ
-    len one two = if one then 1 else (if two then 2 else 0)
-
-    by : (one two : Bool) → (one || two) ≡ false → len one two ≡ 0
-    by true two h = cc
-    by false true h = cc
-    by false false h = refl
-
 -- a text that begins with a tab, as its first
 tab_here : (text : Text) → begins_with_tab text ≡ true → (found : TabIn text) × (found.comments ≡ [])
 unfolding lines
@@ -366,7 +338,7 @@ restarts_after_tabs text fault has tab = by (is_nothing (after_all nothing here.
         margin = ap (λ n. is_tab fault.node && (n == 0 || begins_with_line_end (drop n text))) start ∙ ap (λ (b : Bool). b && true) tab
 
         len : line_end_len (drop fault.begin text) ≡ 0
-        len = ap (λ n. line_end_len (drop n text)) start ∙ no_len text line
+        len = ap (λ n. line_end_len (drop n text)) start ∙ no_line_end text line
 
         place : (margin_of (drop (fault.begin + line_end_len (drop fault.begin text)) text)).at ≡ (margin_of text).at
         place = let zero : fault.begin + line_end_len (drop fault.begin text) ≡ 0 = omega (arith, start, len) in ap (λ n. (margin_of (drop n text)).at) zero
@@ -404,7 +376,7 @@ restarts_after_tabs text fault has tab = by (is_nothing (after_all nothing here.
             stopped false is = stopped_code text fault empty is
             stopped true is =
                 let start : fault.begin ≡ 0 = eqb-true fault.begin 0 (start_of (fault.begin == 0) (begins_with_line_end (drop fault.begin text)) line (and_parts (is_tab fault.node) _ is).1) in
-                let zero : fault.begin + line_end_len (drop fault.begin text) ≡ 0 = omega (arith, start, no_len (drop fault.begin text) line) in
+                let zero : fault.begin + line_end_len (drop fault.begin text) ≡ 0 = omega (arith, start, no_line_end (drop fault.begin text) line) in
                 let place : (margin_of (drop (fault.begin + line_end_len (drop fault.begin text)) text)).at ≡ 0 = ap (λ n. (margin_of (drop n text)).at) zero ∙ first start in
                 stopped_margin text fault empty is ∙ omega (arith, zero, place, start)
               where

@@ -26,7 +26,7 @@ use Rattle.starlark_grammar.proofs.Reading.Steps.{is_nothing}
 use Rattle.starlark_grammar.proofs.Reading.Readings.{piece_fits, started}
 use Rattle.starlark_grammar.proofs.Joining.Followed.{ends_line, ends_line_drop, longest_followed}
 use Rattle.starlark_grammar.proofs.Joining.FollowedMargins.{Followed, Whole, Within, followed, has_whole_lines, whole_after}
-use Rattle.starlark_grammar.proofs.Joining.FollowedPieces.{bang_followed, opening_followed, opening_inside, word_inside}
+use Rattle.starlark_grammar.proofs.Joining.FollowedPieces.{FrontGoesOn, bang_followed, bang_stays, code_step, front_goes_on, opening_followed, opening_inside, word_inside}
 use Rattle.starlark_grammar.proofs.Joining.Joined.{step_within, whole_from_ends}
 use Rattle.starlark_grammar.proofs.Joining.LaidCuts.{reading_shortened}
 use Rattle.starlark_grammar.proofs.Joining.Tabs.{outcome_by}
@@ -34,9 +34,10 @@ use Rattle.starlark_grammar.specs.Joining.{is_decided}
 use Rattle.starlark_grammar.specs.Recovery.{is_margin_tab, is_tab, line_end_len, margin_line, next_line, restart, stopped_at}
 use Rattle.starlark_grammar.proofs.Recovery.FollowedStops.{StopInside, body_single}
 use Rattle.starlark_grammar.proofs.Recovery.FollowedFaults.{chunk_same, escape_reads, fault_end, same_fault, unfinished_followed}
-use Rattle.starlark_grammar.proofs.Recovery.MarginTabs.{BeginsLine, line_end_stands, line_is, tab_next, word_line}
+use Rattle.starlark_grammar.proofs.Recovery.MarginTabs.{BeginsLine, line_end_stands, line_is, no_line_end, tab_next, word_line}
 use Rattle.starlark_grammar.proofs.Recovery.DecidedFaults.{FaultRead, decided, decided_faults_stay, fault_read}
-use Rattle.starlark_grammar.proofs.Recovery.ShortenedStops.{body_short, character_shortened}
+use Rattle.starlark_grammar.proofs.Joining.ShortenedBodies.{character_shortened}
+use Rattle.starlark_grammar.proofs.Recovery.ShortenedStops.{body_short}
 
 -- Margins
 
@@ -177,45 +178,25 @@ front_short s text more None found h known e less =
     let end : length (first_character (text ++ more)) ≡ found.end = fault_end _ found e in
     inl (ap (λ (t : Text). fault 0 (InvalidInput t) (length t)) (character_shortened text more (omega (arith, less, end))) ∙ e)
 front_short s text more (Some front) found h known e less =
-    by (word_short s front.0 (take front.1 text) (drop front.1 text) more found ends (language_lines (take front.1 text) front.0 sound.2) (whole_after front.1 text (whole_from_ends text h)) (sym again ∙ e) (omega (arith, less, len, length-drop front.1 text, sound.1)))
+    by (word_short s front.0 (take front.1 text) (drop front.1 text) more found goes.ends (language_lines (take front.1 text) front.0 goes.sound.2) (whole_after front.1 text (whole_from_ends text h)) (sym goes.again ∙ e) (omega (arith, less, goes.len, length-drop front.1 text, goes.sound.1)))
   where
-    sound : (1 ≤ front.1) × (front.1 ≤ length text) × (class_in language (take front.1 text) ≡ Some front.0)
-    sound = front_sound (class_in language) text front.0 front.1 known
-
-    ends : in_line (take front.1 text) ≡ true → ends_line (drop front.1 text) ≡ true
-    ends line = ends_line_drop front.1 text (word_inside front.1 text h line) h
-
-    again : front_step s (text ++ more) (Some front) ≡ word_step s front.0 (take front.1 text) (drop front.1 text ++ more)
-    again =
-        ap (λ (t : Text). word_step s front.0 t (drop front.1 (text ++ more))) (take-append-le front.1 text more sound.1)
-        ∙ ap (λ (t : Text). word_step s front.0 (take front.1 text) t) (drop-append-le front.1 text more sound.1)
-
-    len : length (take front.1 text) ≡ front.1
-    len = length-take-le front.1 text sound.1
+    goes : FrontGoesOn s text more front
+    goes = front_goes_on s text more front h known
 
     by : (word_step s front.0 (take front.1 text) (drop front.1 text) ≡ Fails found) ⊎ ((front.0 ≡ word.LineEnd) × MarginBeyond (drop front.1 text) more found) → (front_step s text (Some front) ≡ Fails found) ⊎ LineBeyond text more found
     by (inl fails) = inl fails
     by (inr beyond) =
         let line : longest_front (class_in language) (text ++ more) ≡ Some (word.LineEnd, front.1) = longest_followed text more h ∙ known ∙ ap (λ (class : Class). Some (class, front.1)) beyond.0 in
-        inr (record { n = front.1; line = word_line (text ++ more) front.1 line; inside = sound.1; beyond = beyond.1 })
+        inr (record { n = front.1; line = word_line (text ++ more) front.1 line; inside = goes.sound.1; beyond = beyond.1 })
 
 code_short : (s : Situation) (text more : Text) (found : Spanned Fault) → ends_line text ≡ true → in_code language s (text ++ more) ≡ Fails found → found.end < length text → (in_code language s text ≡ Fails found) ⊎ LineBeyond text more found
 code_short s [] more found h e less = cc
 code_short s (b ∷ bs) more found h e less =
     go (takes_bang s.mode s.before && is_bang (b ∷ bs))
-    (sym (ap (λ (front : Option (Class × ℕ)). step (takes_bang s.mode s.before && is_bang (b ∷ (bs ++ more))) (b ∷ (bs ++ more)) front) known
-    ∙ ap (λ bang. step bang (b ∷ (bs ++ more)) (longest_front (class_in language) (b ∷ bs))) same) ∙ e)
+    (sym (ap (λ (front : Option (Class × ℕ)). code_step s (takes_bang s.mode s.before && is_bang (b ∷ (bs ++ more))) (b ∷ (bs ++ more)) front) (longest_followed (b ∷ bs) more h)
+    ∙ ap (λ bang. code_step s bang (b ∷ (bs ++ more)) (longest_front (class_in language) (b ∷ bs))) (bang_stays s b bs more h)) ∙ e)
   where
-    step : Bool → Text → Option (Class × ℕ) → Step
-    step bang text front = if bang then token 1 FStringBang else front_step s text front
-
-    same : (takes_bang s.mode s.before && is_bang (b ∷ (bs ++ more))) ≡ (takes_bang s.mode s.before && is_bang (b ∷ bs))
-    same = ap (λ bang. takes_bang s.mode s.before && bang) (bang_followed b bs more h)
-
-    known : longest_front (class_in language) (b ∷ (bs ++ more)) ≡ longest_front (class_in language) (b ∷ bs)
-    known = longest_followed (b ∷ bs) more h
-
-    go : (bang : Bool) → step bang (b ∷ (bs ++ more)) (longest_front (class_in language) (b ∷ bs)) ≡ Fails found → (step bang (b ∷ bs) (longest_front (class_in language) (b ∷ bs)) ≡ Fails found) ⊎ LineBeyond (b ∷ bs) more found
+    go : (bang : Bool) → code_step s bang (b ∷ (bs ++ more)) (longest_front (class_in language) (b ∷ bs)) ≡ Fails found → (code_step s bang (b ∷ bs) (longest_front (class_in language) (b ∷ bs)) ≡ Fails found) ⊎ LineBeyond (b ∷ bs) more found
     go true e = cc
     go false e = front_short s (b ∷ bs) more (longest_front (class_in language) (b ∷ bs)) found h refl e less
 
@@ -271,17 +252,6 @@ line_begins : (text : Text) (n : ℕ) → BeginsLine text n → begins_with_line
 line_begins text n (inl line) = ap begins_with_line_end line.1
 line_begins text n (inr line) = ap begins_with_line_end line.1
 
-no_line_len : (text : Text) → begins_with_line_end text ≡ false → line_end_len text ≡ 0
-no_line_len text h = by (starts_with nat_eq text (codes "\n")) (starts_with nat_eq text (codes "\r\n")) h
-  where
-    len : Bool → Bool → ℕ
-    len one two = if one then 1 else (if two then 2 else 0)
-
-    by : (one two : Bool) → (one || two) ≡ false → len one two ≡ 0
-    by true two h = cc
-    by false true h = cc
-    by false false h = refl
-
 or_true : (test : Bool) → (test || true) ≡ true
 or_true true = refl
 or_true false = refl
@@ -324,7 +294,7 @@ module _ (text more : Text) (fault : Spanned Fault) (some : 0 < length more) (le
       where
         by : (line : Bool) → begins_with_line_end (text ++ more) ≡ line → first_margin (text ++ more) ≡ Fails here.found → line_end_len (text ++ more) ≡ 0
         by true e fails = absurd (line_end_stands (text ++ more) here.found e fails)
-        by false e fails = no_line_len (text ++ more) e
+        by false e fails = no_line_end (text ++ more) e
 
     after_far : LineBeyond (drop (pieces_len here.pieces) text) more here.found → ⊥
     after_far next =

@@ -1,24 +1,24 @@
 -- Bodies at the front of a text stay where the text ends sooner, with an LF, if they stop before that.
-use Rattle.std.proofs.Common.{◌≡◌, ℕ, zero, suc, ◌+◌, ◌-◌, ◌≤◌, ◌<◌, Bool, true, false, cond, not, [], ◌∷◌, ◌++◌, length, take, drop, refl, ap, ◌∙◌, sym, subst, Option, Some, None, arith, ◌⊎◌, inl, inr}
+use Rattle.std.proofs.Common.{◌≡◌, ℕ, zero, suc, ◌+◌, ◌-◌, ◌≤◌, ◌<◌, Bool, true, false, not, [], ◌∷◌, ◌++◌, length, take, drop, refl, ap, ◌∙◌, sym, subst, Option, Some, None, arith, ◌⊎◌, inl, inr}
 use Rattle.std.specs.Prelude.{⊤, ◌&&◌, ◌==◌, if◌then◌else◌, nat_eq, nat_lt, encode_utf8}
 use Rattle.std.specs.Char.{is_ascii_hexdigit}
 use Rattle.std.specs.List.{prefix_len, starts_with}
 use Rattle.std.specs.Map.{lookup}
-use Rattle.std.specs.Str.{byte, continuation_len}
+use Rattle.std.specs.Str.{byte}
 use Rattle.std.specs.Str.Parse.{digits_value}
 use Rattle.std.proofs.lemmas.Bool.{cases_lt, eqb-true}
-use Rattle.std.proofs.lemmas.List.{drop-append-le, length-append, length-drop, length-take, take-append-le}
+use Rattle.std.proofs.lemmas.List.{drop-append-le, length-drop, take-append-le}
 use Rattle.std.proofs.lemmas.List.Sums.{sum_by-cons}
 use Rattle.starlark_grammar.specs.Words.{Text, is_octal_digit}
 use Rattle.starlark_grammar.specs.declared.class.Quote.{Quote}
 use Rattle.starlark_grammar.specs.declared.class.LiteralKind.{LiteralKind as Kind}
-use Rattle.starlark_grammar.specs.declared.class.LiteralKind.TheVariants.{Text as OfText, Bytes as OfBytes, FString as OfFString}
 use Rattle.starlark_grammar.specs.Items.{Literal, Item, Stop, Closing, Line, Ended, OpeningBrace, ClosingBrace, BadEscape, Found, Goes, Stops, goes, closing_quotes, broken, broken_by, is_character, numbered, hexadecimal, octal, escaped_newline, simple_escapes, simple, is_of_bytes, escape, raw_pair, brace, is_brace, found_at, Body, body_len, body_onward, body_from, body_at}
 use Rattle.starlark_grammar.specs.FrontCharacter.{first_character}
+use Rattle.starlark_grammar.proofs.Choices.{by_test}
 use Rattle.starlark_grammar.proofs.Literals.Bodies.{found_fits, FoundFits}
 use Rattle.starlark_grammar.proofs.Joining.Followed.{ends_line, ends_line_rest}
 use Rattle.starlark_grammar.proofs.Joining.FollowedBodies.{both, both_equal, closing_in_line, starts_followed}
-use Rattle.starlark_grammar.proofs.Joining.ShortenedBodies.{FoundShortened, found_shortened}
+use Rattle.starlark_grammar.proofs.Joining.ShortenedBodies.{FoundShortened, found_shortened, prefix_shortened, character_shortened, octal_of_front, goes_on, no_brace, after_backslash}
 use Rattle.starlark_grammar.proofs.Recovery.FollowedStops.{StopInside, inside_later}
 
 -- Stops
@@ -39,11 +39,6 @@ same_stop len (Stops OpeningBrace) = tt
 same_stop len (Stops ClosingBrace) = refl
 same_stop len (Stops (BadEscape read last)) = λ inside. refl
 
-pub character_shortened : (text more : Text) → length (first_character (text ++ more)) < length text → first_character text ≡ first_character (text ++ more)
-character_shortened [] more inside = absurd (omega (arith, inside))
-character_shortened (b ∷ bs) more inside =
-    ap (λ (rest : Text). b ∷ rest) (sym (take-append-le (continuation_len b) bs more (omega (arith, inside, length-take (continuation_len b) (bs ++ more), length-append bs more))))
-
 -- a bad escape whose bytes in order reach the front's end
 broken_far : (good whole : ℕ) (text : Text) (other : Found) → whole ≤ good → StopShortened whole (broken good text) other
 broken_far good whole [] other h = λ inside. absurd (omega (arith, h, inside))
@@ -53,24 +48,9 @@ broken_short : (good : ℕ) (text more : Text) → StopShortened (good + length 
 broken_short good [] more = broken_far good (good + 0) more (broken good []) (omega arith)
 broken_short good (b ∷ bs) more = λ inside. ap (broken_by good) (character_shortened (b ∷ bs) more (omega (arith, inside)))
 
-goes_short : (whole len : ℕ) (value : Text) (test : Bool) (other : Found) → (len < whole → other ≡ (if test then goes len value else broken len [])) → StopShortened whole (if test then goes len value else broken len []) other
-goes_short whole len value true other h = tt
-goes_short whole len value false other h = h
-
 numbered_short : (whole len : ℕ) (is_byte : Bool) (n : ℕ) (other : Found) → (len < whole → other ≡ numbered len is_byte n) → StopShortened whole (numbered len is_byte n) other
-numbered_short whole len true n other h = goes_short whole len (n ∷ []) (nat_lt n 256) other h
-numbered_short whole len false n other h = goes_short whole len (encode_utf8 n) (is_character n) other h
-
--- a run that ends before the front does
-prefix_shortened : (test : ℕ → Bool) (most : ℕ) (text more : Text) → prefix_len test (take most (text ++ more)) < length text → prefix_len test (take most text) ≡ prefix_len test (take most (text ++ more))
-prefix_shortened test zero text more h = refl
-prefix_shortened test (suc most) [] more h = absurd (omega (arith, h))
-prefix_shortened test (suc most) (b ∷ bs) more h = go (test b) (prefix_shortened test most bs more) h
-  where
-    go : (passes : Bool) → (prefix_len test (take most (bs ++ more)) < length bs → prefix_len test (take most bs) ≡ prefix_len test (take most (bs ++ more)))
-        → cond passes (1 + prefix_len test (take most (bs ++ more))) 0 < length (b ∷ bs) → cond passes (1 + prefix_len test (take most bs)) 0 ≡ cond passes (1 + prefix_len test (take most (bs ++ more))) 0
-    go true rest h = ap (λ n. 1 + n) (rest (omega arith))
-    go false rest h = refl
+numbered_short whole len true n other h = by_test (λ found. StopShortened whole found other) (nat_lt n 256) (goes len (n ∷ [])) (broken len []) (λ yes. tt) (λ no less. h less ∙ rw no refl)
+numbered_short whole len false n other h = by_test (λ found. StopShortened whole found other) (is_character n) (goes len (encode_utf8 n)) (broken len []) (λ yes. tt) (λ no less. h less ∙ rw no refl)
 
 hexadecimal_short : (wanted : ℕ) (is_byte : Bool) (text more : Text) → StopShortened (2 + length text) (hexadecimal wanted is_byte (text ++ more)) (hexadecimal wanted is_byte text)
 hexadecimal_short wanted is_byte text more = go (prefix_len is_ascii_hexdigit (take wanted (text ++ more))) refl
@@ -102,18 +82,7 @@ hexadecimal_short wanted is_byte text more = go (prefix_len is_ascii_hexdigit (t
         (λ miss. short n e miss (cases_lt n (length text)))
 
 octal_short : (is_byte : Bool) (text more : Text) → StopShortened (1 + length text) (octal is_byte (text ++ more)) (octal is_byte text)
-octal_short is_byte text more = go (prefix_len is_octal_digit (take 3 (text ++ more))) refl
-  where
-    by : ℕ → Text → Found
-    by n text = numbered (1 + n) is_byte (digits_value 8 (take n text))
-
-    equal : (n : ℕ) → prefix_len is_octal_digit (take 3 (text ++ more)) ≡ n → 1 + n < 1 + length text → octal is_byte text ≡ by n (text ++ more)
-    equal n e inside =
-        let again : prefix_len is_octal_digit (take 3 text) ≡ n = prefix_shortened is_octal_digit 3 text more (omega (arith, e, inside)) ∙ e in
-        ap (λ n. by n text) again ∙ ap (λ (digits : Text). numbered (1 + n) is_byte (digits_value 8 digits)) (sym (take-append-le n text more (omega (arith, inside))))
-
-    go : (n : ℕ) → prefix_len is_octal_digit (take 3 (text ++ more)) ≡ n → StopShortened (1 + length text) (by n (text ++ more)) (octal is_byte text)
-    go n e = numbered_short (1 + length text) (1 + n) is_byte (digits_value 8 (take n (text ++ more))) _ (equal n e)
+octal_short is_byte text more = numbered_short (1 + length text) _ is_byte _ _ (octal_of_front is_byte text more (prefix_len is_octal_digit (take 3 (text ++ more))) refl)
 
 escaped_feed_short : (text more : Text) → StopShortened (2 + length text) (escaped_newline (text ++ more)) (escaped_newline text)
 escaped_feed_short [] [] = broken_far 2 2 [] (broken 2 []) (omega arith)
@@ -143,19 +112,6 @@ unfolding raw_pair
 raw_pair_short whole kind quote [] other = tt
 raw_pair_short whole kind quote (b ∷ bs) other = tt
 
--- after a byte that is no LF a text that ends with one goes on
-goes_on : (b : ℕ) (bs : Text) → ends_line (b ∷ bs) ≡ true → (b ≡ 10 → ⊥) → 0 < length bs
-goes_on b [] h other = absurd (other (eqb-true b 10 h))
-goes_on b (c ∷ cs) h other = omega arith
-
-no_brace : (kind : Kind) (b : ℕ) → is_brace kind b ≡ true → b ≡ 10 → ⊥
-no_brace kind b h e = go kind (subst (λ n. is_brace kind n ≡ true) e h)
-  where
-    go : (kind : Kind) → is_brace kind 10 ≡ true → ⊥
-    go OfText e = cc
-    go OfBytes e = cc
-    go OfFString e = cc
-
 brace_short : (len b : ℕ) (bs more : Text) → 0 < length bs → StopShortened len (brace b (bs ++ more)) (brace b bs)
 brace_short len b [] more some = absurd (omega (arith, some))
 brace_short len b (c ∷ cs) more some = same_stop len (brace b (c ∷ cs))
@@ -166,12 +122,11 @@ stop_shortened literal [] more h = cc
 stop_shortened literal (b ∷ bs) more h =
     let P : Found → Found → Type 0 = StopShortened (length (b ∷ bs)) in
     let one : 1 + length bs ≡ length (b ∷ bs) = omega arith in
-    let backslash : b ≡ 92 → 0 < length bs = λ e. goes_on b bs h (λ feed. omega (arith, e, feed)) in
     both_equal P (starts_with nat_eq (b ∷ (bs ++ more)) (closing_quotes literal.opening)) (starts_with nat_eq (b ∷ bs) (closing_quotes literal.opening)) _ _ _ _ (sym (starts_followed (b ∷ bs) (closing_quotes literal.opening) more h (closing_in_line literal.opening))) tt
     (both P (b == byte "\n" && not literal.opening.is_triple) _ _ _ _ (λ e. refl) (λ e.
     both P (b == byte "\r") _ _ _ _ (λ e. tt) (λ e.
     both P (b == byte "\\" && literal.opening.is_raw) _ _ _ _ (λ e. raw_pair_short _ literal.kind literal.opening.quote (bs ++ more) _) (λ e.
-    both P (b == byte "\\") _ _ _ _ (λ e. subst (λ n. StopShortened n (escape literal.kind (bs ++ more)) (escape literal.kind bs)) one (escape_short literal.kind bs more (backslash (eqb-true b 92 e)))) (λ e.
+    both P (b == byte "\\") _ _ _ _ (λ e. subst (λ n. StopShortened n (escape literal.kind (bs ++ more)) (escape literal.kind bs)) one (escape_short literal.kind bs more (after_backslash b bs h (eqb-true b 92 e)))) (λ e.
     both P (is_brace literal.kind b) _ _ _ _ (λ e. brace_short _ b bs more (goes_on b bs h (no_brace literal.kind b e))) (λ e. tt))))))
 
 -- Bodies

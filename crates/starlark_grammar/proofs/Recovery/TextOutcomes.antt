@@ -1,7 +1,6 @@
 -- Where lexing begins again, and the outcomes of a text by its own.
-use Rattle.std.proofs.Common.{◌≡◌, ℕ, zero, suc, ◌-◌, ◌<◌, ◌≤◌, List, [], ◌∷◌, map, length, drop, refl, ap, sym, ◌∙◌, arith, None, Some}
+use Rattle.std.proofs.Common.{◌≡◌, ℕ, suc, ◌-◌, ◌<◌, ◌≤◌, [], ◌∷◌, map, length, drop, refl, ap, sym, ◌∙◌, arith, None}
 use Rattle.std.proofs.lemmas.List.{append-nil}
-use Rattle.std.specs.Prelude.{Option}
 use Rattle.starlark_grammar.proofs.Lists.{drop-remainder}
 use Rattle.starlark_grammar.proofs.Reading.Faults.{outcome_fault}
 use Rattle.starlark_grammar.proofs.Rows.Shapes.{all_definitions}
@@ -19,26 +18,13 @@ empty_faultless = refl
 -- with some bytes passed over, the outcomes are those of what is left
 pub outcomes_after : (passed : ℕ) (text : Text) → outcomes_from passed text ≡ outcomes (drop passed text)
 unfolding outcomes outcomes_from
-outcomes_after zero [] = refl
-outcomes_after (suc passed) [] = refl
-outcomes_after zero (b ∷ bs) = refl
 outcomes_after (suc passed) (b ∷ bs) = outcomes_after passed bs
-
-on_none : (text : Text) (found : Outcome) (fault : Option (Spanned Fault)) (rest : ℕ → List Outcome) → fault ≡ None → outcomes_on text found fault rest ≡ found ∷ []
-on_none text found None rest none = refl
-on_none text found (Some fault) rest none = cc
-
-on_some : (text : Text) (found : Outcome) (has : Option (Spanned Fault)) (rest : ℕ → List Outcome) (fault : Spanned Fault) → has ≡ Some fault
-    → outcomes_on text found has rest ≡ found ∷ map (moved_outcome (restart text fault)) (rest (restart text fault))
-on_some text found None rest fault some = cc
-on_some text found (Some other) rest fault some =
-    let same : other ≡ fault = cc in
-    ap (λ f. found ∷ map (moved_outcome (restart text f)) (rest (restart text f))) same
+outcomes_after passed text = refl
 
 pub faultless : FaultlessIsOutcome
 unfolding outcomes outcomes_from
 faultless [] none = refl
-faultless (b ∷ bs) none = on_none (b ∷ bs) (outcome (b ∷ bs)) (outcome (b ∷ bs)).fault _ none
+faultless (b ∷ bs) none = ap (λ has. outcomes_on (b ∷ bs) (outcome (b ∷ bs)) has (λ at. outcomes_from (at - 1) bs)) none
 
 pub faultless_recovers : FaultlessRecovers
 unfolding recovered
@@ -56,14 +42,16 @@ pub restart_later : (text : Text) (fault : Spanned Fault) → 0 < length text �
 unfolding restart next_line
 restart_later text fault some = omega arith
 
+-- the rest after a fault, as the outcomes are computed
+pub rest_is : (b : ℕ) (bs : Text) (fault : Spanned Fault) → drop (restart (b ∷ bs) fault - 1) bs ≡ drop (restart (b ∷ bs) fault) (b ∷ bs)
+rest_is b bs fault = sym (drop-remainder (restart (b ∷ bs) fault) b bs (restart_later (b ∷ bs) fault (omega arith)))
+
 pub lexes_on : LexesOn
 unfolding outcomes outcomes_from
 lexes_on [] fault has = let none = empty_faultless in cc
 lexes_on (b ∷ bs) fault has =
-    let later = restart_later (b ∷ bs) fault (omega arith) in
-    let rest = outcomes_after (restart (b ∷ bs) fault - 1) bs ∙ ap outcomes (sym (drop-remainder (restart (b ∷ bs) fault) b bs later)) in
-    on_some (b ∷ bs) (outcome (b ∷ bs)) (outcome (b ∷ bs)).fault (λ at. outcomes_from (at - 1) bs) fault has
-    ∙ ap (λ os. outcome (b ∷ bs) ∷ map (moved_outcome (restart (b ∷ bs) fault)) os) rest
+    let rest = outcomes_after (restart (b ∷ bs) fault - 1) bs ∙ ap outcomes (rest_is b bs fault) in
+    ap (λ has. outcomes_on (b ∷ bs) (outcome (b ∷ bs)) has (λ at. outcomes_from (at - 1) bs)) has ∙ ap (λ os. outcome (b ∷ bs) ∷ map (moved_outcome (restart (b ∷ bs) fault)) os) rest
 
 -- it begins after all bytes of the fault, and inside of the text
 pub restart_bounds : (text : Text) (fault : Spanned Fault) → fault.end ≤ length text → (fault.end ≤ restart text fault) × (restart text fault ≤ length text)

@@ -1,115 +1,56 @@
 -- Clean cuts, kept cuts and joined texts, closed by computing.
 use Rattle.std.proofs.Common.{◌≡◌, refl}
-use Rattle.std.specs.Prelude.{ℕ, true, false, [], ◌∷◌, ◌++◌, length, codes, Option, Some}
+use Rattle.std.specs.Prelude.{ℕ, true, false, [], ◌∷◌, ◌++◌, length, codes, Option, Some, List}
 use Rattle.starlark_grammar.specs.Words.{Text}
 use Rattle.starlark_grammar.specs.declared.class.Terminal.TheVariants.{OpeningRound, ClosingRound}
 use Rattle.starlark_grammar.specs.Tokens.{Comment, Newline, Identifier, Word, Spanned, Lexeme, Fault, InvalidTab, Outcome}
 use Rattle.starlark_grammar.specs.Margins.{margin_of}
 use Rattle.starlark_grammar.specs.Reading.{outcome}
 use Rattle.starlark_grammar.specs.Cuts.{is_settled, is_clean_cut_in, is_clean_cut, is_kept_cut, without_closing, joined, tabbed}
-use Rattle.starlark_grammar.proofs.Rows.Shapes.{at, all_definitions}
+use Rattle.starlark_grammar.proofs.Rows.Shapes.{at, all_definitions, Pass, Fail}
+use Rattle.std.specs.List.{list_all, list_any}
 
 -- the lexemes of two texts joined are the joined list
 abbrev Joins : Text → Text → Type 0
 Joins first second = (outcome (first ++ second)).lexemes ≡ joined (length first) (outcome first).lexemes (outcome second).lexemes
 
--- whether a text is a clean cut
-clean_cuts_1 :
-    (is_clean_cut (codes "x") ≡ false)
-    × (is_clean_cut (codes "x\n") ≡ true)
-    × (is_clean_cut (codes "x\n\n") ≡ true)
-    × (is_clean_cut (codes "x\n# a\n") ≡ true)
-    × (is_clean_cut (codes "x\n# a") ≡ false)
-    × (is_clean_cut (codes "# a") ≡ false)
-    × (is_clean_cut (codes "# a\n") ≡ true)
-    × (is_clean_cut (codes "x\n  \n") ≡ true)
+-- whether a text is a clean cut …
+clean_cuts : Pass is_clean_cut
+    (codes "x\n" ∷ codes "x\n\n" ∷ codes "x\n# a\n" ∷ codes "# a\n" ∷ codes "x\n  \n" ∷
+    codes "x\n  # a\n" ∷ codes "f\"{x}\"\n" ∷ codes "f\"{(}\"\n" ∷ codes " x\ny\n" ∷
+    codes "x\n\r\n" ∷ codes "\r\n" ∷ codes "f\"{\n}\"\n" ∷ codes ")(\n" ∷
+    codes "\"\"\"\n\"\"\"\n" ∷ codes "\n" ∷ codes "# c\r\n" ∷ codes "(\n)\n" ∷ codes "x\r\n" ∷
+    codes "  \n" ∷ [])
 unfolding all_definitions is_settled is_clean_cut_in is_clean_cut is_kept_cut
-clean_cuts_1 = (refl, refl, refl, refl, refl, refl, refl, refl)
+clean_cuts = refl
 
--- whether a text is a clean cut
-clean_cuts_2 :
-    (is_clean_cut (codes "x\n  # a\n") ≡ true)
-    × (is_clean_cut (codes "x\\\n") ≡ false)
-    × (is_clean_cut (codes "'''\n") ≡ false)
-    × (is_clean_cut (codes "(\n") ≡ false)
-    × (is_clean_cut (codes "f\"{x}\"\n") ≡ true)
-    × (is_clean_cut (codes "f\"{(}\"\n") ≡ true)
-    × (is_clean_cut (codes " x\ny\n") ≡ true)
-    × (is_clean_cut (codes "x\n\r\n") ≡ true)
+-- … and whether it isn't one
+no_clean_cuts : Fail is_clean_cut
+    (codes "x" ∷ codes "x\n# a" ∷ codes "# a" ∷ codes "x\\\n" ∷ codes "'''\n" ∷ codes "(\n" ∷
+    codes "x\n\r" ∷ codes " " ∷ codes "# a\r" ∷ codes "{\n" ∷ codes "'a\n'\n" ∷ codes "f\"{x\n" ∷
+    codes "\\\n" ∷ codes "if x:\n  y\n" ∷ [] ∷ codes " x\n" ∷ codes "a)\n" ∷ codes "x\n " ∷
+    codes "x\n$\n" ∷ [])
 unfolding all_definitions is_settled is_clean_cut_in is_clean_cut is_kept_cut
-clean_cuts_2 = (refl, refl, refl, refl, refl, refl, refl, refl)
+no_clean_cuts = refl
 
--- whether a text is a clean cut
-clean_cuts_3 :
-    (is_clean_cut (codes "x\n\r") ≡ false)
-    × (is_clean_cut (codes "\r\n") ≡ true)
-    × (is_clean_cut (codes " ") ≡ false)
-    × (is_clean_cut (codes "# a\r") ≡ false)
-    × (is_clean_cut (codes "f\"{\n}\"\n") ≡ true)
-    × (is_clean_cut (codes ")(\n") ≡ true)
-    × (is_clean_cut (codes "{\n") ≡ false)
-    × (is_clean_cut (codes "'a\n'\n") ≡ false)
-unfolding all_definitions is_settled is_clean_cut_in is_clean_cut is_kept_cut
-clean_cuts_3 = (refl, refl, refl, refl, refl, refl, refl, refl)
+-- where a text has kept cuts, and where it hasn't
+abbrev Keeps : Text → List ℕ → List ℕ → Type 0
+Keeps text kept other = (list_all (is_kept_cut text) kept ≡ true) × (list_any (is_kept_cut text) other ≡ false)
 
--- whether a text is a clean cut
-clean_cuts_4 :
-    (is_clean_cut (codes "\"\"\"\n\"\"\"\n") ≡ true)
-    × (is_clean_cut (codes "f\"{x\n") ≡ false)
-    × (is_clean_cut (codes "\\\n") ≡ false)
-    × (is_clean_cut (codes "if x:\n  y\n") ≡ false)
-    × (is_clean_cut [] ≡ false)
-    × (is_clean_cut (codes "\n") ≡ true)
-    × (is_clean_cut (codes "# c\r\n") ≡ true)
-    × (is_clean_cut (codes "(\n)\n") ≡ true)
+kept_cuts :
+    Keeps (codes "x\ny\n") (2 ∷ 4 ∷ []) []
+    × Keeps (codes "x\n# c\n\ty") [] (2 ∷ 6 ∷ [])
+    × Keeps (codes "# c\n\tx") [] (4 ∷ [])
+    × Keeps (codes "a\nb\n\tc") (2 ∷ []) (4 ∷ [])
+    × Keeps (codes " x\ny\nz") (5 ∷ []) (3 ∷ [])
+    × Keeps (codes "x\n$\n") (2 ∷ []) (4 ∷ [])
+    × Keeps (codes "(\n)\ny\n") (4 ∷ 6 ∷ []) (2 ∷ [])
+    × Keeps (codes "x\n# a\n# b\ny") (2 ∷ 6 ∷ 10 ∷ []) []
 unfolding all_definitions is_settled is_clean_cut_in is_clean_cut is_kept_cut
-clean_cuts_4 = (refl, refl, refl, refl, refl, refl, refl, refl)
-
--- whether a text is a clean cut
-clean_cuts_5 :
-    (is_clean_cut (codes "x\r\n") ≡ true)
-    × (is_clean_cut (codes "  \n") ≡ true)
-    × (is_clean_cut (codes " x\n") ≡ false)
-    × (is_clean_cut (codes "a)\n") ≡ false)
-    × (is_clean_cut (codes "x\n ") ≡ false)
-    × (is_clean_cut (codes "x\n$\n") ≡ false)
-unfolding all_definitions is_settled is_clean_cut_in is_clean_cut is_kept_cut
-clean_cuts_5 = (refl, refl, refl, refl, refl, refl)
-
--- which places of a text are kept cuts
-kept_cuts_1 :
-    (is_kept_cut (codes "x\ny\n") 2 ≡ true)
-    × (is_kept_cut (codes "x\ny\n") 4 ≡ true)
-    × (is_kept_cut (codes "x\n# c\n\ty") 2 ≡ false)
-    × (is_kept_cut (codes "x\n# c\n\ty") 6 ≡ false)
-    × (is_kept_cut (codes "# c\n\tx") 4 ≡ false)
-    × (is_kept_cut (codes "a\nb\n\tc") 2 ≡ true)
-    × (is_kept_cut (codes "a\nb\n\tc") 4 ≡ false)
-    × (is_kept_cut (codes " x\ny\nz") 3 ≡ false)
-unfolding all_definitions is_settled is_clean_cut_in is_clean_cut is_kept_cut
-kept_cuts_1 = (refl, refl, refl, refl, refl, refl, refl, refl)
-
--- which places of a text are kept cuts
-kept_cuts_2 :
-    (is_kept_cut (codes " x\ny\nz") 5 ≡ true)
-    × (is_kept_cut (codes "x\n$\n") 2 ≡ true)
-    × (is_kept_cut (codes "x\n$\n") 4 ≡ false)
-    × (is_kept_cut (codes "(\n)\ny\n") 2 ≡ false)
-    × (is_kept_cut (codes "(\n)\ny\n") 4 ≡ true)
-    × (is_kept_cut (codes "(\n)\ny\n") 6 ≡ true)
-    × (is_kept_cut (codes "x\n# a\n# b\ny") 2 ≡ true)
-    × (is_kept_cut (codes "x\n# a\n# b\ny") 6 ≡ true)
-unfolding all_definitions is_settled is_clean_cut_in is_clean_cut is_kept_cut
-kept_cuts_2 = (refl, refl, refl, refl, refl, refl, refl, refl)
-
--- which places of a text are kept cuts
-kept_cuts_3 :
-    (is_kept_cut (codes "x\n# a\n# b\ny") 10 ≡ true)
-unfolding all_definitions is_settled is_clean_cut_in is_clean_cut is_kept_cut
-kept_cuts_3 = (refl)
+kept_cuts = ((refl, refl), (refl, refl), (refl, refl), (refl, refl), (refl, refl), (refl, refl), (refl, refl), (refl, refl))
 
 -- texts joined at clean cuts
-joins_1 :
+joins :
     Joins (codes "x\n") (codes "# a\ny\n")
     × Joins (codes "# a\n") (codes "  # b\n z\n")
     × Joins (codes "x\n") (codes "\n")
@@ -118,12 +59,7 @@ joins_1 :
     × Joins (codes "x\r\n") (codes "f\"{y}\"")
     × Joins (codes " x\ny\n") (codes " z\nw\n")
     × Joins (codes "\n") []
-unfolding all_definitions is_settled is_clean_cut_in is_clean_cut is_kept_cut
-joins_1 = (refl, refl, refl, refl, refl, refl, refl, refl)
-
--- texts joined at clean cuts
-joins_2 :
-    Joins (codes "# a\n") (codes "# b")
+    × Joins (codes "# a\n") (codes "# b")
     × Joins (codes "x\n\n") (codes "\ny")
     × Joins (codes "x\n") (codes "y\n")
     × Joins (codes "if x:\n") (codes "  y\n")
@@ -131,7 +67,7 @@ joins_2 :
     × Joins (codes "x\n") (codes "  y")
     × Joins (codes "x\n") []
 unfolding all_definitions is_settled is_clean_cut_in is_clean_cut is_kept_cut
-joins_2 = (refl, refl, refl, refl, refl, refl, refl)
+joins = (refl, refl, refl, refl, refl, refl, refl, refl, refl, refl, refl, refl, refl, refl, refl)
 
 -- what a clean cut and a text after it with a tab in its first margin come to
 abbrev Tabbed : Text → Text → Outcome → Type 0

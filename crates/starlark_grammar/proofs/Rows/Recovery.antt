@@ -1,7 +1,7 @@
 -- Worked texts that are lexed on after their faults, closed by computing.
 use Rattle.std.proofs.Common.{◌≡◌, List, refl}
 use Rattle.std.specs.Prelude.{⊤, [], ◌∷◌, codes, true, false}
-use Rattle.starlark_grammar.proofs.Rows.Shapes.{all_definitions, at, single, utf8}
+use Rattle.starlark_grammar.proofs.Rows.Shapes.{all_definitions, at, single, utf8, Pass, Fail}
 use Rattle.starlark_grammar.specs.Reading.{outcome}
 use Rattle.starlark_grammar.specs.Tokens.{Fault, Lexeme, Spanned, Newline, Identifier, Indent, Dedent, Word, Comment, FStringStart, InvalidInput, InvalidTab, Indentation, UnfinishedStringLiteral, ReservedKeyword}
 use Rattle.starlark_grammar.specs.Words.{Text}
@@ -44,33 +44,19 @@ rows_2 :
 unfolding all_recovery
 rows_2 = (refl, refl, refl, refl, refl, refl, refl, refl)
 
--- which texts are cuts between lines
-line_cuts_1 :
-    (is_line_cut (codes "x\n") ≡ true)
-    × (is_line_cut (codes "x") ≡ false)
-    × (is_line_cut [] ≡ false)
-    × (is_line_cut (codes "if x:\n  y\n") ≡ true)
-    × (is_line_cut (codes "if x:\n  y\n\n") ≡ true)
-    × (is_line_cut (codes "if x:\n  y\n # c\n") ≡ true)
-    × (is_line_cut (codes "if x:\n  y") ≡ false)
-    × (is_line_cut (codes "if x:\n  y\n ") ≡ false)
+-- which texts are cuts between lines …
+line_cuts : Pass is_line_cut
+    (codes "x\n" ∷ codes "if x:\n  y\n" ∷ codes "if x:\n  y\n\n" ∷ codes "if x:\n  y\n # c\n" ∷
+    codes "f(\n)\n" ∷ codes "# c\n" ∷ codes "\n" ∷ codes " x\r\n" ∷ [])
 unfolding all_definitions is_between_lines is_line_cut
-line_cuts_1 = (refl, refl, refl, refl, refl, refl, refl, refl)
+line_cuts = refl
 
--- which texts are cuts between lines
-line_cuts_2 :
-    (is_line_cut (codes "f(\n") ≡ false)
-    × (is_line_cut (codes "f(\n)\n") ≡ true)
-    × (is_line_cut (codes "'''\n") ≡ false)
-    × (is_line_cut (codes "f\"{x\n") ≡ false)
-    × (is_line_cut (codes "x\\\n") ≡ false)
-    × (is_line_cut (codes "x $\n") ≡ false)
-    × (is_line_cut (codes "# c\n") ≡ true)
-    × (is_line_cut (codes "# c") ≡ false)
-    × (is_line_cut (codes "\n") ≡ true)
-    × (is_line_cut (codes " x\r\n") ≡ true)
+-- … and which aren't
+no_line_cuts : Fail is_line_cut
+    (codes "x" ∷ [] ∷ codes "if x:\n  y" ∷ codes "if x:\n  y\n " ∷ codes "f(\n" ∷ codes "'''\n" ∷
+    codes "f\"{x\n" ∷ codes "x\\\n" ∷ codes "x $\n" ∷ codes "# c" ∷ [])
 unfolding all_definitions is_between_lines is_line_cut
-line_cuts_2 = (refl, refl, refl, refl, refl, refl, refl, refl, refl, refl)
+no_line_cuts = refl
 
 -- the text without its closing `Newline` has these lexemes
 abbrev Joins : Text → List Lexeme → Type 0
@@ -93,18 +79,17 @@ last_newlines :
     × (without_last_newline (at 0 Newline 1 ∷ at 1 Newline 2 ∷ at 2 Dedent 2 ∷ []) ≡ at 0 Newline 1 ∷ at 2 Dedent 2 ∷ [])
 last_newlines = (refl, refl, refl)
 
--- which texts begin plainly
-plain_texts :
-    (begins_plainly (codes "x") ≡ true)
-    × (begins_plainly (codes "$\n") ≡ true)
-    × (begins_plainly [] ≡ false)
-    × (begins_plainly (codes "\n") ≡ false)
-    × (begins_plainly (codes "# c\nx") ≡ false)
-    × (begins_plainly (codes " x") ≡ false)
-    × (begins_plainly (codes "\tx") ≡ false)
-    × (begins_plainly (codes "\rx") ≡ false)
+-- which texts begin plainly …
+plain_texts : Pass begins_plainly
+    (codes "x" ∷ codes "$\n" ∷ [])
 unfolding begins_plainly
-plain_texts = (refl, refl, refl, refl, refl, refl, refl, refl)
+plain_texts = refl
+
+-- … and which don't
+other_texts : Fail begins_plainly
+    ([] ∷ codes "\n" ∷ codes "# c\nx" ∷ codes " x" ∷ codes "\tx" ∷ codes "\rx" ∷ [])
+unfolding begins_plainly
+other_texts = refl
 
 -- whether a fault is decided: not at the text's end, and not where no LF ends the text
 decided_rows :
@@ -122,27 +107,15 @@ unfolding is_decided
 decided_rows = (refl, refl, refl, refl, refl, refl, refl, refl, refl, refl)
 
 -- closed texts: cuts between lines, and texts with decided faults and such a cut or nothing after them
-closed_rows :
-    (is_closed [] ≡ true)
-    × (is_closed (codes "x\n") ≡ true)
-    × (is_closed (codes "$\n") ≡ true)
-    × (is_closed (codes "'a\n") ≡ true)
-    × (is_closed (codes "f'a\nb\n") ≡ true)
-    × (is_closed (codes "x\n\ty\n") ≡ true)
-    × (is_closed (codes "(\n$\nx\n") ≡ true)
-    × (is_closed (codes "$\n x\n") ≡ true)
+closed_rows : Pass is_closed
+    ([] ∷ codes "x\n" ∷ codes "$\n" ∷ codes "'a\n" ∷ codes "f'a\nb\n" ∷ codes "x\n\ty\n" ∷
+    codes "(\n$\nx\n" ∷ codes "$\n x\n" ∷ [])
 unfolding all_recovery is_between_lines is_line_cut is_decided is_closed_from is_closed
-closed_rows = (refl, refl, refl, refl, refl, refl, refl, refl)
+closed_rows = refl
 
 -- texts that aren't closed: by their end, by a fault at their end, and by what is open there
-open_rows :
-    (is_closed (codes "x") ≡ false)
-    × (is_closed (codes "$") ≡ false)
-    × (is_closed (codes "$\nx") ≡ false)
-    × (is_closed (codes "f'a\n") ≡ false)
-    × (is_closed (codes "f'a\\\n") ≡ false)
-    × (is_closed (codes "\"\"\"a\n") ≡ false)
-    × (is_closed (codes "$\n(\n") ≡ false)
-    × (is_closed (codes "$\nif") ≡ false)
+open_rows : Fail is_closed
+    (codes "x" ∷ codes "$" ∷ codes "$\nx" ∷ codes "f'a\n" ∷ codes "f'a\\\n" ∷ codes "\"\"\"a\n" ∷
+    codes "$\n(\n" ∷ codes "$\nif" ∷ [])
 unfolding all_recovery is_between_lines is_line_cut is_decided is_closed_from is_closed
-open_rows = (refl, refl, refl, refl, refl, refl, refl, refl)
+open_rows = refl

@@ -2,6 +2,7 @@
 use Rattle.std.proofs.Common.{◌≡◌}
 use Rattle.std.proofs.Math.Utf8.{encode}
 use Rattle.std.specs.Prelude.{⊤, ℕ, Bool, true, false, Some, None, List, codes, encode_utf8_all}
+use Rattle.std.specs.List.{list_all, list_any}
 use Rattle.starlark_grammar.specs.Words.{Text, Quote, SingleQuote, DoubleQuote, class_in, openers, line_ends, symbols, names, patterns, language}
 use Rattle.starlark_grammar.specs.Tokens.{Token, FStringStart, Fault, Spanned, Lexeme}
 use Rattle.starlark_grammar.specs.Front.{longest_front}
@@ -47,6 +48,14 @@ Lexes text lexemes = outcome text ≡ record { lexemes = lexemes; fault = None }
 -- the text has these lexemes and then this fault
 abbrev pub Stops : Text → List Lexeme → Spanned Fault → Type 0
 Stops text lexemes fault = outcome text ≡ record { lexemes = lexemes; fault = Some fault }
+
+-- all these texts pass a test …
+abbrev pub Pass : (Text → Bool) → List Text → Type 0
+Pass test texts = list_all test texts ≡ true
+
+-- … or fail it
+abbrev pub Fail : (Text → Bool) → List Text → Type 0
+Fail test texts = list_any test texts ≡ false
 
 -- What a row computes with: to unfold this is to unfold each of them.
 unfoldable pub all_definitions : Type 0

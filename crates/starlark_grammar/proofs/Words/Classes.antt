@@ -1,6 +1,6 @@
 -- What a word of a class is, where the language has the class only for the words of one pattern.
 use Rattle.std.proofs.Common.{◌≡◌, ℕ, ◌<◌, ◌≤◌, Bool, true, false, cond, List, [], ◌∷◌, drop, refl, ◌∙◌, sym, subst, Option, Some, None, arith, ◌||◌, nat_eq}
-use Rattle.std.specs.Prelude.{◌&&◌, ◌==◌}
+use Rattle.std.specs.Prelude.{◌&&◌, ◌==◌, codes}
 use Rattle.std.specs.Char.{is_ascii_digit, is_ascii_hexdigit, is_digit}
 use Rattle.std.specs.List.{list_all}
 use Rattle.std.specs.Map.{lookup}
@@ -10,7 +10,7 @@ use Rattle.std.proofs.lemmas.Bool.{and_parts, eqb-true}
 use Rattle.std.proofs.lemmas.Bool.Decides.{nat_tests}
 use Rattle.std.proofs.lemmas.Slice.Eq.{bytes_eq-Decides}
 use Rattle.std.proofs.lemmas.Str.{IsCharBoundary-after_ascii}
-use Rattle.starlark_grammar.specs.Words.{Text, Class, Skipped, Comment, Tabs, Identifier, Decimal, Hexadecimal, Octal, Binary, Float, class_in, openers, line_ends, symbols, names, patterns, language, is_run, is_identifier, is_comment, is_based, is_octal_digit, is_binary_digit, is_float, is_pointed, is_sign, unsigned}
+use Rattle.starlark_grammar.specs.Words.{Text, Class, Skipped, Comment, Tabs, LineEnd, Identifier, Decimal, Hexadecimal, Octal, Binary, Float, class_in, openers, line_ends, symbols, names, patterns, language, is_run, is_identifier, is_comment, is_based, is_octal_digit, is_binary_digit, is_float, is_pointed, is_sign, unsigned}
 use Rattle.starlark_grammar.specs.Numbers.{integer_of, integer_in}
 use Rattle.starlark_grammar.proofs.Words.Tables.{class_in-language}
 
@@ -36,26 +36,64 @@ part_fits : (fits : Class → Text → Bool) (word : Text) (class : Class) (foun
 part_fits fits word class None rest h k e = k e
 part_fits fits word class (Some other) rest h k e = h e
 
+-- whether it is passed by each row of the four lists
+abbrev pub RowsFit : (Class → Text → Bool) → Type 0
+RowsFit fits = (all_fit fits openers ≡ true) × (all_fit fits line_ends ≡ true) × (all_fit fits symbols ≡ true) × (all_fit fits names ≡ true)
+
 -- Where the rows of all lists and the patterns pass it, each word of the language and its class do.
-pub language_all_fit : (fits : Class → Text → Bool) → all_fit fits openers ≡ true → all_fit fits line_ends ≡ true → all_fit fits symbols ≡ true → all_fit fits names ≡ true
+pub language_all_fit : (fits : Class → Text → Bool) → RowsFit fits
     → ((word : Text) (class : Class) → class_in patterns word ≡ Some class → fits class word ≡ true)
     → (word : Text) (class : Class) → class_in language word ≡ Some class → fits class word ≡ true
-language_all_fit fits by_openers by_line_ends by_symbols by_names by_patterns word class e =
-    part_fits fits word class (lookup (bytes_eq word) openers) _ (lookup_fits fits word openers class by_openers)
-    (part_fits fits word class (lookup (bytes_eq word) line_ends) _ (lookup_fits fits word line_ends class by_line_ends)
-    (part_fits fits word class (lookup (bytes_eq word) symbols) _ (lookup_fits fits word symbols class by_symbols)
-    (part_fits fits word class (lookup (bytes_eq word) names) _ (lookup_fits fits word names class by_names) (by_patterns word class))))
+language_all_fit fits by_rows by_patterns word class e =
+    part_fits fits word class (lookup (bytes_eq word) openers) _ (lookup_fits fits word openers class by_rows.0)
+    (part_fits fits word class (lookup (bytes_eq word) line_ends) _ (lookup_fits fits word line_ends class by_rows.1)
+    (part_fits fits word class (lookup (bytes_eq word) symbols) _ (lookup_fits fits word symbols class by_rows.2)
+    (part_fits fits word class (lookup (bytes_eq word) names) _ (lookup_fits fits word names class by_rows.3) (by_patterns word class))))
     (sym (class_in-language word) ∙ e)
 
 -- one row of tests
-pub row_fits : (fits : Class → Text → Bool) (word : Text) (test : Bool) (class found : Class) (rest : Option Class) → (test ≡ true → fits class word ≡ true) → (rest ≡ Some found → fits found word ≡ true) → cond test (Some class) rest ≡ Some found → fits found word ≡ true
+row_fits : (fits : Class → Text → Bool) (word : Text) (test : Bool) (class found : Class) (rest : Option Class) → (test ≡ true → fits class word ≡ true) → (rest ≡ Some found → fits found word ≡ true) → cond test (Some class) rest ≡ Some found → fits found word ≡ true
 row_fits fits word true class found rest h k e =
     let known : class ≡ found = cc in
     subst (λ (c : Class). fits c word ≡ true) known (h refl)
 row_fits fits word false class found rest h k e = k e
 
-pub none_found : (fits : Class → Text → Bool) (word : Text) (found : Class) → ◌≡◌ {A = Option Class} None (Some found) → fits found word ≡ true
+none_found : (fits : Class → Text → Bool) (word : Text) (found : Class) → ◌≡◌ {A = Option Class} None (Some found) → fits found word ≡ true
 none_found fits word found e = cc
+
+-- Where the words of each pattern pass it with its class, each word of the patterns and its class do.
+pub patterns_all_fit : (fits : Class → Text → Bool) (word : Text)
+    → (is_run (nat_eq 32) word ≡ true → fits Skipped word ≡ true) → (is_comment word ≡ true → fits Comment word ≡ true) → (is_run (nat_eq 9) word ≡ true → fits Tabs word ≡ true)
+    → (is_identifier word ≡ true → fits Identifier word ≡ true) → (is_run is_ascii_digit word ≡ true → fits Decimal word ≡ true)
+    → (is_based 120 88 is_ascii_hexdigit word ≡ true → fits Hexadecimal word ≡ true) → (is_based 111 79 is_octal_digit word ≡ true → fits Octal word ≡ true)
+    → (is_based 98 66 is_binary_digit word ≡ true → fits Binary word ≡ true) → (is_float word ≡ true → fits Float word ≡ true) → (is_pointed word ≡ true → fits Float word ≡ true)
+    → (class : Class) → class_in patterns word ≡ Some class → fits class word ≡ true
+unfolding class_in patterns
+patterns_all_fit fits word spaces comment tabs identifier decimal hexadecimal octal binary float pointed class =
+    row_fits fits word (is_run (nat_eq 32) word) Skipped class _ spaces
+    (row_fits fits word (is_comment word) Comment class _ comment
+    (row_fits fits word (is_run (nat_eq 9) word) Tabs class _ tabs
+    (row_fits fits word (is_identifier word) Identifier class _ identifier
+    (row_fits fits word (is_run is_ascii_digit word) Decimal class _ decimal
+    (row_fits fits word (is_based 120 88 is_ascii_hexdigit word) Hexadecimal class _ hexadecimal
+    (row_fits fits word (is_based 111 79 is_octal_digit word) Octal class _ octal
+    (row_fits fits word (is_based 98 66 is_binary_digit word) Binary class _ binary
+    (row_fits fits word (is_float word) Float class _ float
+    (row_fits fits word (is_pointed word) Float class _ pointed (none_found fits word class))))))))))
+
+-- a test of the words of a line end
+abbrev of_line_end : (Text → Bool) → Class → Text → Bool
+of_line_end test LineEnd word = test word
+of_line_end test class word = true
+
+line_end_rows : (test : Text → Bool) → test (codes "\n") ≡ true → test (codes "\r\n") ≡ true → RowsFit (of_line_end test)
+unfolding openers line_ends symbols names
+line_end_rows test one two = (refl, rw (one, two) refl, refl, refl)
+
+-- What both line ends pass, each word of that class does.
+pub line_end_fits : (test : Text → Bool) → test (codes "\n") ≡ true → test (codes "\r\n") ≡ true → (word : Text) → class_in language word ≡ Some LineEnd → test word ≡ true
+line_end_fits test one two word e =
+    language_all_fit (of_line_end test) (line_end_rows test one two) (λ word. patterns_all_fit (of_line_end test) word (λ h. refl) (λ h. refl) (λ h. refl) (λ h. refl) (λ h. refl) (λ h. refl) (λ h. refl) (λ h. refl) (λ h. refl) (λ h. refl)) word LineEnd e
 
 -- The classes of comments and of integers have one pattern each, and no listed word.
 abbrev pub is_of : Class → Text → Bool
@@ -66,38 +104,12 @@ is_of Octal word = is_based 111 79 is_octal_digit word
 is_of Binary word = is_based 98 66 is_binary_digit word
 is_of class word = true
 
-openers_are : all_fit is_of openers ≡ true
-unfolding openers
-openers_are = refl
-
-line_ends_are : all_fit is_of line_ends ≡ true
-unfolding line_ends
-line_ends_are = refl
-
-symbols_are : all_fit is_of symbols ≡ true
-unfolding symbols
-symbols_are = refl
-
-names_are : all_fit is_of names ≡ true
-unfolding names
-names_are = refl
-
-patterns_are : (word : Text) (class : Class) → class_in patterns word ≡ Some class → is_of class word ≡ true
-unfolding class_in patterns
-patterns_are word class =
-    row_fits is_of word (is_run (nat_eq 32) word) Skipped class _ (λ h. refl)
-    (row_fits is_of word (is_comment word) Comment class _ (λ h. h)
-    (row_fits is_of word (is_run (nat_eq 9) word) Tabs class _ (λ h. refl)
-    (row_fits is_of word (is_identifier word) Identifier class _ (λ h. refl)
-    (row_fits is_of word (is_run is_ascii_digit word) Decimal class _ (λ h. h)
-    (row_fits is_of word (is_based 120 88 is_ascii_hexdigit word) Hexadecimal class _ (λ h. h)
-    (row_fits is_of word (is_based 111 79 is_octal_digit word) Octal class _ (λ h. h)
-    (row_fits is_of word (is_based 98 66 is_binary_digit word) Binary class _ (λ h. h)
-    (row_fits is_of word (is_float word) Float class _ (λ h. refl)
-    (row_fits is_of word (is_pointed word) Float class _ (λ h. refl) (none_found is_of word class))))))))))
+rows_are : RowsFit is_of
+unfolding openers line_ends symbols names
+rows_are = (refl, refl, refl, refl)
 
 pub word_is_of : (word : Text) (class : Class) → class_in language word ≡ Some class → is_of class word ≡ true
-word_is_of = language_all_fit is_of openers_are line_ends_are symbols_are names_are patterns_are
+word_is_of = language_all_fit is_of rows_are (λ word. patterns_all_fit is_of word (λ h. refl) (λ h. h) (λ h. refl) (λ h. refl) (λ h. h) (λ h. h) (λ h. h) (λ h. h) (λ h. refl) (λ h. refl))
 
 -- Digits of a base
 

@@ -1,0 +1,108 @@
+"""Texts whose faults keep their lines: each such fault is repaired, with a `;` for each of its bytes, and lexing goes on after it.
+
+A part of a text goes up to the first fault that keeps no line; after it lexing begins again at the next line. A part is found in two
+ways, which give the same: `mended_part` lexes it again with all repairs in it, `passed_part` goes on after a fault as after a token.
+"""
+
+import re
+from typing import NamedTuple
+
+from shared.plain_lexer import (
+    LINE_END, Fault, Lexeme, Situation, comment_lines, indentation, moved_lexeme, outcome, restart, step,
+)
+
+TABS = re.compile(rb"\t*")
+
+
+class Repair(NamedTuple):
+    """The bytes that are replaced for a fault that keeps its line."""
+    begin: int
+    end: int
+
+
+def repair_of(text, lexemes, fault):
+    """The repair of a text's first fault, by the lexemes before it; None where it keeps no line."""
+    kind, begin, end = fault.args[0], fault.begin, fault.end
+    if kind == "InvalidTab":
+        is_in_margin = begin == 0 or LINE_END.match(text, begin)
+        return None if is_in_margin else Repair(begin, TABS.match(text, begin).end())
+    if kind == "InvalidInput":
+        follows_comment = lexemes and lexemes[-1].kind == "Comment" and lexemes[-1].end == begin
+        return None if follows_comment or text[begin:end] == b"}" else Repair(begin, end)
+    return Repair(begin, end) if kind in ("ReservedKeyword", "StartsZero") else None
+
+
+def repaired(text, repair):
+    """The text with a `;` for each byte of a repair."""
+    return text[:repair.begin] + b";" * (repair.end - repair.begin) + text[repair.end:]
+
+
+def mended(text):
+    """The text with all its repairs, up to the first fault that keeps no line; the faults, and the repairs."""
+    faults, repairs = [], []
+    while True:
+        lexemes, fault = outcome(text)
+        repair = fault and repair_of(text, lexemes, fault)
+        if not repair:
+            return text, faults, repairs
+        faults.append(fault)
+        repairs.append(repair)
+        text = repaired(text, repair)
+
+
+def lies_in(lexeme, repairs):
+    """Whether a lexeme has bytes, and begins in one of the repairs."""
+    return lexeme.begin < lexeme.end and any(
+        repair.begin <= lexeme.begin < repair.end for repair in repairs
+    )
+
+
+def mended_part(text):
+    """The lexemes of the first part of a text, its faults that keep their lines, and the one that ends it or None."""
+    filled, faults, repairs = mended(text)
+    lexemes, last = outcome(filled)
+    return [lexeme for lexeme in lexemes if not lies_in(lexeme, repairs)], faults, last
+
+
+def passed_part(text):
+    """The same as `mended_part`: each fault that keeps its line is passed as a token is."""
+    situation, faults = Situation(), []
+    lexemes, offset = comment_lines(text, 0)
+    try:
+        layout, offset = indentation(text, offset, 0, situation.widths)
+        lexemes += layout
+        while offset < len(text) or situation.where() == "Text":
+            offset = pass_piece(text, offset, situation, lexemes, faults)
+    except Fault as fault:
+        return lexemes, faults, fault
+    kinds = ["Newline"] + len(situation.widths) * ["Dedent"]
+    return lexemes + [Lexeme(offset, offset, kind) for kind in kinds], faults, None
+
+
+def pass_piece(text, offset, situation, lexemes, faults):
+    """Takes the piece at an offset, or the fault there if it keeps its line. Returns where it ends."""
+    try:
+        piece, end = step(text, offset, situation)
+    except Fault as fault:
+        repair = repair_of(text, lexemes, fault)
+        if not repair:
+            raise
+        faults.append(fault)
+        return repair.end
+    for lexeme in piece:
+        situation.count(lexeme.kind)
+    lexemes += piece
+    return end
+
+
+def found_in(text, part=passed_part):
+    """All lexemes and all faults of a text, each in order: part after part, each lexed as a text of its own."""
+    all_lexemes, all_faults, base = [], [], 0
+    while True:
+        rest = text[base:]
+        lexemes, faults, last = part(rest)
+        all_lexemes += [moved_lexeme(lexeme, base) for lexeme in lexemes]
+        all_faults += [(base + fault.begin, base + fault.end, fault.message) for fault in faults + [last] * bool(last)]
+        if not last:
+            return all_lexemes, all_faults
+        base += restart(rest, last)
