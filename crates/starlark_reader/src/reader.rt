@@ -16,8 +16,8 @@ ghost use Rattle.starlark_grammar.specs.declared.class.Class.TheVariants as clas
 ghost use Rattle.starlark_grammar.specs.declared.class.LiteralKind.TheVariants as kind;
 ghost use Rattle.starlark_reader.specs.Inner.Pending.{IsCommentIn, IsIdle, IsMark, IsPending, comment_lexeme, pending_lexemes};
 ghost use Rattle.starlark_reader.specs.Inner.MarginCuts.{IsCutBefore};
-ghost use Rattle.starlark_reader.specs.Inner.ReadBounds.{HasStarted, HasLooked, HasLookedHere, HasRead, HasReadAt, HasReadNext, IsMarginRead, IsPassed, IsPassedBy, IsTaken};
-ghost use Rattle.starlark_reader.specs.Inner.Reader.{CountsLineEnds, has_read_none, IsAhead, IsAheadAfter, IsAheadPast, IsAtCode, IsBangHere, IsInCode, IsInFlatMargin, IsReached, IsStateAfter, IsNext, IsOver, IsPlainTextHere, IsRead, IsReady, IsSomething, IsTokenOf, IsWordHere, before_margin, before_view, fstring_text_lexeme, left_here, left_to_read, name_lexeme, newline_if, newline_of, silent_sort, step_here, text_lexeme};
+ghost use Rattle.starlark_reader.specs.Inner.ReadBounds.{HasStarted, HasLooked, HasLookedHere, HasRead, HasReadAt, HasReadLast, IsMarginRead, IsPassed, IsPassedBy, IsTaken};
+ghost use Rattle.starlark_reader.specs.Inner.Reader.{CountsLineEnds, has_read_none, is_fault, IsAhead, IsAheadAfter, IsAheadPast, IsAtCode, IsBangHere, IsInCode, IsInFlatMargin, IsReached, IsStateAfter, IsAtEnd, IsLast, IsPlainTextHere, IsRead, IsReady, IsSomething, IsTokenOf, IsWordHere, before_margin, before_view, fstring_text_lexeme, left_here, left_to_read, name_lexeme, newline_if, newline_of, silent_sort, step_here, text_lexeme};
 ghost use Rattle.starlark_reader.specs.Inner.PieceViews.{IsAfter, IsLineEnd};
 ghost use Rattle.starlark_grammar.specs.AfterFaults.{next_line};
 ghost use Rattle.starlark_grammar.specs.Cuts.{is_layout, is_settled};
@@ -94,18 +94,6 @@ pub struct Reader {
     pending: Pending,
     stage: Stage,
     alloc: Global,
-}
-
-/// The next result of a text: a lexeme, its fault, or nothing more. Offsets count bytes.
-#[derive(Drop)]
-pub enum Next {
-    Lexeme((usize, Token, usize)),
-    Fault {
-        begin: usize,
-        fault: LexemeError,
-        end: usize,
-    },
-    Nothing,
 }
 
 /// The outcome of a newline.
@@ -592,15 +580,28 @@ impl Reader {
         }
     }
 
-    /// The result after the last lexeme: the text's fault, which is returned only once, or nothing.
-    fn last(&mut self) -> Next
-        ensures next { (text : Text) (lexemes : List (Spanned TokenView)) (fault : Option (Spanned Fault)) → IsIdle text self.old.pending → IsOver self.old.stage → IsAhead text self.old self.old.stage lexemes fault → IsNext text lexemes fault result self.new }
-        ensures reads { (text : Text) (beside : ℕ) → IsOver self.old.stage → HasReadAt text beside self.old self.old.stage → HasReadNext text beside result self.new }
+    /// The fault after the last lexeme, between two offsets, if the text has one. It is returned only
+    /// once.
+    ///
+    /// Reads up to a fault, with those of the search for the offset where lexing begins again, are at
+    /// most ten for each byte before that offset, and ten more, beside failed lookahead. At the fault
+    /// of a first margin they are at most sixteen each.
+    pub fn take_fault(&mut self) -> Option<(usize, LexemeError, usize)>
+        ensures last { (text : Text) (lexemes : List (Spanned TokenView)) (fault : Option (Spanned Fault)) → IsAtEnd text self.old → IsAhead text self.old self.old.stage lexemes fault → IsLast text lexemes fault result self.new }
+        ensures reads { (text : Text) (beside : ℕ) → IsAtEnd text self.old → HasRead text beside self.old → HasReadLast text beside result self.new }
     {
         match mem::replace(&mut self.stage, Stage::Closed) {
-            Stage::Fault { begin, fault, end } => Next::Fault { begin, fault, end },
-            _ => Next::Nothing,
+            Stage::Fault { begin, fault, end } => Some((begin, fault, end)),
+            _ => None,
         }
+    }
+
+    /// Whether the text has a fault that was reached and isn't taken yet.
+    #[inline(always)]
+    pub fn has_fault(&self) -> bool
+        ensures { result ≡ is_fault self.now.stage }
+    {
+        matches!(self.stage, Stage::Fault { .. })
     }
 
     /// Whether no lexeme is pending.
@@ -1174,29 +1175,28 @@ impl Reader {
         (begin, token, begin + 1)
     }
 
-    /// The next result of the text: a lexeme, the fault after the last one, or nothing more. Don't
-    /// use the reader after an `AllocError`. Reads up to a fault, with those of the search for the
-    /// offset where lexing begins again, are at most ten for each byte before that offset, and ten
-    /// more, beside failed lookahead. At the fault of a first margin they are at most sixteen each.
-    pub fn next(&mut self, text: &str) -> Result<Next, AllocError>
+    /// The next lexeme of the text; `None` where none is left, but maybe its fault. Don't use the
+    /// reader after an `AllocError`.
+    pub fn next(&mut self, text: &str) -> Result<Option<(usize, Token, usize)>, AllocError>
         requires fits { length text.now < 2 ^ 32 }
         requires ready { IsReady text.now self.old self.old.stage }
-        ensures next { IfOk result (λ next. (lexemes : List (Spanned TokenView)) (fault : Option (Spanned Fault)) → IsAhead text.now self.old self.old.stage lexemes fault → IsNext text.now lexemes fault next self.new) }
+        ensures next { IfOk result (λ given. (lexemes : List (Spanned TokenView)) (fault : Option (Spanned Fault)) → IsAhead text.now self.old self.old.stage lexemes fault → IsAheadAfter text.now given self.new lexemes fault) }
+        ensures end { IfOk result (λ given. given ≡ None → IsAtEnd text.now self.new) }
         ensures memory { OnErr result ((lexemes : List (Spanned TokenView)) (fault : Option (Spanned Fault)) → IsAhead text.now self.old self.old.stage lexemes fault → IsSomething lexemes fault) }
-        ensures reads { IfOk result (λ next. (beside : ℕ) → HasReadAt text.now beside self.old self.old.stage → HasReadNext text.now beside next self.new) }
+        ensures reads { OnOk result ((beside : ℕ) → HasReadAt text.now beside self.old self.old.stage → HasRead text.now beside self.new) }
     {
         loop {
             if let Some(lexeme) = self.pending.next(&mut self.reads, self.alloc, text)? {
-                return Ok(Next::Lexeme(lexeme));
+                return Ok(Some(lexeme));
             }
             match self.stage {
                 Stage::Begin => self.read_first_margin(text)?,
                 Stage::Onward => {
                     if let Some(lexeme) = self.read_piece(text)? {
-                        return Ok(Next::Lexeme(lexeme));
+                        return Ok(Some(lexeme));
                     }
                 }
-                Stage::Fault { .. } | Stage::Closed => return Ok(self.last()),
+                Stage::Fault { .. } | Stage::Closed => return Ok(None),
             }
         }
     }

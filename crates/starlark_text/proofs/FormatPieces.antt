@@ -8,6 +8,7 @@ use Rattle.starlark_text.specs.declared.dot_format_parser.FormatErrorKind.{Forma
 use Rattle.starlark_text.specs.declared.dot_format_parser.FormatErrorKind.TheVariants.{StandaloneClose, UnmatchedOpen, MissingConversion, InvalidConversion}
 use Rattle.starlark_text.specs.Formats.{Text, is_open, is_close, is_brace, ends_name, begins_conversion, IsPlain, IsName, EndsOrBeginsWith, Suffix, bare, bang_s, bang_r, suffix_text, Piece, plain, capture, escape, written, StandsAt, NoPiece, LacksConversion, HasOtherConversion, Refuses}
 use Rattle.starlark_text.specs.Scanning.{closed, converted, ending, is_doubled, with_name, name_width, plain_width, open_piece, close_piece, piece_at}
+use Rattle.starlark_text.specs.declared.dot_format_parser.EscapeCurlyBrace.{EscapeCurlyBrace}
 
 -- ---- a run of bytes up to one that stops it
 
@@ -274,20 +275,21 @@ named_stands rest piece (Ok suffix) e same =
     subst (λ (p : Piece). Stands p (123 ∷ rest)) is (capture_stands rest suffix e)
 named_stands rest piece (Err kind) e same = cc
 
+escape_stands : (brace : EscapeCurlyBrace) (text : Text) (piece : Piece) → Stands (escape brace) text → ◌≡◌ {A = Result Piece FormatErrorKind} (Ok (escape brace)) (Ok piece) → Stands piece text
+escape_stands brace text piece stands found =
+    let is : escape brace ≡ piece = cc in
+    subst (λ (p : Piece). Stands p text) is stands
+
 open_stands : (rest : Text) (piece : Piece) (doubled : Bool) → is_doubled (123 ∷ rest) ≡ doubled → open_piece (123 ∷ rest) ≡ Ok piece → Stands piece (123 ∷ rest)
 open_stands rest piece true e found =
-    let yes : Ok (escape Open) ≡ Ok piece = rw e at found in
-    let is : escape Open ≡ piece = cc in
     let more = doubled_is 123 rest e in
-    subst (λ (p : Piece). Stands p (123 ∷ rest)) is (more.0, record { good = tt; joins = ap (λ t. 123 ∷ t) more.1; longest = tt })
+    escape_stands Open (123 ∷ rest) piece (more.0, record { good = tt; joins = ap (λ t. 123 ∷ t) more.1; longest = tt }) (rw e at found)
 open_stands rest piece false e found = named_stands rest piece (ending (drop (name_width rest) rest)) refl (rw e at found)
 
 close_stands : (rest : Text) (piece : Piece) (doubled : Bool) → is_doubled (125 ∷ rest) ≡ doubled → close_piece (125 ∷ rest) ≡ Ok piece → Stands piece (125 ∷ rest)
 close_stands rest piece true e found =
-    let yes : Ok (escape Close) ≡ Ok piece = rw e at found in
-    let is : escape Close ≡ piece = cc in
     let more = doubled_is 125 rest e in
-    subst (λ (p : Piece). Stands p (125 ∷ rest)) is (more.0, record { good = tt; joins = ap (λ t. 125 ∷ t) more.1; longest = tt })
+    escape_stands Close (125 ∷ rest) piece (more.0, record { good = tt; joins = ap (λ t. 125 ∷ t) more.1; longest = tt }) (rw e at found)
 close_stands rest piece false e found = let no = rw e at found in cc
 
 found_stands_so : (text : Text) (piece : Piece) → piece_at text ≡ Ok piece → Stands piece text

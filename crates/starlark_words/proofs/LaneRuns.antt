@@ -1,7 +1,7 @@
 -- Runs of bytes in parts, and runs that are found in some bytes at once.
-use Rattle.std.proofs.Common.{◌≡◌, ℕ, zero, suc, zero-add, ◌+◌, ◌≤◌, ◌<◌, ◌%◌, ◌^◌, Bool, true, false, cond, ◌||◌, not, eqb, List, [], ◌∷◌, ◌*◌, map, length, take, drop, refl, ap, ◌∙◌, sym, bit_or, arith}
+use Rattle.std.proofs.Common.{◌≡◌, ℕ, zero, suc, zero-add, ◌+◌, ◌-◌, ◌≤◌, ◌<◌, ◌%◌, ◌^◌, Bool, true, false, cond, ◌||◌, not, eqb, List, [], ◌∷◌, ◌*◌, map, length, take, drop, refl, ap, ◌∙◌, sym, bit_or, arith}
 use Rattle.std.proofs.lemmas.Bool.{eq-eqb, ne_eqb, cond-true, cond-false}
-use Rattle.std.proofs.lemmas.List.{length-take-le, length-drop, length-map, take-append-drop, drop-drop}
+use Rattle.std.proofs.lemmas.List.{length-take-le, length-drop, length-map, take-append-drop, take_all, drop-drop}
 use Rattle.std.proofs.lemmas.List.Folds.{prefix_len-append}
 use Rattle.std.proofs.lemmas.List.Sums.{prefix_len-drop_yes, prefix_len-le-length, prefix_len_passes}
 use Rattle.std.proofs.lemmas.Simd.{map-map, mask_l-mod, first_set_mask_l, leading_from_mask_l, trailing_mask_l}
@@ -51,6 +51,14 @@ run_passed p (suc n) xs few =
   where
     one : n + 1 ≡ suc n
     one = omega arith
+
+-- the last n bytes, where a run is known up to an offset in them
+pub last_run : (p : ℕ → Bool) (n at : ℕ) (xs : List ℕ) → prefix_len p xs ≡ at + prefix_len p (drop at xs) → n ≤ length xs → length xs < at + n → prefix_len p xs ≡ length xs - n + prefix_len p (take n (drop (length xs - n) xs))
+last_run p n at xs known long near =
+    let last : ℕ = length xs - n in
+    let all = run_passed p last xs (omega (arith, known, near)) in
+    let rest = take_all n (drop last xs) (omega (arith, length-drop last xs, long)) in
+    omega (arith, all, ap (prefix_len p) rest)
 
 -- a front's run is no longer than the front
 pub run_within : (p : ℕ → Bool) (n : ℕ) (xs : List ℕ) → n ≤ length xs → prefix_len p (take n xs) ≤ n

@@ -127,6 +127,13 @@ fn word_by_front(reads: &mut ReadCounter, passed: usize, text: &str) -> Option<W
         reads.add(passed);
         return Some(quote_word(Quote::Double));
     }
+    if marks::begins_cr_lf(front) {
+        reads.add(passed);
+        return Some(Word {
+            class: Class::LineEnd,
+            len: 2,
+        });
+    }
     if marks::begins_symbol(front) {
         reads.add(passed + 1);
         return marks::mark_from(uncounted_front(text.as_bytes(), 3));
@@ -136,7 +143,7 @@ fn word_by_front(reads: &mut ReadCounter, passed: usize, text: &str) -> Option<W
 }
 
 /// The longest word at the front of a text if its first two bytes tell its kind: a name, a symbol,
-/// an LF, or the quote of a text literal. `None` for any other front.
+/// a line end, or the quote of a text literal. `None` for any other front.
 #[inline(always)]
 pub(crate) fn common_word(reads: &mut ReadCounter, text: &str) -> Option<Word>
     ensures word { IfSome result (λ word. Some (word_view word) ≡ language_front text.now) }

@@ -37,23 +37,17 @@ peak-map height move (place ∷ places) =
     let rest = peak-map height move places in
     omega (arith, here, there, rest)
 
-peak_same : {A : Type 0} (before after : A → ℕ) → ((place : A) → after place ≡ before place) → (places : List A) → peak after places ≡ peak before places
-peak_same before after h [] = refl
-peak_same before after h (place ∷ places) =
+peak_lower : {A : Type 0} (before after : A → ℕ) (n : ℕ) → ((place : A) → after place ≡ before place - n) → (places : List A) → peak after places ≡ peak before places - n
+peak_lower before after n h [] = omega arith
+peak_lower before after n h (place ∷ places) =
     let old = peak-cons before place places in
     let new = peak-cons after place places in
-    let rest = peak_same before after h places in
+    let rest = peak_lower before after n h places in
     let here = h place in
     omega (arith, old, new, rest, here)
 
-peak_less : {A : Type 0} (before after : A → ℕ) → ((place : A) → after place ≡ before place - 1) → (places : List A) → peak after places ≡ peak before places - 1
-peak_less before after h [] = refl
-peak_less before after h (place ∷ places) =
-    let old = peak-cons before place places in
-    let new = peak-cons after place places in
-    let rest = peak_less before after h places in
-    let here = h place in
-    omega (arith, old, new, rest, here)
+peak_same : {A : Type 0} (before after : A → ℕ) → ((place : A) → after place ≡ before place) → (places : List A) → peak after places ≡ peak before places
+peak_same before after h places = let lower = peak_lower before after 0 (λ place. let here = h place in omega (arith, here)) places in omega (arith, lower)
 
 -- a height that rises by one if it was positive, and by at most one
 record Rises (before after : ℕ) : Type 0 where
@@ -92,7 +86,7 @@ depth_other shape token own o c =
 pub depth_closing : (shape : Shape) (token : Token) (own : List Token) → is_opening shape token ≡ false → is_closing shape token ≡ true → depth shape (token ∷ own) ≡ depth shape own - 1
 unfolding depth
 depth_closing shape token own o c =
-    depth-cons shape token own ∙ peak_less (surplus shape) (λ front. surplus shape (token ∷ front)) (λ front. surplus-cons shape token front ∙ rw (o, c) (omega arith)) (fronts own)
+    depth-cons shape token own ∙ peak_lower (surplus shape) (λ front. surplus shape (token ∷ front)) 1 (λ front. surplus-cons shape token front ∙ rw (o, c) (omega arith)) (fronts own)
 
 pub depth_opening : (shape : Shape) (token : Token) (own : List Token) → is_opening shape token ≡ true → is_closing shape token ≡ false → depth shape (token ∷ own) ≡ 1 + depth shape own
 unfolding depth
@@ -164,25 +158,21 @@ deeper view found e some h = sym (inside_is view found e ∙ go (braces_in view.
 
 -- One token more
 
-any_opening_is : (node : Token) → cond (is_any_opening node) 1 0 ≡ opens (change_by (Whole node))
+any_bracket_is : (node : Token) → (cond (is_any_opening node) 1 0 ≡ opens (change_by (Whole node))) × (cond (is_any_closing node) 1 0 ≡ closes (change_by (Whole node)))
 unfolding change_by
-any_opening_is (Word terminal.OpeningRound) = refl
-any_opening_is (Word terminal.OpeningSquare) = refl
-any_opening_is (Word terminal.OpeningCurly) = refl
-any_opening_is node = refl
-
-any_closing_is : (node : Token) → cond (is_any_closing node) 1 0 ≡ closes (change_by (Whole node))
-unfolding change_by
-any_closing_is (Word terminal.ClosingRound) = refl
-any_closing_is (Word terminal.ClosingSquare) = refl
-any_closing_is (Word terminal.ClosingCurly) = refl
-any_closing_is node = refl
+any_bracket_is (Word terminal.OpeningRound) = (refl, refl)
+any_bracket_is (Word terminal.OpeningSquare) = (refl, refl)
+any_bracket_is (Word terminal.OpeningCurly) = (refl, refl)
+any_bracket_is (Word terminal.ClosingRound) = (refl, refl)
+any_bracket_is (Word terminal.ClosingSquare) = (refl, refl)
+any_bracket_is (Word terminal.ClosingCurly) = (refl, refl)
+any_bracket_is node = (refl, refl)
 
 pub opened_onward : (node : Token) (tokens : List Token) → count_by is_any_opening (node ∷ tokens) ≡ opens (change_by (Whole node)) + count_by is_any_opening tokens
-opened_onward node tokens = sum_by-cons (λ t. cond (is_any_opening t) 1 0) node tokens ∙ ap (λ n. n + count_by is_any_opening tokens) (any_opening_is node)
+opened_onward node tokens = sum_by-cons (λ t. cond (is_any_opening t) 1 0) node tokens ∙ ap (λ n. n + count_by is_any_opening tokens) (any_bracket_is node).0
 
 pub closed_onward : (node : Token) (tokens : List Token) → count_by is_any_closing (node ∷ tokens) ≡ closes (change_by (Whole node)) + count_by is_any_closing tokens
-closed_onward node tokens = sum_by-cons (λ t. cond (is_any_closing t) 1 0) node tokens ∙ ap (λ n. n + count_by is_any_closing tokens) (any_closing_is node)
+closed_onward node tokens = sum_by-cons (λ t. cond (is_any_closing t) 1 0) node tokens ∙ ap (λ n. n + count_by is_any_closing tokens) (any_bracket_is node).1
 
 abbrev pub expression_after : NestingChange → Option (ℕ × ℕ) → Option (ℕ × ℕ)
 expression_after change.OpensCurly expression = option_map (λ (curly : ℕ × ℕ). (1 + curly.0, curly.1)) expression

@@ -1,5 +1,5 @@
 -- Margins of spaces alone, or of spaces and a CR.
-use Rattle.std.proofs.Common.{◌≡◌, ℕ, ◌+◌, ◌<◌, Bool, true, false, [], ◌∷◌, length, drop, refl, ap, ◌∙◌, sym, subst, arith, nat_eq, get_or}
+use Rattle.std.proofs.Common.{◌≡◌, ℕ, ◌+◌, ◌<◌, Bool, true, false, [], ◌∷◌, length, drop, refl, ap, ◌∙◌, sym, subst, arith, nat_eq, get_or, ◌⊎◌, inl, inr}
 use Rattle.std.specs.Prelude.{◌==◌, not}
 use Rattle.std.specs.List.{prefix_len}
 use Rattle.std.proofs.lemmas.Bool.Decides.{nat_tests}
@@ -46,6 +46,13 @@ content_first text n b is less here no_tab no_return no_hash no_feed =
   where
     other : (b : ℕ) → (b ≡ 10 → ⊥) → not (nat_eq b 10) ≡ true
     other b unlike = grind (arith, nat_tests)
+
+-- a quote, or a byte that is greater than all that have a meaning in a margin
+pub content_plain : (text : Text) (n b : ℕ) → n ≡ prefix_len (nat_eq 32) text → n < length text → b ≡ get_or text n 0 → (b ≡ 34) ⊎ (35 < b) → IsMargin (margin_of text) (spaces_margin n)
+content_plain text n b is less here (inl e) =
+    content_first text n b is less here (λ tab. omega (arith, tab, e)) (λ return. omega (arith, return, e)) (λ hash. omega (arith, hash, e)) (λ feed. omega (arith, feed, e))
+content_plain text n b is less here (inr e) =
+    content_first text n b is less here (λ tab. omega (arith, tab, e)) (λ return. omega (arith, return, e)) (λ hash. omega (arith, hash, e)) (λ feed. omega (arith, feed, e))
 
 -- spaces, and then an LF
 pub line_end_first : (text : Text) (n : ℕ) → n ≡ prefix_len (nat_eq 32) text → n < length text → get_or text n 0 ≡ 10 → IsMargin (margin_of text) (margin_found n n false)

@@ -1,5 +1,5 @@
 -- F-string texts as lexemes that are yielded, and as tokens of a history.
-use Rattle.std.proofs.Common.{◌≡◌, ℕ, ◌+◌, ◌==◌, true, false, List, [], ◌∷◌, ◌++◌, map, length, refl, ap, sym, ◌∙◌, arith, None, Some, String, string_bytes}
+use Rattle.std.proofs.Common.{◌≡◌, ℕ, ◌+◌, ◌==◌, true, false, List, [], ◌∷◌, ◌++◌, map, length, refl, ap, sym, ◌∙◌, arith, None, Some, String, string_bytes, ◌≤◌, drop, take}
 use Rattle.std.specs.declared.alloc.Global.{Global}
 use Rattle.starlark_grammar.specs.Words.{Text}
 use Rattle.starlark_grammar.specs.Tokens as grammar
@@ -10,8 +10,9 @@ use Rattle.starlark_reader.specs.Inner.Nesting.{Represents, change_by, is_fstrin
 use Rattle.starlark_reader.specs.Inner.TextEnds.{text_end_node}
 use Rattle.starlark_token.specs.Lexemes.{lexeme_view}
 use Rattle.starlark_reader.specs.Inner.Pending.{IsIdle, IsMark, IsPending, pending_lexemes}
-use Rattle.starlark_token.specs.TokenViews.{Whole, token_view}
+use Rattle.starlark_token.specs.TokenViews.{TokenView, Whole, token_view}
 use Rattle.starlark_reader.specs.declared.pending.Pending.{Pending}
+use Rattle.starlark_reader.specs.declared.literal.chunks.PlainText.{PlainText}
 use Rattle.starlark_reader.specs.declared.text_end.TextEnd.{TextEnd}
 use Rattle.starlark_reader.specs.declared.text_end.TextEnd.TheVariants as ends
 use Rattle.starlark_reader.specs.declared.nesting.Nesting.{Nesting}
@@ -19,8 +20,11 @@ use Rattle.starlark_reader.specs.declared.changes.NestingChange.TheVariants as c
 use Rattle.starlark_token.specs.declared.tokens.Token.{Token}
 use Rattle.starlark_token.specs.declared.tokens.Token.TheVariants as token
 use Rattle.starlark_reader.proofs.OpenBrackets.OpenFStrings.{one_kept}
-use Rattle.starlark_reader.proofs.TakenPieces.Here.{shown_at}
+use Rattle.starlark_reader.proofs.TakenPieces.Here.{shown_at, piece_here}
 use Rattle.starlark_reader.proofs.TakenMargins.Waiting.{Hands, HandsPast, hands_one, passes_first}
+use Rattle.starlark_reader.specs.Inner.Reader.{IsPlainTextHere, IsReady}
+use Rattle.starlark_reader.specs.declared.reader.Reader.{Reader}
+use Rattle.starlark_reader.proofs.TakenPieces.PieceTaken.{left_onward}
 
 text_changes : (value : Text) → change_by (Whole (grammar.FStringText value)) ≡ change.Nothing
 unfolding change_by
@@ -41,6 +45,20 @@ own_end ends.FString = refl
 -- a text of `len` bytes and the `more` bytes that end it, as a piece
 abbrev pub chunk_piece : Text → ℕ → ℕ → grammar.Token → Piece
 chunk_piece value len more node = record { len = len + more; lexemes = chunk_text len value ++ record { begin = len; node = node; end = len + more } ∷ []; width = None; sort = Other }
+
+-- a plain text and what ends it lie in the whole text
+pub text_end_inside : (text : Text) (reader : Reader) (found : PlainText) → IsReady text reader reader.stage → IsPlainTextHere text reader found → reader.at + found.len + found.stop_len ≤ length text
+text_end_inside text reader found ready here =
+    let left = (left_onward text reader ready.0 ready.1 here.stage ready.2).is_left in
+    let inside = piece_here text left.0 reader (chunk_piece (take found.len (drop reader.at text)) found.len found.stop_len (text_end_node found.stop)) left.1 (here.stands left.0 left.1) in
+    omega (arith, inside.1)
+
+-- the tokens after a text and what ends it
+pub text_passed : (tokens : List grammar.Token) (len stop_len : ℕ) (stop : TextEnd) (value : Text) (view : TokenView) (old new : Nesting) → view ≡ Whole (text_end_node stop)
+    → ((tokens : List grammar.Token) (node : grammar.Token) → view ≡ Whole node → is_fstring_start node ≡ false → Represents tokens old → Represents (node ∷ tokens) new)
+    → Represents tokens old → Represents (tokens_onto tokens (chunk_piece value len stop_len (text_end_node stop)).lexemes) new
+text_passed tokens len stop_len stop value view old new is passes same =
+    rw (onto_last tokens len value (record { begin = len; node = text_end_node stop; end = len + stop_len })) (passes _ (text_end_node stop) is (own_end stop) (text_onto tokens len value old same))
 
 pub end_mark : (stop : TextEnd) → IsMark (Whole (text_end_node stop))
 end_mark ends.Expression = tt

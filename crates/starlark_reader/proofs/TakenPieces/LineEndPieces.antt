@@ -9,7 +9,7 @@ use Rattle.starlark_grammar.specs.Front.{language_front}
 use Rattle.starlark_grammar.specs.Words.{Text, class_in, language, line_ends, names, openers, patterns, symbols}
 use Rattle.starlark_grammar.specs.declared.class.Class.{Class}
 use Rattle.starlark_grammar.specs.declared.class.Class.TheVariants as word
-use Rattle.starlark_grammar.proofs.Words.Classes.{language_all_fit, none_found, row_fits}
+use Rattle.starlark_grammar.proofs.Words.Classes.{line_end_fits}
 use Rattle.starlark_grammar.proofs.Words.Fronts.{front_sound}
 use Rattle.starlark_reader.specs.Inner.PieceViews.{IsLineEnd, IsLineEndOf}
 use Rattle.starlark_reader.specs.Inner.ReadBounds.{AreReadsAfter}
@@ -17,43 +17,12 @@ use Rattle.starlark_reader.specs.declared.reading.Piece.{Piece}
 use Rattle.starlark_reader.specs.declared.reading.Piece.TheVariants as piece
 
 -- a word that is a newline has the bytes of its line end
-abbrev is_whole : Class → Text → Bool
-is_whole word.LineEnd front = nat_lt 0 (length front) && line_end_len front == length front
-is_whole class front = true
-
-openers_whole : list_all (λ (row : Text × Class). is_whole row.1 row.0) openers ≡ true
-unfolding openers
-openers_whole = refl
-
-line_ends_whole : list_all (λ (row : Text × Class). is_whole row.1 row.0) line_ends ≡ true
-unfolding line_ends
-line_ends_whole = refl
-
-symbols_whole : list_all (λ (row : Text × Class). is_whole row.1 row.0) symbols ≡ true
-unfolding symbols
-symbols_whole = refl
-
-names_whole : list_all (λ (row : Text × Class). is_whole row.1 row.0) names ≡ true
-unfolding names
-names_whole = refl
-
-patterns_whole : (front : Text) (class : Class) → class_in patterns front ≡ Some class → is_whole class front ≡ true
-unfolding class_in patterns
-patterns_whole front class =
-    row_fits is_whole front _ word.Skipped class _ (λ h. refl)
-    (row_fits is_whole front _ word.Comment class _ (λ h. refl)
-    (row_fits is_whole front _ word.Tabs class _ (λ h. refl)
-    (row_fits is_whole front _ word.Identifier class _ (λ h. refl)
-    (row_fits is_whole front _ word.Decimal class _ (λ h. refl)
-    (row_fits is_whole front _ word.Hexadecimal class _ (λ h. refl)
-    (row_fits is_whole front _ word.Octal class _ (λ h. refl)
-    (row_fits is_whole front _ word.Binary class _ (λ h. refl)
-    (row_fits is_whole front _ word.Float class _ (λ h. refl)
-    (row_fits is_whole front _ word.Float class _ (λ h. refl) (none_found is_whole front class))))))))))
+abbrev is_whole : Text → Bool
+is_whole front = nat_lt 0 (length front) && line_end_len front == length front
 
 pub line_end_word : (front : Text) → class_in language front ≡ Some word.LineEnd → IsLineEnd (length front) front
 line_end_word front known =
-    let parts = and_parts (nat_lt 0 (length front)) (line_end_len front == length front) (language_all_fit is_whole openers_whole line_ends_whole symbols_whole names_whole patterns_whole front word.LineEnd known) in
+    let parts = and_parts (nat_lt 0 (length front)) (line_end_len front == length front) (line_end_fits is_whole refl refl front known) in
     (ltb-true 0 (length front) parts.0, eqb-true (line_end_len front) (length front) parts.1)
 
 -- a line end that is a text's front begins the text

@@ -10,7 +10,7 @@ use Rattle.starlark_reader.specs.Inner.MarginCuts.{IsAfterLines, IsCutBefore, Is
 use Rattle.starlark_reader.specs.Inner.MarginLines.{IsLinePassed, IsPassedLine}
 use Rattle.starlark_reader.specs.Inner.Nesting.{bracket_count}
 use Rattle.starlark_reader.specs.Inner.Pending.{IsFirst, IsFirstPast, IsIdle, lines_between, pending_lexemes}
-use Rattle.starlark_reader.specs.Inner.Reader.{begins_with_tab, has_read_none, IsAhead, IsAheadAfter, IsAheadPast, IsInFlatMargin, IsStateAfter, IsLeft, IsOver, IsReady, IsSomething, history_of, outcome_along, remaining_outcome}
+use Rattle.starlark_reader.specs.Inner.Reader.{begins_with_tab, has_read_none, IsAhead, IsAheadAfter, IsAheadPast, IsInFlatMargin, IsStateAfter, IsLast, IsLeft, IsOver, IsReady, IsSomething, history_of, outcome_along, remaining_outcome}
 use Rattle.starlark_token.specs.TokenViews.{TokenView}
 use Rattle.starlark_token.specs.declared.lexeme_error.LexemeError.{LexemeError}
 use Rattle.starlark_token.specs.declared.tokens.Token.{Token}
@@ -130,11 +130,11 @@ mark_next text old new (Some x) lexemes fault here same none first lines ahead =
 
 -- the fault is returned after the last lexeme
 pub fault_next : (text : Text) (reader : Reader) (lexemes : List (Spanned TokenView)) (fault : Option (Spanned Fault)) (begin : ℕ) (error : LexemeError) (end : ℕ) → IsIdle text reader.pending → reader.stage ≡ stage.Fault begin error end → IsAhead text reader reader.stage lexemes fault
-    → (node : Fault) × (fault_view error ≡ Some node) × (lexemes ≡ []) × (fault ≡ Some (record { begin = begin; node = node; end = end })) × (has_read_none reader ≡ begins_with_tab text)
+    → IsLast text lexemes fault (Some (begin, error, end)) reader
 fault_next text reader lexemes fault begin error end idle e ahead =
     let is = subst (λ (s : Stage). IsLeft text reader s ahead.left) e ahead.is_left in
     let both = none_before text reader reader.stage lexemes fault _ idle ahead is.2 in
-    (is.0, is.1, both.0, both.1, is.3)
+    (both.0, (_, both.1, (refl, is.1, refl)), is.3)
 
 pub nothing_next : (text : Text) (old new : Reader) (lexemes : List (Spanned TokenView)) (fault : Option (Spanned Fault)) → IsHere old new → IsIdle text old.pending → new.pending ≡ old.pending → old.stage ≡ stage.Closed → new.stage ≡ stage.Closed
     → IsAhead text old old.stage lexemes fault → (lexemes ≡ []) × (fault ≡ None) × IsAhead text new new.stage [] None × IsStateAfter text (history_of text) new

@@ -301,6 +301,13 @@ nothing_here text history reader len is_gap kept stands =
     let same = nothing_len len is_gap in
     (omega (arith, here.0, same), omega (arith, here.1, same))
 
+-- a newline that isn't a token lies in the text
+pub silent_here : (text : Text) (history : History) (reader : Reader) (len : ℕ) (mode : LexerMode) (balanced : Bool) → IsStateAfter text history reader → IsWordHere text reader (record { class = class.LineEnd; len = len })
+    → ((before : List Tokens.Token) → Represents before reader.nesting → mode_view mode ≡ mode_after before)
+    → ((before : List Tokens.Token) → Represents before reader.nesting → balanced ≡ is_balanced before)
+    → pieces.counts (mode_view mode) balanced ≡ false → (1 ≤ len) × (reader.at + len ≤ length text)
+silent_here text history reader len mode balanced kept here at count silent = nothing_here text history reader len false kept (silent_line_end text history reader len mode balanced kept here at count silent)
+
 -- a piece without lexemes changes only the offset and the kind of the piece before it
 pub nothing_taken : (text : Text) (history : History) (old new : Reader) (len : ℕ) (is_gap : Bool) → IsUtf8 text → IsStateAfter text history old → step_here text history old ≡ nothing_of len is_gap → IsIdle text old.pending
     → new ≡ record old { at = old.at + len; before = silent_sort is_gap; stage = stage.Onward } → IsRead text (left_here text history old) None new

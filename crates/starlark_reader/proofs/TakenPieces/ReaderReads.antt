@@ -82,10 +82,11 @@ looked_reads text beside least most old new onward has lookahead =
     let on : HasReadAt text beside old stages.Onward = subst (HasReadAt text beside old) onward has in
     subst (HasReadAt text (beside + most) new) (sym (lookahead.1 ∙ onward)) (omega (arith, lookahead.0, lookahead.3.0, on.0), omega (arith, lookahead.0, lookahead.2, lookahead.3.1, on.1))
 
+here_looked : (least most : ℕ) (old new : Reader) → HasLookedHere least most old new → HasLooked least most old new
+here_looked least most old new here = (omega (arith, here.0), here.1, here.2, (omega (arith, here.0, here.3.0), omega (arith, here.0, here.3.1)))
+
 pub here_reads : (text : Text) (beside least most : ℕ) (old new : Reader) → old.stage ≡ stages.Onward → HasRead text beside old → HasLookedHere least most old new → HasRead text (beside + most) new
-here_reads text beside least most old new onward has lookahead =
-    let on : HasReadAt text beside old stages.Onward = subst (HasReadAt text beside old) onward has in
-    subst (HasReadAt text (beside + most) new) (sym (lookahead.1 ∙ onward)) (omega (arith, lookahead.0, lookahead.3.0, on.0), omega (arith, lookahead.0, lookahead.2, lookahead.3.1, on.1))
+here_reads text beside least most old new onward has lookahead = looked_reads text beside least most old new onward has (here_looked least most old new lookahead)
 
 -- the run that was peeked is in the reader's line, where something else follows
 pub other_reads : {A : Type 0} (text rest : Text) (from extra reads : ℕ) (reader : Reader) (found : Result A ℕ) → from + next_line rest 0 ≤ next_line text reader.at
@@ -104,10 +105,7 @@ taken_reads text beside least most len old mid new onward has lookahead enough f
 
 pub here_taken_reads : (text : Text) (beside least most len : ℕ) (old mid new : Reader) → old.stage ≡ stages.Onward → HasRead text beside old → HasLookedHere least most old mid → len ≤ least → most ≤ 10 * len
     → IsPassedBy (mid.at + len) mid new × (new.stage ≡ stages.Onward) → HasRead text beside new
-here_taken_reads text beside least most len old mid new onward has lookahead enough few passed =
-    let on : HasReadAt text beside old stages.Onward = subst (HasReadAt text beside old) onward has in
-    subst (HasReadAt text beside new) (sym passed.1)
-    (omega (arith, enough, lookahead.0, lookahead.3.0, on.0, passed.0.0, passed.0.1), omega (arith, few, lookahead.0, lookahead.2, lookahead.3.1, on.1, passed.0.0, passed.0.1, passed.0.2))
+here_taken_reads text beside least most len old mid new onward has lookahead = taken_reads text beside least most len old mid new onward has (here_looked least most old mid lookahead)
 
 -- the reads of two peeks together
 pub looked_twice : (least most more_least more_most : ℕ) (old mid new : Reader) → HasLookedHere least most old mid → HasLookedHere more_least more_most mid new → HasLookedHere (least + more_least) (most + more_most) old new

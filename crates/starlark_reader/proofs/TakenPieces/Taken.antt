@@ -66,27 +66,19 @@ is_quiet node = false
 abbrev pub AllQuiet : List Lexeme → Type 0
 AllQuiet lexemes = AllByRecursion (λ (lexeme : Lexeme). is_quiet lexeme.node ≡ true) lexemes
 
-quiet_changes : (node : grammar.Token) → is_quiet node ≡ true → change_by (Whole node) ≡ change.Nothing
+quiet_is : (node : grammar.Token) → is_quiet node ≡ true → (keeps node ≡ true) × (change_by (Whole node) ≡ change.Nothing)
 unfolding change_by
-quiet_changes (grammar.FStringText value) h = refl
-quiet_changes grammar.Newline h = refl
-quiet_changes (grammar.Comment text) h = refl
-quiet_changes grammar.Indent h = refl
-quiet_changes grammar.Dedent h = refl
-quiet_changes node h = cc
-
-quiet_keeps : (node : grammar.Token) → is_quiet node ≡ true → keeps node ≡ true
-quiet_keeps (grammar.FStringText value) h = refl
-quiet_keeps grammar.Newline h = refl
-quiet_keeps (grammar.Comment text) h = refl
-quiet_keeps grammar.Indent h = refl
-quiet_keeps grammar.Dedent h = refl
-quiet_keeps node h = cc
+quiet_is (grammar.FStringText value) h = (refl, refl)
+quiet_is grammar.Newline h = (refl, refl)
+quiet_is (grammar.Comment text) h = (refl, refl)
+quiet_is grammar.Indent h = (refl, refl)
+quiet_is grammar.Dedent h = (refl, refl)
+quiet_is node h = (cc, cc)
 
 -- tokens of layout and f-string texts leave brackets and f-strings unchanged
 pub quiet_kept : (lexemes : List Lexeme) (tokens : List grammar.Token) (nesting : Nesting) → AllQuiet lexemes → Represents tokens nesting → Represents (tokens_onto tokens lexemes) nesting
 quiet_kept [] tokens nesting h same = same
-quiet_kept (lexeme ∷ lexemes) tokens nesting h same = quiet_kept lexemes (lexeme.node ∷ tokens) nesting h.1 (one_kept lexeme.node tokens nesting (quiet_keeps lexeme.node h.0) (quiet_changes lexeme.node h.0) same)
+quiet_kept (lexeme ∷ lexemes) tokens nesting h same = quiet_kept lexemes (lexeme.node ∷ tokens) nesting h.1 (one_kept lexeme.node tokens nesting (quiet_is lexeme.node h.0).0 (quiet_is lexeme.node h.0).1 same)
 
 quiet_both : (one other : List Lexeme) → AllQuiet one → AllQuiet other → AllQuiet (one ++ other)
 quiet_both [] other h k = k

@@ -11,8 +11,6 @@ use Rattle.starlark_reader.specs.declared.literal.pieces.Step.{Step}
 use Rattle.starlark_reader.specs.declared.literal.pieces.Step.TheVariants as step
 use Rattle.starlark_reader.specs.declared.reading.Piece.{Piece}
 use Rattle.starlark_reader.specs.declared.reading.Piece.TheVariants as piece
-use Rattle.starlark_reader.specs.declared.reader.Next.{Next}
-use Rattle.starlark_reader.specs.declared.reader.Next.TheVariants as next
 use Rattle.starlark_reader.specs.declared.reader.Reader.{Reader}
 use Rattle.starlark_reader.specs.declared.reader.Stage.{Stage}
 use Rattle.starlark_reader.specs.declared.reader.Stage.TheVariants as stage
@@ -143,8 +141,7 @@ HasReadAt text beside reader stage.Closed = (more_reads 0 (length text) ≤ read
 abbrev pub HasRead : (text : Text) (beside : ℕ) → Reader → Type 0
 HasRead text beside reader = HasReadAt text beside reader reader.stage
 
--- the reads after `next` was returned: a lexeme, the fault, or the end
-abbrev pub HasReadNext : (text : Text) (beside : ℕ) → Next → Reader → Type 0
-HasReadNext text beside (next.Lexeme lexeme) reader = HasRead text beside reader
-HasReadNext text beside (next.Fault begin fault end) reader = (more_reads 0 begin ≤ reader.reads) × AtFault begin fault end (λ spanned. reader.reads + search_reads text spanned ≤ most_reads_to text beside spanned)
-HasReadNext text beside next.Nothing reader = HasRead text beside reader × (more_reads 0 (length text) ≤ reader.reads) × (reader.reads < beside + 10 * (length text + 1))
+-- the reads after the last lexeme, when the fault was taken or there is none
+abbrev pub HasReadLast : (text : Text) (beside : ℕ) → Option (ℕ × LexemeError × ℕ) → Reader → Type 0
+HasReadLast text beside (Some found) reader = (more_reads 0 found.0 ≤ reader.reads) × AtFault found.0 found.1 found.2 (λ spanned. reader.reads + search_reads text spanned ≤ most_reads_to text beside spanned)
+HasReadLast text beside None reader = HasRead text beside reader × (more_reads 0 (length text) ≤ reader.reads) × (reader.reads < beside + 10 * (length text + 1))

@@ -22,6 +22,7 @@ use Rattle.starlark_reader.specs.Inner.StepViews.{text_step}
 use Rattle.starlark_reader.specs.declared.literal.chunks.PlainText.{PlainText}
 use Rattle.starlark_token.specs.TokenViews.{TokenView, Whole}
 use Rattle.starlark_grammar.specs.declared.class.Terminal.{Terminal}
+use Rattle.starlark_token.specs.declared.lexeme_error.LexemeError.{LexemeError}
 use Rattle.starlark_token.specs.declared.tokens.Token.{Token}
 use Rattle.starlark_token.specs.declared.tokens.Token.TheVariants as token
 use Rattle.starlark_reader.specs.declared.reader.Reader.{Reader}
@@ -29,8 +30,6 @@ use Rattle.starlark_reader.specs.declared.reader.Before as code
 use Rattle.starlark_reader.specs.declared.reader.Before.TheVariants as before
 use Rattle.starlark_reader.specs.declared.reader.LineEnd.{LineEnd}
 use Rattle.starlark_reader.specs.declared.reader.LineEnd.TheVariants as line_end
-use Rattle.starlark_reader.specs.declared.reader.Next.{Next}
-use Rattle.starlark_reader.specs.declared.reader.Next.TheVariants as next
 use Rattle.starlark_reader.specs.declared.reader.Stage.{Stage}
 use Rattle.starlark_reader.specs.declared.reader.Stage.TheVariants as stage
 
@@ -183,16 +182,27 @@ IsOver (stage.Fault begin fault end) = ⊤
 IsOver stage.Closed = ⊤
 IsOver now = ⊥
 
+-- all lexemes of a text are yielded; its fault may be left
+abbrev pub IsAtEnd : Text → Reader → Type 0
+IsAtEnd text reader = IsIdle text reader.pending × IsOver reader.stage
+
+-- whether a fault was reached
+abbrev pub is_fault : Stage → Bool
+is_fault (stage.Fault begin fault end) = true
+is_fault now = false
+
 -- a lexeme is ahead, or the fault
 abbrev pub IsSomething : List (grammar.Spanned TokenView) → Option (grammar.Spanned grammar.Fault) → Type 0
 IsSomething lexemes fault = lexemes ≡ [] → fault ≡ None → ⊥
 
--- what is returned next, and what is ahead after it: the first lexeme ahead, else the fault, else
--- nothing
-abbrev pub IsNext : Text → List (grammar.Spanned TokenView) → Option (grammar.Spanned grammar.Fault) → Next → Reader → Type 0
-IsNext text lexemes fault (next.Lexeme lexeme) reader = IsAheadAfter text (Some lexeme) reader lexemes fault
-IsNext text lexemes fault (next.Fault begin error end) reader = (node : grammar.Fault) × (fault_view error ≡ Some node) × (lexemes ≡ []) × (fault ≡ Some (record { begin = begin; node = node; end = end })) × (has_read_none reader ≡ begins_with_tab text)
-IsNext text lexemes fault next.Nothing reader = (lexemes ≡ []) × (fault ≡ None) × IsAhead text reader reader.stage [] None × IsStateAfter text (history_of text) reader
+-- the fault of the text, between two offsets
+abbrev pub IsRaw : grammar.Spanned grammar.Fault → ℕ × LexemeError × ℕ → Type 0
+IsRaw fault found = (found.0 ≡ fault.begin) × (fault_view found.1 ≡ Some fault.node) × (found.2 ≡ fault.end)
+
+-- what is returned after the last lexeme: the fault, if there is one
+abbrev pub IsLast : Text → List (grammar.Spanned TokenView) → Option (grammar.Spanned grammar.Fault) → Option (ℕ × LexemeError × ℕ) → Reader → Type 0
+IsLast text lexemes fault (Some found) reader = (lexemes ≡ []) × ((it : grammar.Spanned grammar.Fault) × (fault ≡ Some it) × IsRaw it found) × (has_read_none reader ≡ begins_with_tab text)
+IsLast text lexemes fault None reader = (lexemes ≡ []) × (fault ≡ None) × IsAhead text reader reader.stage [] None × IsStateAfter text (history_of text) reader
 
 -- the reader is in code or in an f-string expression
 abbrev pub IsInCode : Reader → Type 0

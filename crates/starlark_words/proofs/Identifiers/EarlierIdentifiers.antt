@@ -16,7 +16,7 @@ use Rattle.starlark_grammar.specs.declared.class.Class.{Class}
 use Rattle.starlark_grammar.specs.declared.class.Class.TheVariants.{Skipped, Comment, Tabs, Identifier, Decimal, Hexadecimal, Octal, Binary, Float}
 use Rattle.starlark_grammar.specs.Front.{language_front}
 use Rattle.starlark_grammar.specs.EarlierLanguage.{is_rf_opener, earlier_language, earlier_front}
-use Rattle.starlark_grammar.proofs.Words.Classes.{all_more, all_fit, language_all_fit, row_fits, none_found}
+use Rattle.starlark_grammar.proofs.Words.Classes.{RowsFit, all_more, language_all_fit, patterns_all_fit}
 use Rattle.starlark_grammar.proofs.Words.EarlierTable.{class_agrees, front_agrees}
 use Rattle.starlark_grammar.proofs.Words.Fronts.{front_sound}
 use Rattle.starlark_words.specs.Inner.ScannedWords.{is_quote}
@@ -34,21 +34,9 @@ quote_fits Skipped word = has_no_quote word
 quote_fits Identifier word = has_no_quote word
 quote_fits class word = true
 
-openers_fit : all_fit quote_fits openers ≡ true
-unfolding openers
-openers_fit = refl
-
-line_ends_fit : all_fit quote_fits line_ends ≡ true
-unfolding line_ends
-line_ends_fit = refl
-
-symbols_fit : all_fit quote_fits symbols ≡ true
-unfolding symbols
-symbols_fit = refl
-
-names_fit : all_fit quote_fits names ≡ true
-unfolding names
-names_fit = refl
+rows_fit : RowsFit quote_fits
+unfolding openers line_ends symbols names
+rows_fit = (refl, refl, refl, refl)
 
 name_is_none : (b : ℕ) → is_in_name b ≡ true → is_no_quote b ≡ true
 name_is_none b h = grind (arith, nat_tests)
@@ -69,23 +57,9 @@ identifier_fits (b ∷ bs) h =
     let parts = and_parts _ _ h in
     rw (begin_is_none b parts.0) (all_more is_in_name is_no_quote bs name_is_none parts.1)
 
-patterns_fit : (word : Text) (class : Class) → class_in patterns word ≡ Some class → quote_fits class word ≡ true
-unfolding class_in patterns
-patterns_fit word class =
-    row_fits quote_fits word (is_run (nat_eq 32) word) Skipped class _ (blanks_fit word)
-    (row_fits quote_fits word (is_comment word) Comment class _ (λ h. refl)
-    (row_fits quote_fits word (is_run (nat_eq 9) word) Tabs class _ (λ h. refl)
-    (row_fits quote_fits word (is_identifier word) Identifier class _ (identifier_fits word)
-    (row_fits quote_fits word (is_run is_ascii_digit word) Decimal class _ (λ h. refl)
-    (row_fits quote_fits word (is_based 120 88 is_ascii_hexdigit word) Hexadecimal class _ (λ h. refl)
-    (row_fits quote_fits word (is_based 111 79 is_octal_digit word) Octal class _ (λ h. refl)
-    (row_fits quote_fits word (is_based 98 66 is_binary_digit word) Binary class _ (λ h. refl)
-    (row_fits quote_fits word (is_float word) Float class _ (λ h. refl)
-    (row_fits quote_fits word (is_pointed word) Float class _ (λ h. refl) (none_found quote_fits word class))))))))))
-
 -- by both tables
 language_fits : (word : Text) (class : Class) → class_in language word ≡ Some class → quote_fits class word ≡ true
-language_fits = language_all_fit quote_fits openers_fit line_ends_fit symbols_fit names_fit patterns_fit
+language_fits = language_all_fit quote_fits rows_fit (λ word. patterns_all_fit quote_fits word (blanks_fit word) (λ h. refl) (λ h. refl) (identifier_fits word) (λ h. refl) (λ h. refl) (λ h. refl) (λ h. refl) (λ h. refl) (λ h. refl))
 
 single_is_no_word : class_in earlier_language (codes "rf'") ≡ None
 unfolding earlier_language class_in openers line_ends symbols names patterns

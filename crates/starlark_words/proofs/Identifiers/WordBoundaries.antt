@@ -117,16 +117,16 @@ word_is_cut text utf8 class len h bare =
     cut zero some inside ascii = absurd (omega (arith, some))
     cut (suc n) some inside ascii = rw add-one at (IsCharBoundary-after_ascii text n utf8 (omega (arith, inside)) (last_is_ascii text n ascii (omega (arith, inside))))
 
+skipped_front : (front : Option (Class × ℕ)) (len : ℕ) → if_skipped front ≡ Some len → front ≡ Some (Skipped, len)
+skipped_front (Some (Skipped, n)) len same = ap (λ found. Some (Skipped, unwrap_or found 0)) same
+skipped_front front len same = grind arith
+
 pub skipped_is_cut : (text : Text) → IsUtf8 text → (len : ℕ) → if_skipped (language_front text) ≡ Some len → IsCut text len
-skipped_is_cut text utf8 len h = by_front (language_front text) refl h
-  where
-    by_front : (front : Option (Class × ℕ)) → language_front text ≡ front → if_skipped front ≡ Some len → IsCut text len
-    by_front (Some (Skipped, n)) e same = subst (IsCut text) (ap (λ found. unwrap_or found 0) same) (word_is_cut text utf8 Skipped n e tt)
-    by_front front e same = grind arith
+skipped_is_cut text utf8 len h = word_is_cut text utf8 Skipped len (skipped_front (language_front text) len h) tt
+
+identifier_front : (front : Option (Class × ℕ)) (len : ℕ) → if_identifier front ≡ Some len → front ≡ Some (Identifier, len)
+identifier_front (Some (Identifier, n)) len same = ap (λ found. Some (Identifier, unwrap_or found 0)) same
+identifier_front front len same = grind arith
 
 pub identifier_is_cut : (text : Text) → IsUtf8 text → (len : ℕ) → if_identifier (language_front text) ≡ Some len → IsCut text len
-identifier_is_cut text utf8 len h = by_front (language_front text) refl h
-  where
-    by_front : (front : Option (Class × ℕ)) → language_front text ≡ front → if_identifier front ≡ Some len → IsCut text len
-    by_front (Some (Identifier, n)) e same = subst (IsCut text) (ap (λ found. unwrap_or found 0) same) (word_is_cut text utf8 Identifier n e tt)
-    by_front front e same = grind arith
+identifier_is_cut text utf8 len h = word_is_cut text utf8 Identifier len (identifier_front (language_front text) len h) tt

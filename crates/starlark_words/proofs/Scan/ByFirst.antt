@@ -209,13 +209,17 @@ class_of_hash : (word : Text) → class_in language (35 ∷ word) ≡ cond (list
 unfolding is_unlisted openers line_ends symbols names
 class_of_hash word = class_of_unlisted 35 word refl ∙ no_number 35 word refl refl (not_pointed 35 word refl)
 
+-- a text whose first byte begins a run
+front_of_run : (test : ℕ → Bool) (class : Class) (first : ℕ) → test first ≡ true → ((word : Text) → class_in language (first ∷ word) ≡ cond (list_all test word) (Some class) None) → (text : Text) → slice_get text 0 ≡ Some first → language_front text ≡ Some (class, prefix_len test text)
+unfolding language_front
+front_of_run test class first passes known [] e = cc
+front_of_run test class first passes known (b ∷ rest) e =
+    let same : b ≡ first = cc in
+    rw (same, front_run test (class_in language) (λ _. class) first rest known, passes) (ap (λ n. Some (class, n)) (omega arith))
+
 -- a text that begins with a blank, with a tab, or with `#`
 pub front_blank : (text : Text) → slice_get text 0 ≡ Some 32 → language_front text ≡ Some (Skipped, prefix_len (nat_eq 32) text)
-unfolding language_front
-front_blank [] e = cc
-front_blank (b ∷ rest) e =
-    let is_blank : b ≡ 32 = cc in
-    rw (is_blank, front_run (nat_eq 32) (class_in language) (λ _. Skipped) 32 rest class_of_blank) (ap (λ n. Some (Skipped, n)) (omega arith))
+front_blank = front_of_run (nat_eq 32) Skipped 32 refl class_of_blank
 
 -- a run of spaces
 pub front_spaces : (text : Text) (len : ℕ) → len ≡ prefix_len (nat_eq 32) text → 0 < len → language_front text ≡ Some (Skipped, len)
@@ -243,18 +247,10 @@ spaces_are_no_bang (b ∷ rest) len e some = go (nat_eq 32 b) refl
         absurd (omega (arith, some, e, none))
 
 pub front_tab : (text : Text) → slice_get text 0 ≡ Some 9 → language_front text ≡ Some (Tabs, prefix_len (nat_eq 9) text)
-unfolding language_front
-front_tab [] e = cc
-front_tab (b ∷ rest) e =
-    let is_tab : b ≡ 9 = cc in
-    rw (is_tab, front_run (nat_eq 9) (class_in language) (λ _. Tabs) 9 rest class_of_tab) (ap (λ n. Some (Tabs, n)) (omega arith))
+front_tab = front_of_run (nat_eq 9) Tabs 9 refl class_of_tab
 
 pub front_hash : (text : Text) → slice_get text 0 ≡ Some 35 → language_front text ≡ Some (Comment, prefix_len is_in_line text)
-unfolding language_front
-front_hash [] e = cc
-front_hash (b ∷ rest) e =
-    let is_hash : b ≡ 35 = cc in
-    rw (is_hash, front_run is_in_line (class_in language) (λ _. Comment) 35 rest class_of_hash) (ap (λ n. Some (Comment, n)) (omega arith))
+front_hash = front_of_run is_in_line Comment 35 refl class_of_hash
 
 pub front_empty : (text : Text) → slice_get text 0 ≡ None → language_front text ≡ None
 unfolding language_front longest_front
@@ -297,19 +293,20 @@ front_of_quote b rest small h =
     front_single (class_in language) b rest (λ c word. class_of_quote b (c ∷ word) small h ∙ lookup_fails is_no_long_quote (b ∷ c ∷ word) openers openers_are_no_long_quotes (rw h refl))
     ∙ ap (option_map (λ class. (class, 1))) (class_of_quote b [] small h)
 
+-- what holds of all texts that begin with a byte
+begun_by : (P : Text → Type 0) (first : ℕ) → ((rest : Text) → P (first ∷ rest)) → (text : Text) → slice_get text 0 ≡ Some first → P text
+begun_by P first holds [] e = cc
+begun_by P first holds (b ∷ rest) e =
+    let same : b ≡ first = cc in
+    subst (λ (n : ℕ). P (n ∷ rest)) (sym same) (holds rest)
+
 pub front_single_quote : (text : Text) → slice_get text 0 ≡ Some 39 → language_front text ≡ Some (Opener OfText false SingleQuote, 1)
 unfolding openers
-front_single_quote [] e = cc
-front_single_quote (b ∷ rest) e =
-    let quote : b ≡ 39 = cc in
-    rw quote (front_of_quote 39 rest (omega arith) refl)
+front_single_quote = begun_by (λ text. language_front text ≡ Some (Opener OfText false SingleQuote, 1)) 39 (λ rest. front_of_quote 39 rest (omega arith) refl)
 
 pub front_double_quote : (text : Text) → slice_get text 0 ≡ Some 34 → language_front text ≡ Some (Opener OfText false DoubleQuote, 1)
 unfolding openers
-front_double_quote [] e = cc
-front_double_quote (b ∷ rest) e =
-    let quote : b ≡ 34 = cc in
-    rw quote (front_of_quote 34 rest (omega arith) refl)
+front_double_quote = begun_by (λ text. language_front text ≡ Some (Opener OfText false DoubleQuote, 1)) 34 (λ rest. front_of_quote 34 rest (omega arith) refl)
 
 -- marks
 

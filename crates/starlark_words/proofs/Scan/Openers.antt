@@ -130,33 +130,26 @@ IsLettered kind quote text = (Some (Opener kind false quote, 2) ≡ language_fro
 IsLetterOf : ℕ → LiteralKind → Type 0
 IsLetterOf letter kind = (quote : ℕ) (rest : Text) → ((i : ℕ) → get_or (letter ∷ quote ∷ rest) i 0 < 256) → (quote ≡ 39 → IsLettered kind Single (letter ∷ quote ∷ rest)) × (quote ≡ 34 → IsLettered kind Double (letter ∷ quote ∷ rest))
 
+-- a byte that is a known quote
+lettered : (letter known : ℕ) (kind : LiteralKind) (quote : Quote) (b : ℕ) (rest : Text) → b ≡ known → IsLettered kind quote (letter ∷ known ∷ rest) → IsLettered kind quote (letter ∷ b ∷ rest)
+lettered letter known kind quote b rest e is = subst (λ (n : ℕ). IsLettered kind quote (letter ∷ n ∷ rest)) (sym e) is
+
+small_as : (letter known b : ℕ) (rest : Text) → ((i : ℕ) → get_or (letter ∷ b ∷ rest) i 0 < 256) → b ≡ known → (i : ℕ) → get_or (letter ∷ known ∷ rest) i 0 < 256
+small_as letter known b rest small e = subst (λ (n : ℕ). (i : ℕ) → get_or (letter ∷ n ∷ rest) i 0 < 256) e small
+
 opens_fstrings : IsLetterOf 102 FString
 unfolding IsLetterOf IsLettered openers
-opens_fstrings quote rest small = (single, double)
-  where
-    single : quote ≡ 39 → IsLettered FString Single (102 ∷ quote ∷ rest)
-    single e =
-        let front = front_named (102 ∷ 39 ∷ rest) 1 (subst (λ (n : ℕ). (i : ℕ) → get_or (102 ∷ n ∷ rest) i 0 < 256) e small) refl refl in
-        subst (λ (n : ℕ). IsLettered FString Single (102 ∷ n ∷ rest)) (sym e) (sym front, refl)
-
-    double : quote ≡ 34 → IsLettered FString Double (102 ∷ quote ∷ rest)
-    double e =
-        let front = front_named (102 ∷ 34 ∷ rest) 1 (subst (λ (n : ℕ). (i : ℕ) → get_or (102 ∷ n ∷ rest) i 0 < 256) e small) refl refl in
-        subst (λ (n : ℕ). IsLettered FString Double (102 ∷ n ∷ rest)) (sym e) (sym front, refl)
+opens_fstrings quote rest small = (
+  λ e. lettered 102 39 FString Single quote rest e (sym (front_named (102 ∷ 39 ∷ rest) 1 (small_as 102 39 quote rest small e) refl refl), refl),
+  λ e. lettered 102 34 FString Double quote rest e (sym (front_named (102 ∷ 34 ∷ rest) 1 (small_as 102 34 quote rest small e) refl refl), refl),
+)
 
 opens_bytes : IsLetterOf 98 Bytes
 unfolding IsLetterOf IsLettered openers
-opens_bytes quote rest small = (single, double)
-  where
-    single : quote ≡ 39 → IsLettered Bytes Single (98 ∷ quote ∷ rest)
-    single e =
-        let front = front_named (98 ∷ 39 ∷ rest) 1 (subst (λ (n : ℕ). (i : ℕ) → get_or (98 ∷ n ∷ rest) i 0 < 256) e small) refl refl in
-        subst (λ (n : ℕ). IsLettered Bytes Single (98 ∷ n ∷ rest)) (sym e) (sym front, refl)
-
-    double : quote ≡ 34 → IsLettered Bytes Double (98 ∷ quote ∷ rest)
-    double e =
-        let front = front_named (98 ∷ 34 ∷ rest) 1 (subst (λ (n : ℕ). (i : ℕ) → get_or (98 ∷ n ∷ rest) i 0 < 256) e small) refl refl in
-        subst (λ (n : ℕ). IsLettered Bytes Double (98 ∷ n ∷ rest)) (sym e) (sym front, refl)
+opens_bytes quote rest small = (
+  λ e. lettered 98 39 Bytes Single quote rest e (sym (front_named (98 ∷ 39 ∷ rest) 1 (small_as 98 39 quote rest small e) refl refl), refl),
+  λ e. lettered 98 34 Bytes Double quote rest e (sym (front_named (98 ∷ 34 ∷ rest) 1 (small_as 98 34 quote rest small e) refl refl), refl),
+)
 
 quoted : (letter : ℕ) (kind : LiteralKind) → IsLetterOf letter kind → (b : ℕ) (rest : Text) (quote : Quote) → ((i : ℕ) → get_or (letter ∷ b ∷ rest) i 0 < 256) → quote_of b ≡ Some quote → IsLettered kind quote (letter ∷ b ∷ rest)
 unfolding IsLetterOf

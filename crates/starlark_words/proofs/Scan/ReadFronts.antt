@@ -5,7 +5,7 @@ use Rattle.std.specs.Char.{is_ascii_digit}
 use Rattle.std.specs.List.{prefix_len, slice_get}
 use Rattle.starlark_grammar.specs.Front.{longest_front}
 use Rattle.starlark_grammar.specs.Words.{Text, begins, has_base, is_in_name, is_name_start, sign_len}
-use Rattle.starlark_words.specs.Inner.ScannedWords.{begins_number, begins_plain_number, begins_symbol, is_digit_alone, is_mark_alone, quote_after, text_opener}
+use Rattle.starlark_words.specs.Inner.ScannedWords.{begins_cr_lf, begins_number, begins_plain_number, begins_symbol, is_digit_alone, is_mark_alone, quote_after, text_opener}
 use Rattle.starlark_words.proofs.Scan.Marks.{front_three, mark_of}
 
 pub begins_by_one : (test : ℕ → Bool) (text : Text) → begins test (take 1 text) ≡ begins test text
@@ -66,6 +66,11 @@ pub digit_by_three : (text : Text) → is_digit_alone (take 3 text) ≡ is_digit
 digit_by_three [] = refl
 digit_by_three (a ∷ []) = refl
 digit_by_three (a ∷ b ∷ rest) = refl
+
+pub cr_lf_by_two : (text : Text) → begins_cr_lf (take 2 text) ≡ begins_cr_lf text
+cr_lf_by_two [] = refl
+cr_lf_by_two (a ∷ []) = refl
+cr_lf_by_two (a ∷ b ∷ rest) = refl
 
 pub symbol_by_two : (text : Text) → begins_symbol (take 2 text) ≡ begins_symbol text
 symbol_by_two [] = refl

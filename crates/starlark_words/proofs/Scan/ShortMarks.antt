@@ -9,14 +9,14 @@ use Rattle.starlark_grammar.specs.Front.{longest_front, language_front}
 use Rattle.starlark_grammar.specs.Pieces.{is_bang}
 use Rattle.starlark_grammar.specs.Words.{Text, class_in, is_name_start, line_ends, symbols}
 use Rattle.starlark_grammar.proofs.Words.Fronts.{front_absent, front_none, front_sound}
-use Rattle.starlark_words.specs.Inner.ScannedWords.{begins_number, goes_on, is_lone_mark, is_mark_alone, is_symbol, begins_symbol, marks, word_len, word_view}
+use Rattle.starlark_words.specs.Inner.ScannedWords.{begins_number, begins_cr_lf, goes_on, is_lone_mark, is_mark_alone, is_symbol, begins_symbol, marks, word_len, word_view}
 use Rattle.starlark_words.specs.declared.scanner.word.Word.{Word}
 use Rattle.starlark_grammar.specs.declared.class.Class.{Class}
-use Rattle.starlark_grammar.specs.declared.class.Class.TheVariants.{Fixed}
+use Rattle.starlark_grammar.specs.declared.class.Class.TheVariants.{Fixed, LineEnd}
 use Rattle.starlark_grammar.specs.declared.class.Terminal.TheVariants.{BangEqual}
 use Rattle.starlark_words.proofs.Scan.ByFirst.{front_mark}
 use Rattle.starlark_words.proofs.Scan.Listed.{all_pass, lookup_fails, each_byte, implied}
-use Rattle.starlark_words.proofs.Scan.Marks.{mark_is, mark_of}
+use Rattle.starlark_words.proofs.Scan.Marks.{front_three, mark_is, mark_of}
 
 -- a byte that such a mark may be
 abbrev is_one : ℕ → Bool
@@ -216,6 +216,27 @@ front_symbol (x ∷ c ∷ rest) small h = go (x == 33 && c == 61) refl h
         let parts = and_parts _ _ (subst (λ (l : Bool). (l || (is_symbol x && not (x == 46))) ≡ true) e h) in
         let one = symbol_is_one x parts.0 in
         (front_marks (x ∷ c ∷ rest) x refl (small 0) one (rw (no_digit x (small 0) one, not-true _ parts.1) refl), one_is_no_bang x (c ∷ rest) (small 0) one, some_front x (c ∷ rest) (symbol_is_mark x (small 0) one))
+
+cr_lf_is_line_end : mark_of (13 ∷ 10 ∷ []) ≡ Some LineEnd
+unfolding line_ends symbols class_in
+cr_lf_is_line_end = refl
+
+-- no longer mark begins with a CR and an LF
+longest_cr_lf : (rest : Text) → longest_front mark_of (13 ∷ 10 ∷ rest) ≡ Some (LineEnd, 2)
+unfolding line_ends symbols class_in longest_front
+longest_cr_lf [] = refl
+longest_cr_lf (c ∷ rest) = front_three 13 10 c rest
+
+-- a text that begins with a CR and an LF
+pub front_cr_lf : (text : Text) → begins_cr_lf text ≡ true → (language_front text ≡ Some (LineEnd, 2)) × (is_bang text ≡ false)
+front_cr_lf [] h = cc
+front_cr_lf (a ∷ []) h = cc
+front_cr_lf (a ∷ b ∷ rest) h =
+    let parts = and_parts _ _ h in
+    rw (eqb-true a 13 parts.0, eqb-true b 10 parts.1) (front rest)
+  where
+    front : (rest : Text) → (language_front (13 ∷ 10 ∷ rest) ≡ Some (LineEnd, 2)) × (is_bang (13 ∷ 10 ∷ rest) ≡ false)
+    front rest = let found = two_at_front 13 10 rest LineEnd (omega arith) cr_lf_is_line_end in (found.0 ∙ longest_cr_lf rest, found.1)
 
 -- a mark that was found has a byte or more
 pub some_len : (found : Option Word) (text : Text) → option_map word_view found ≡ longest_front mark_of text → longest_front mark_of text ≢ None → 1 ≤ word_len found

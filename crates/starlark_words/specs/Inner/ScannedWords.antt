@@ -72,6 +72,11 @@ is_mark_alone [] = false
 is_mark_alone (b ∷ []) = is_lone_mark b
 is_mark_alone (b ∷ c ∷ rest) = is_lone_mark b || (is_symbol b && not (goes_on b c))
 
+-- the text begins with a CR and an LF
+abbrev pub begins_cr_lf : grammar.Text → Bool
+begins_cr_lf (a ∷ b ∷ rest) = a == 13 && b == 10
+begins_cr_lf text = false
+
 -- the text begins with `!=`, or with a symbol that begins longer ones and is no point
 abbrev pub begins_symbol : grammar.Text → Bool
 begins_symbol [] = false

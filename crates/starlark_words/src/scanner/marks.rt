@@ -3,32 +3,32 @@
 ghost use Rattle.std.specs.Prelude.{◌≡◌, ◌≤◌, ◌∷◌, []};
 ghost use Rattle.std.specs.Option.{option_map};
 ghost use Rattle.starlark_grammar.specs.Front.{longest_front};
-ghost use Rattle.starlark_words.specs.Inner.ScannedWords.{begins_symbol, is_mark_alone, marks, word_len, word_view};
+ghost use Rattle.starlark_words.specs.Inner.ScannedWords.{begins_cr_lf, begins_symbol, is_mark_alone, marks, word_len, word_view};
 ghost use Rattle.starlark_grammar.specs.Words.{class_in};
 
 use super::first::{goes_on, is_lone_mark, is_symbol};
 use super::{Class, Terminal, Word};
 use starlark_grammar::terminals;
 
-/// A `match` on the symbols of a length, after other arms.
-macro_rules! match_symbols {
-    ((1, $($of:tt)*) symbols { 1 $rows:tt $($more:tt)* } names $names:tt) => {
-        symbol_class!($rows $($of)*)
+/// The symbol of a length that some bytes are.
+macro_rules! symbol_of {
+    ((1, $of:expr) symbols { 1 $rows:tt $($more:tt)* } names $names:tt) => {
+        symbol_among!($rows $of)
     };
-    ((2, $($of:tt)*) symbols { 1 $one:tt 2 $rows:tt $($more:tt)* } names $names:tt) => {
-        symbol_class!($rows $($of)*)
+    ((2, $of:expr) symbols { 1 $one:tt 2 $rows:tt $($more:tt)* } names $names:tt) => {
+        symbol_among!($rows $of)
     };
-    ((3, $($of:tt)*) symbols { 1 $one:tt 2 $two:tt 3 $rows:tt } names $names:tt) => {
-        symbol_class!($rows $($of)*)
+    ((3, $of:expr) symbols { 1 $one:tt 2 $two:tt 3 $rows:tt } names $names:tt) => {
+        symbol_among!($rows $of)
     };
 }
 
-/// A `match` on some symbols, after other arms.
-macro_rules! symbol_class {
-    ({ $([$($byte:literal),+] $text:literal $symbol:ident,)* } $of:expr, { $($arms:tt)* }) => {
+/// The symbol of some rows that some bytes are.
+// Not a `Class`: the compiler would drop the hints that inline the lexer's step for its length.
+macro_rules! symbol_among {
+    ({ $([$($byte:literal),+] $text:literal $symbol:ident,)* } $of:expr) => {
         match $of {
-            $($arms)*
-            $(($($byte),+) => Some(Class::Fixed(Terminal::$symbol)),)*
+            $(($($byte),+) => Some(Terminal::$symbol),)*
             _ => None,
         }
     };
@@ -57,9 +57,11 @@ pub(crate) fn is_mark_alone(text: &[u8]) -> bool
 fn single(byte: u8) -> Option<Class>
     ensures { result ≡ class_in marks (byte ∷ []) }
 {
-    terminals!(match_symbols!(1, byte, {
-        b'\n' => Some(Class::LineEnd),
-    }))
+    match terminals!(symbol_of!(1, byte)) {
+        Some(symbol) => Some(Class::Fixed(symbol)),
+        None if byte == b'\n' => Some(Class::LineEnd),
+        None => None,
+    }
 }
 
 /// The class of a mark of two bytes.
@@ -68,10 +70,12 @@ fn single(byte: u8) -> Option<Class>
 fn double(first: u8, second: u8) -> Option<Class>
     ensures { result ≡ class_in marks (first ∷ second ∷ []) }
 {
-    terminals!(match_symbols!(2, (first, second), {
-        (b'\r', b'\n') => Some(Class::LineEnd),
-        (b'\\', b'\n') => Some(Class::Skipped),
-    }))
+    match (terminals!(symbol_of!(2, (first, second))), first, second) {
+        (Some(symbol), _, _) => Some(Class::Fixed(symbol)),
+        (None, b'\r', b'\n') => Some(Class::LineEnd),
+        (None, b'\\', b'\n') => Some(Class::Skipped),
+        (None, _, _) => None,
+    }
 }
 
 /// The class of a mark of three bytes.
@@ -80,9 +84,24 @@ fn double(first: u8, second: u8) -> Option<Class>
 fn triple(first: u8, second: u8, third: u8) -> Option<Class>
     ensures { result ≡ class_in marks (first ∷ second ∷ third ∷ []) }
 {
-    terminals!(match_symbols!(3, (first, second, third), {
-        (b'\\', b'\r', b'\n') => Some(Class::Skipped),
-    }))
+    match (
+        terminals!(symbol_of!(3, (first, second, third))),
+        first,
+        second,
+        third,
+    ) {
+        (Some(symbol), _, _, _) => Some(Class::Fixed(symbol)),
+        (None, b'\\', b'\r', b'\n') => Some(Class::Skipped),
+        (None, _, _, _) => None,
+    }
+}
+
+/// Whether a text begins with a CR and an LF.
+#[inline(always)]
+pub(crate) fn begins_cr_lf(text: &[u8]) -> bool
+    ensures { result ≡ begins_cr_lf text.now }
+{
+    matches!(text, [b'\r', b'\n', ..])
 }
 
 /// Whether a text begins with `!=`, or with a symbol that begins longer ones and is no point.

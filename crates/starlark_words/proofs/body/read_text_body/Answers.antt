@@ -4,9 +4,18 @@ use Rattle.starlark_grammar.specs.Items as grammar
 use Rattle.starlark_grammar.specs.Words.{Text}
 use Rattle.starlark_words.specs.Inner.LiteralViews.{literal_view, stop_view, value_view}
 use Rattle.starlark_words.proofs.LiteralBodies.BodyReads.{item_reads, short_reads}
-use Rattle.starlark_words.proofs.LiteralBodies.BodyRounds.{after_run, front_item, item_boundary, item_inside, run_stops}
+use Rattle.starlark_words.proofs.LiteralBodies.BodyRounds.{after_run, front_item, item_boundary, item_inside, run_stops, IsAfterRun}
 use Rattle.starlark_words.proofs.LiteralBodies.BodySteps.{IsFront, front_none}
 use Rattle.starlark_words.proofs.body.read_text_body.Goals as goal
+use Rattle.starlark_words.proofs.body.read_text_body.Goals.{After-range_from-rest, In-Some}
+
+-- the run before an item, …
+run_is : (c : After-range_from-rest) → IsAfterRun (literal_view c.args.literal) c.args.text.now (c.loop-value.len + length c.first_run-run.result.now) ((string_bytes c.loop-value.value) ++ c.first_run-run.result.now) c.range_from-rest.result.now
+run_is c = after_run (literal_view c.args.literal) c.args.text.now c.range_from.result.now c.loop-value.len (string_bytes c.loop-value.value) c.first_run-run.result.now c.range_from-rest.result.now c.utf8.text c.loop-value.invariant.boundary c.loop-value.invariant.front c.range_from.ensures.value c.first_run-run.ensures.value c.first_run-run.ensures.boundary c.range_from-rest.ensures.value
+
+-- … and an item that its first bytes tell
+peeked : (c : In-Some) → grammar.found_at (literal_view c.args.literal) c.range_from-rest.result.now ≡ grammar.Goes (record { len = 2; value = encode_utf8 c.in-Some.character })
+peeked c = c.in-Some.ensures c.range_from-rest.result.now (c.uncounted_front-front.ensures ∙ ap (take 3) c.as_bytes.ensures.value)
 
 pub loop-value-init : goal.loop-value-init
 loop-value-init c = record {
@@ -17,18 +26,16 @@ loop-value-init c = record {
 
 pub loop-value-smaller-in-Some : goal.loop-value-smaller-in-Some
 loop-value-smaller-in-Some c =
-    let after = after_run (literal_view c.args.literal) c.args.text.now c.range_from.result.now c.loop-value.len (string_bytes c.loop-value.value) c.first_run-run.result.now c.range_from-rest.result.now c.utf8.text c.loop-value.invariant.boundary c.loop-value.invariant.front c.range_from.ensures.value c.first_run-run.ensures.value c.first_run-run.ensures.boundary c.range_from-rest.ensures.value in
+    let after = run_is (goal.at.loop-value-smaller-in-Some c).After-range_from-rest in
     let item : grammar.Item = record { len = 2; value = encode_utf8 c.in-Some.character } in
-    let read : c.uncounted_front-front.result.now ≡ take 3 c.range_from-rest.result.now = c.uncounted_front-front.ensures ∙ ap (take 3) c.as_bytes.ensures.value in
-    let found : grammar.found_at (literal_view c.args.literal) c.range_from-rest.result.now ≡ grammar.Goes item = c.in-Some.ensures c.range_from-rest.result.now read in
+    let found = peeked (goal.at.loop-value-smaller-in-Some c).In-Some in
     omega (arith, (item_inside (literal_view c.args.literal) c.args.text.now (c.loop-value.len + length c.first_run-run.result.now) ((string_bytes c.loop-value.value) ++ c.first_run-run.result.now) c.range_from-rest.result.now item after found).1)
 
 pub loop-value-preserved-in-Some : goal.loop-value-preserved-in-Some
 loop-value-preserved-in-Some c =
-    let after = after_run (literal_view c.args.literal) c.args.text.now c.range_from.result.now c.loop-value.len (string_bytes c.loop-value.value) c.first_run-run.result.now c.range_from-rest.result.now c.utf8.text c.loop-value.invariant.boundary c.loop-value.invariant.front c.range_from.ensures.value c.first_run-run.ensures.value c.first_run-run.ensures.boundary c.range_from-rest.ensures.value in
+    let after = run_is (goal.at.loop-value-preserved-in-Some c).After-range_from-rest in
     let item : grammar.Item = record { len = 2; value = encode_utf8 c.in-Some.character } in
-    let read : c.uncounted_front-front.result.now ≡ take 3 c.range_from-rest.result.now = c.uncounted_front-front.ensures ∙ ap (take 3) c.as_bytes.ensures.value in
-    let found : grammar.found_at (literal_view c.args.literal) c.range_from-rest.result.now ≡ grammar.Goes item = c.in-Some.ensures c.range_from-rest.result.now read in
+    let found = peeked (goal.at.loop-value-preserved-in-Some c).In-Some in
     let more = front_item (literal_view c.args.literal) c.args.text.now (c.loop-value.len + length c.first_run-run.result.now) ((string_bytes c.loop-value.value) ++ c.first_run-run.result.now) c.range_from-rest.result.now item after found in
     record {
       front = subst (λ (t : Text). IsFront (literal_view c.args.literal) c.args.text.now (c.loop-value.len + length c.first_run-run.result.now + 2) t) (sym (c.in_ok-push.ensures.bytes ∙ ap (λ (t : Text). t ++ encode_utf8 c.in-Some.character) c.in_ok-append_run.ensures)) more;
@@ -38,21 +45,21 @@ loop-value-preserved-in-Some c =
 
 pub overflow_add-len-in-Goes : goal.overflow_add-len-in-Goes
 overflow_add-len-in-Goes c =
-    let after = after_run (literal_view c.args.literal) c.args.text.now c.range_from.result.now c.loop-value.len (string_bytes c.loop-value.value) c.first_run-run.result.now c.range_from-rest.result.now c.utf8.text c.loop-value.invariant.boundary c.loop-value.invariant.front c.range_from.ensures.value c.first_run-run.ensures.value c.first_run-run.ensures.boundary c.range_from-rest.ensures.value in
+    let after = run_is (goal.at.overflow_add-len-in-Goes c).After-range_from-rest in
     let item : grammar.Item = record { len = c.in-Goes.item.len; value = value_view c.in-Goes.item.value } in
     let inside = item_inside (literal_view c.args.literal) c.args.text.now (c.loop-value.len + length c.first_run-run.result.now) ((string_bytes c.loop-value.value) ++ c.first_run-run.result.now) c.range_from-rest.result.now item after (sym c.in-Goes.ensures.value) in
     search (rules, inside.1)
 
 pub loop-value-smaller : goal.loop-value-smaller
 loop-value-smaller c =
-    let after = after_run (literal_view c.args.literal) c.args.text.now c.range_from.result.now c.loop-value.len (string_bytes c.loop-value.value) c.first_run-run.result.now c.range_from-rest.result.now c.utf8.text c.loop-value.invariant.boundary c.loop-value.invariant.front c.range_from.ensures.value c.first_run-run.ensures.value c.first_run-run.ensures.boundary c.range_from-rest.ensures.value in
+    let after = run_is (goal.at.loop-value-smaller c).After-range_from-rest in
     let item : grammar.Item = record { len = c.in-Goes.item.len; value = value_view c.in-Goes.item.value } in
     let inside = item_inside (literal_view c.args.literal) c.args.text.now (c.loop-value.len + length c.first_run-run.result.now) ((string_bytes c.loop-value.value) ++ c.first_run-run.result.now) c.range_from-rest.result.now item after (sym c.in-Goes.ensures.value) in
     omega (arith, inside.0, inside.1)
 
 pub loop-value-preserved : goal.loop-value-preserved
 loop-value-preserved c =
-    let after = after_run (literal_view c.args.literal) c.args.text.now c.range_from.result.now c.loop-value.len (string_bytes c.loop-value.value) c.first_run-run.result.now c.range_from-rest.result.now c.utf8.text c.loop-value.invariant.boundary c.loop-value.invariant.front c.range_from.ensures.value c.first_run-run.ensures.value c.first_run-run.ensures.boundary c.range_from-rest.ensures.value in
+    let after = run_is (goal.at.loop-value-preserved c).After-range_from-rest in
     let item : grammar.Item = record { len = c.in-Goes.item.len; value = value_view c.in-Goes.item.value } in
     let found : grammar.found_at (literal_view c.args.literal) c.range_from-rest.result.now ≡ grammar.Goes item = sym c.in-Goes.ensures.value in
     let more = front_item (literal_view c.args.literal) c.args.text.now (c.loop-value.len + length c.first_run-run.result.now) ((string_bytes c.loop-value.value) ++ c.first_run-run.result.now) c.range_from-rest.result.now item after found in
@@ -64,6 +71,6 @@ loop-value-preserved c =
 
 pub returns-in-Stops-clause-body : goal.returns-in-Stops-clause-body
 returns-in-Stops-clause-body c =
-    let after = after_run (literal_view c.args.literal) c.args.text.now c.range_from.result.now c.loop-value.len (string_bytes c.loop-value.value) c.first_run-run.result.now c.range_from-rest.result.now c.utf8.text c.loop-value.invariant.boundary c.loop-value.invariant.front c.range_from.ensures.value c.first_run-run.ensures.value c.first_run-run.ensures.boundary c.range_from-rest.ensures.value in
+    let after = run_is (goal.at.returns-in-Stops-clause-body c).After-range_from-rest in
     let end = run_stops (literal_view c.args.literal) c.args.text.now (c.loop-value.len + length c.first_run-run.result.now) ((string_bytes c.loop-value.value) ++ c.first_run-run.result.now) c.range_from-rest.result.now (stop_view c.in-Stops.stop) after (sym c.in-Stops.ensures.value) in
     record { len = end.0; value = c.in_ok-append_run.ensures ∙ end.1; stop = end.2 }

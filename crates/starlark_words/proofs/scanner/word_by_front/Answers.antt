@@ -2,11 +2,11 @@ use Rattle.std.proofs.Common.{◌≡◌, List, ℕ, Some, refl, sym, ap, take, �
 use Rattle.std.specs.Option.{option_map}
 use Rattle.starlark_grammar.specs.Front.{longest_front}
 use Rattle.std.specs.List.{slice_get}
-use Rattle.starlark_words.specs.Inner.ScannedWords.{begins_symbol, is_mark_alone, word_view}
+use Rattle.starlark_words.specs.Inner.ScannedWords.{begins_cr_lf, begins_symbol, is_mark_alone, word_view}
 use Rattle.starlark_words.proofs.Scan.ByFirst.{front_double_quote, front_single_quote}
 use Rattle.starlark_words.proofs.Scan.Marks.{mark_of}
-use Rattle.starlark_words.proofs.Scan.ReadFronts.{alone_by_two, first_by_two, mark_by_three, symbol_by_two}
-use Rattle.starlark_words.proofs.Scan.ShortMarks.{front_alone, front_symbol, single_word, some_len}
+use Rattle.starlark_words.proofs.Scan.ReadFronts.{alone_by_two, cr_lf_by_two, first_by_two, mark_by_three, symbol_by_two}
+use Rattle.starlark_words.proofs.Scan.ShortMarks.{front_alone, front_cr_lf, front_symbol, single_word, some_len}
 use Rattle.starlark_words.proofs.scanner.word_by_front.Goals as goal
 
 pub returns-then-is_mark_alone-clause-word : goal.returns-then-is_mark_alone-clause-word
@@ -54,3 +54,15 @@ returns-then-begins_symbol-clause-same c =
     let mark = c.mark_from.ensures.word ∙ ap (longest_front mark_of) (c.uncounted_front.ensures ∙ ap (take 3) c.as_bytes-then-begins_symbol.ensures.value) ∙ mark_by_three c.args.text.now in
     let found = front_symbol c.args.text.now (λ i. omega (arith, c.type_inv.text i)) symbol in
     λ none. absurd (found.2 (sym mark ∙ ap (option_map word_view) none))
+
+pub returns-then-begins_cr_lf-clause-word : goal.returns-then-begins_cr_lf-clause-word
+returns-then-begins_cr_lf-clause-word c =
+    let front = c.uncounted_front-front.ensures ∙ ap (take 2) c.as_bytes.ensures.value in
+    let line_end = sym (cr_lf_by_two c.args.text.now) ∙ sym (ap begins_cr_lf front) ∙ sym c.if-begins_cr_lf.ensures in
+    sym (front_cr_lf c.args.text.now line_end).0
+
+pub returns-then-begins_cr_lf-clause-bang : goal.returns-then-begins_cr_lf-clause-bang
+returns-then-begins_cr_lf-clause-bang c =
+    let front = c.uncounted_front-front.ensures ∙ ap (take 2) c.as_bytes.ensures.value in
+    let line_end = sym (cr_lf_by_two c.args.text.now) ∙ sym (ap begins_cr_lf front) ∙ sym c.if-begins_cr_lf.ensures in
+    (front_cr_lf c.args.text.now line_end).1

@@ -2,7 +2,7 @@ use Rattle.std.proofs.Common.{◌≡◌, ◌+◌, ◌-◌, ◌∙◌, ◌||◌, 
 use Rattle.std.specs.Prelude.{not}
 use Rattle.std.proofs.lemmas.List.{length-drop}
 use Rattle.starlark_grammar.specs.Words.{Text}
-use Rattle.starlark_grammar.specs.Margins.{margin_of}
+use Rattle.starlark_grammar.specs.Margins.{margin_of, Margin as Seen}
 use Rattle.starlark_token.specs.TokenViews.{token_view}
 use Rattle.starlark_token.specs.declared.tokens.Token.TheVariants as token
 use Rattle.starlark_reader.specs.declared.margins.Margin.{Margin}
@@ -14,6 +14,7 @@ use Rattle.starlark_reader.proofs.TakenMargins.LaidMargins.{after_none, end_take
 use Rattle.starlark_reader.proofs.TakenMargins.Waiting.{nothing_left}
 use Rattle.starlark_reader.proofs.TakenPieces.Taken.{line_less, line_taken}
 use Rattle.starlark_reader.proofs.reader.Reader.lay_line_end.Goals as goal
+use Rattle.starlark_reader.proofs.reader.Reader.lay_line_end.Goals.{In-Some}
 
 content : (a b : Bool) → (not a || b) ≡ false → a ≡ true
 content true b h = refl
@@ -35,19 +36,29 @@ change_width-requires-clause-within c =
 pub keep_margin-requires-clause-idle : goal.keep_margin-requires-clause-idle
 keep_margin-requires-clause-idle c = after_none c.args.text.now c.args.self.now.pending c.requires.idle.1
 
+-- the margin after the newline, as the text has it, …
+abbrev seen_at : In-Some → Seen
+seen_at c = margin_of (drop (c.args.self.now.at + c.args.len) c.args.text.now)
+
+-- … and as it was read
+margin_is : (c : In-Some) → IsMargin (seen_at c) c.in-Some.margin
+margin_is c = rw c.range_from.ensures.value at c.in-Some.ensures.margin
+
+margin_end : (c : In-Some) → c.args.self.now.at + c.args.len + c.in-Some.margin.blanks.len ≡ c.args.self.now.at + (c.args.len + c.in-Some.margin.at + c.in-Some.margin.blanks.len)
+margin_end c = omega (arith, c.in-Some.ensures.plain)
+
 pub returns-clause-read : goal.returns-clause-read
 unfolding token_view
 returns-clause-read c = λ history kept stands.
     let new = c.step_to.ensures in
-    let begin = c.args.self.now.at + c.args.len in
     let margin = c.in-Some.margin in
-    let seen = margin_of (drop begin c.args.text.now) in
-    let same : IsMargin seen margin = rw c.range_from.ensures.value at c.in-Some.ensures.margin in
+    let seen = seen_at (goal.at.returns-clause-read c).In-Some in
+    let same = margin_is (goal.at.returns-clause-read c).In-Some in
     let levels = c.args.self.now.levels in
     let laid = c.keep_margin.ensures.laid history.widths seen kept.levels same in
-    let end : begin + margin.blanks.len ≡ c.args.self.now.at + (c.args.len + margin.at + margin.blanks.len) = omega (arith, c.in-Some.ensures.plain) in
+    let end = margin_end (goal.at.returns-clause-read c).In-Some in
     let taken = end_taken c.args.text.now c.args.self.now.at c.args.len levels levels history.widths margin c.keep_margin.new.pending kept.levels same c.utf8.text c.requires.cut c.keep_margin.ensures.place laid in
-    let of : IsOfMargin begin seen.at levels c.keep_margin.new.pending = rw same.at at c.keep_margin.ensures.place in
+    let of : IsOfMargin (c.args.self.now.at + c.args.len) seen.at levels c.keep_margin.new.pending = rw same.at at c.keep_margin.ensures.place in
     line_taken c.args.text.now history c.args.self.now c.args.len kept stands c.step_to.new.self _ token.Newline refl c.utf8.text (rw new taken) (rw new of)
     (ap (λ (reader : Reader). reader.nesting) new) (ap (λ (reader : Reader). reader.before) new) (ap (λ (reader : Reader). reader.at) new ∙ end) (ap (λ (reader : Reader). reader.stage) new)
 
@@ -55,13 +66,12 @@ pub returns-clause-less : goal.returns-clause-less
 returns-clause-less c =
     let new = c.step_to.ensures in
     let stands = c.requires.stands in
-    let begin = c.args.self.now.at + c.args.len in
     let margin = c.in-Some.margin in
-    let seen = margin_of (drop begin c.args.text.now) in
-    let same : IsMargin seen margin = rw c.range_from.ensures.value at c.in-Some.ensures.margin in
+    let seen = seen_at (goal.at.returns-clause-less c).In-Some in
+    let same = margin_is (goal.at.returns-clause-less c).In-Some in
     let levels = c.args.self.now.levels in
     let laid = c.keep_margin.ensures.laid stands.0.widths seen stands.1.levels same in
-    let end : begin + margin.blanks.len ≡ c.args.self.now.at + (c.args.len + margin.at + margin.blanks.len) = omega (arith, c.in-Some.ensures.plain) in
+    let end = margin_end (goal.at.returns-clause-less c).In-Some in
     let taken = end_taken c.args.text.now c.args.self.now.at c.args.len levels levels stands.0.widths margin c.keep_margin.new.pending stands.1.levels same c.utf8.text c.requires.cut c.keep_margin.ensures.place laid in
     line_less c.args.text.now stands.0 c.args.self.now c.args.len stands.1 stands.2 c.step_to.new.self taken
     (ap (λ (reader : Reader). reader.stage) new) (ap (λ (reader : Reader). reader.at) new ∙ end)

@@ -39,8 +39,12 @@ returns-in-Some-2-clause-next c = λ lexemes fault ahead.
 pub returns-in-Fault-clause-next : goal.returns-in-Fault-clause-next
 returns-in-Fault-clause-next c = λ lexemes fault ahead.
     let none = none_left c.args.text.now c.loop-lexeme.self c.next.new.self c.in_ok-lexeme.field-0 c.in_default.not-Some c.in_ok-lexeme.ensures.next c.loop-lexeme.invariant.ready in
-    c.last.ensures.next c.args.text.now lexemes fault (subst (IsIdle c.args.text.now) (sym none.1) none.0) (over c.loop-lexeme.self.stage c.in-Fault.is)
-    (reads_ahead c.args.text.now (record c.loop-lexeme.self { pending = c.next.new.self }) c.next.new.reads c.loop-lexeme.self.stage lexemes fault (ahead_now c.args.text.now c.loop-lexeme.self c.next.new.self c.loop-lexeme.self.stage lexemes fault none.1 refl (c.loop-lexeme.invariant.ahead lexemes fault ahead)))
+    reads_ahead c.args.text.now (record c.loop-lexeme.self { pending = c.next.new.self }) c.next.new.reads c.loop-lexeme.self.stage lexemes fault (ahead_now c.args.text.now c.loop-lexeme.self c.next.new.self c.loop-lexeme.self.stage lexemes fault none.1 refl (c.loop-lexeme.invariant.ahead lexemes fault ahead))
+
+pub returns-in-Fault-clause-end : goal.returns-in-Fault-clause-end
+returns-in-Fault-clause-end c = λ given.
+    let none = none_left c.args.text.now c.loop-lexeme.self c.next.new.self c.in_ok-lexeme.field-0 c.in_default.not-Some c.in_ok-lexeme.ensures.next c.loop-lexeme.invariant.ready in
+    (subst (IsIdle c.args.text.now) (sym none.1) none.0, over c.loop-lexeme.self.stage c.in-Fault.is)
 
 pub loop-lexeme-preserved : goal.loop-lexeme-preserved
 loop-lexeme-preserved c =
@@ -48,9 +52,8 @@ loop-lexeme-preserved c =
     let on = λ (lexemes : List (Spanned TokenView)) (fault : Option (Spanned Fault)) (ahead : IsAhead c.args.text.now c.loop-lexeme.self c.loop-lexeme.self.stage lexemes fault).
     subst (λ given. IsAheadAfter c.args.text.now given c.read_piece.new.self lexemes fault) c.in_default-2.is
     (c.in_ok-lexeme-in-Onward.ensures.ahead lexemes fault (reads_ahead c.args.text.now (record c.loop-lexeme.self { pending = c.next.new.self }) c.next.new.reads stage.Onward lexemes fault (ahead_now c.args.text.now c.loop-lexeme.self c.next.new.self stage.Onward lexemes fault none.1 c.in-Onward.is ahead))) in
-    let ready = c.loop-lexeme.invariant.ready in
     record {
-      ready = (ready.0, ready.1, on ready.0 ready.1 ready.2);
+      ready = (c.loop-lexeme.invariant.ready.0, c.loop-lexeme.invariant.ready.1, on c.loop-lexeme.invariant.ready.0 c.loop-lexeme.invariant.ready.1 c.loop-lexeme.invariant.ready.2);
       ahead = λ lexemes fault ahead. on lexemes fault (c.loop-lexeme.invariant.ahead lexemes fault ahead);
       reads = λ beside has. c.in_ok-lexeme-in-Onward.ensures.reads beside (pending_reads c.args.text.now beside c.loop-lexeme.self (record c.loop-lexeme.self { pending = c.next.new.self; reads = c.next.new.reads }) refl c.in_ok-lexeme.ensures.reads.0 c.in_ok-lexeme.ensures.reads.1 stage.Onward
           (subst (HasReadAt c.args.text.now beside c.loop-lexeme.self) c.in-Onward.is (c.loop-lexeme.invariant.reads beside has)));
@@ -67,9 +70,8 @@ loop-lexeme-preserved-in-Continue-branch-3 c =
     let none = none_left c.args.text.now c.loop-lexeme.self c.next.new.self c.in_ok-lexeme.field-0 c.in_default.not-Some c.in_ok-lexeme.ensures.next c.loop-lexeme.invariant.ready in
     let on = λ (lexemes : List (Spanned TokenView)) (fault : Option (Spanned Fault)) (ahead : IsAhead c.args.text.now c.loop-lexeme.self c.loop-lexeme.self.stage lexemes fault).
     c.in_ok-read_first_margin-in-Begin.ensures.ahead lexemes fault (reads_ahead c.args.text.now (record c.loop-lexeme.self { pending = c.next.new.self }) c.next.new.reads stage.Begin lexemes fault (ahead_now c.args.text.now c.loop-lexeme.self c.next.new.self stage.Begin lexemes fault none.1 c.in-Begin.is ahead)) in
-    let ready = c.loop-lexeme.invariant.ready in
     record {
-      ready = (ready.0, ready.1, on ready.0 ready.1 ready.2);
+      ready = (c.loop-lexeme.invariant.ready.0, c.loop-lexeme.invariant.ready.1, on c.loop-lexeme.invariant.ready.0 c.loop-lexeme.invariant.ready.1 c.loop-lexeme.invariant.ready.2);
       ahead = λ lexemes fault ahead. on lexemes fault (c.loop-lexeme.invariant.ahead lexemes fault ahead);
       reads = λ beside has. c.in_ok-read_first_margin-in-Begin.ensures.reads beside (pending_reads c.args.text.now beside c.loop-lexeme.self (record c.loop-lexeme.self { pending = c.next.new.self; reads = c.next.new.reads }) refl c.in_ok-lexeme.ensures.reads.0 c.in_ok-lexeme.ensures.reads.1 stage.Begin
           (subst (HasReadAt c.args.text.now beside c.loop-lexeme.self) c.in-Begin.is (c.loop-lexeme.invariant.reads beside has)));
@@ -86,5 +88,4 @@ returns-in-Some-2-clause-reads c = λ beside has.
 
 pub returns-in-Fault-clause-reads : goal.returns-in-Fault-clause-reads
 returns-in-Fault-clause-reads c = λ beside has.
-    c.last.ensures.reads c.args.text.now beside (over c.loop-lexeme.self.stage c.in-Fault.is)
-    (pending_reads c.args.text.now beside c.loop-lexeme.self (record c.loop-lexeme.self { pending = c.next.new.self; reads = c.next.new.reads }) refl c.in_ok-lexeme.ensures.reads.0 c.in_ok-lexeme.ensures.reads.1 c.loop-lexeme.self.stage (c.loop-lexeme.invariant.reads beside has))
+    pending_reads c.args.text.now beside c.loop-lexeme.self (record c.loop-lexeme.self { pending = c.next.new.self; reads = c.next.new.reads }) refl c.in_ok-lexeme.ensures.reads.0 c.in_ok-lexeme.ensures.reads.1 c.loop-lexeme.self.stage (c.loop-lexeme.invariant.reads beside has)

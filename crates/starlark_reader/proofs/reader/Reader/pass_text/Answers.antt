@@ -1,32 +1,20 @@
-use Rattle.std.proofs.Common.{◌≡◌, ◌==◌, ◌+◌, ◌≤◌, ◌<◌, ◌∷◌, [], ap, append-nil, arith, drop, false, length, refl, rules, sym, take, ◌∙◌}
+use Rattle.std.proofs.Common.{◌≡◌, ◌==◌, ◌+◌, ◌<◌, ◌∷◌, [], ap, append-nil, arith, drop, false, length, refl, rules, sym, take, ◌∙◌}
 use Rattle.std.proofs.lemmas.List.{length-take}
 use Rattle.starlark_grammar.proofs.Order.Edges.{boundary_shift}
-use Rattle.starlark_grammar.specs.Words.{Text}
 use Rattle.starlark_grammar.specs.Margins.{open_widths}
-use Rattle.starlark_grammar.specs.Reading.{History, tokens_onto}
 use Rattle.starlark_grammar.specs.Tokens as Token
 use Rattle.starlark_token.specs.TokenViews.{Whole}
-use Rattle.starlark_reader.specs.Inner.Nesting.{Represents}
 use Rattle.starlark_reader.specs.Inner.TextEnds.{text_end_node}
-use Rattle.starlark_reader.proofs.TakenPieces.ChunksTaken.{chunk_piece, onto_last, own_end, text_onto, text_past}
+use Rattle.starlark_reader.proofs.TakenPieces.ChunksTaken.{chunk_piece, text_past, text_passed, text_end_inside}
 use Rattle.starlark_reader.proofs.TakenPieces.Here.{piece_here}
 use Rattle.starlark_reader.proofs.TakenPieces.PieceTaken.{left_onward, onward_past}
 use Rattle.starlark_reader.proofs.TakenPieces.Taken.{took_past}
 use Rattle.starlark_reader.proofs.reader.Reader.pass_text.Goals as goal
-use Rattle.starlark_reader.proofs.reader.Reader.pass_text.Goals.{After-pass}
 
 pub overflow_add-end : goal.overflow_add-end
 overflow_add-end c =
-    let left = (left_onward c.args.text.now c.args.self.now c.requires.ready.0 c.requires.ready.1 c.requires.stands.stage c.requires.ready.2).is_left in
-    let here = piece_here c.args.text.now left.0 c.args.self.now (chunk_piece (take c.args.found.len (drop c.args.self.now.at c.args.text.now)) c.args.found.len c.args.found.stop_len (text_end_node c.args.found.stop)) left.1 (c.requires.stands.stands left.0 left.1) in
-    let inside : c.args.self.now.at + c.args.found.len + c.args.found.stop_len ≤ length c.args.text.now = omega (arith, here.1) in
+    let inside = text_end_inside c.args.text.now c.args.self.now c.args.found c.requires.ready c.requires.stands in
     search (rules, inside)
-
--- the tokens after the text
-passed : (c : After-pass) (history : History) (value : Text) → Represents history.tokens c.args.self.now.nesting → Represents (tokens_onto history.tokens (chunk_piece value c.args.found.len c.args.found.stop_len (text_end_node c.args.found.stop)).lexemes) c.pass.new.self
-passed c history value same =
-    rw (onto_last history.tokens c.args.found.len value (record { begin = c.args.found.len; node = text_end_node c.args.found.stop; end = c.args.found.len + c.args.found.stop_len }))
-    (c.pass.ensures.passes _ (text_end_node c.args.found.stop) c.token.ensures (own_end c.args.found.stop) (text_onto history.tokens c.args.found.len value c.args.self.now.nesting same))
 
 pub returns-clause-ahead : goal.returns-clause-ahead
 returns-clause-ahead c = λ lexemes fault ahead.
@@ -39,7 +27,7 @@ returns-clause-ahead c = λ lexemes fault ahead.
     let here = piece_here c.args.text.now history c.args.self.now (chunk_piece value c.args.found.len c.args.found.stop_len (text_end_node c.args.found.stop)) kept stands in
     let end : c.args.self.now.at + c.args.found.len + c.args.found.stop_len ≡ c.args.self.now.at + (c.args.found.len + c.args.found.stop_len) = omega arith in
     rw c.step_to.ensures (took_past c.args.text.now history c.args.self.now (record { begin = c.args.self.now.at; node = Whole (Token.FStringText value); end = c.args.self.now.at + c.args.found.len } ∷ []) _ (chunk_piece value c.args.found.len c.args.found.stop_len (text_end_node c.args.found.stop)) c.utf8.text kept stands refl
-    (passed (goal.at.returns-clause-ahead c).After-pass history value kept.nesting)
+    (text_passed history.tokens c.args.found.len c.args.found.stop_len c.args.found.stop value _ _ _ c.token.ensures c.pass.ensures.passes kept.nesting)
     (kept.levels ∙ ap open_widths (sym (append-nil history.widths)))
     refl
     end

@@ -1,29 +1,20 @@
-use Rattle.std.proofs.Common.{◌≡◌, ◌==◌, ◌+◌, ◌≤◌, ap, append-nil, arith, drop, length, refl, rules, sym, take, true, ◌∙◌, Some}
+use Rattle.std.proofs.Common.{◌≡◌, ◌==◌, ◌+◌, ap, append-nil, arith, drop, length, refl, rules, sym, take, true, ◌∙◌, Some}
 use Rattle.std.proofs.lemmas.List.{length-take}
-use Rattle.starlark_grammar.specs.Words.{Text}
 use Rattle.starlark_grammar.specs.Margins.{open_widths}
-use Rattle.starlark_grammar.specs.Reading.{History, tokens_onto}
-use Rattle.starlark_reader.specs.Inner.Nesting.{Represents}
 use Rattle.starlark_reader.specs.Inner.TextEnds.{text_end_node}
-use Rattle.starlark_reader.proofs.TakenPieces.ChunksTaken.{chunk_piece, end_hands, end_mark, onto_last, own_end, text_onto}
+use Rattle.starlark_reader.proofs.TakenPieces.ChunksTaken.{chunk_piece, end_hands, end_mark, own_end, text_passed, text_end_inside}
 use Rattle.starlark_reader.proofs.TakenPieces.Here.{piece_here}
 use Rattle.starlark_reader.proofs.TakenPieces.PieceTaken.{left_onward, onward_ahead}
 use Rattle.starlark_reader.proofs.TakenPieces.Taken.{took}
 use Rattle.starlark_reader.proofs.reader.Reader.pass_text_end.Goals as goal
-use Rattle.starlark_reader.proofs.reader.Reader.pass_text_end.Goals.{After-pass}
 
 pub overflow_add-end : goal.overflow_add-end
 overflow_add-end c =
-    let left = (left_onward c.args.text.now c.args.self.now c.requires.ready.0 c.requires.ready.1 c.requires.stands.stage c.requires.ready.2).is_left in
-    let here = piece_here c.args.text.now left.0 c.args.self.now (chunk_piece (take c.args.found.len (drop c.args.self.now.at c.args.text.now)) c.args.found.len c.args.found.stop_len (text_end_node c.args.found.stop)) left.1 (c.requires.stands.stands left.0 left.1) in
-    let inside : c.args.self.now.at + c.args.found.len + c.args.found.stop_len ≤ length c.args.text.now = omega (arith, here.1) in
+    let inside = text_end_inside c.args.text.now c.args.self.now c.args.found c.requires.ready c.requires.stands in
     search (rules, inside)
 
--- the tokens after the text
-passed : (c : After-pass) (history : History) (value : Text) → Represents history.tokens c.args.self.now.nesting → Represents (tokens_onto history.tokens (chunk_piece value c.args.found.len c.args.found.stop_len (text_end_node c.args.found.stop)).lexemes) c.pass.new.self
-passed c history value same =
-    rw (onto_last history.tokens c.args.found.len value (record { begin = c.args.found.len; node = text_end_node c.args.found.stop; end = c.args.found.len + c.args.found.stop_len }))
-    (c.pass.ensures.passes _ (text_end_node c.args.found.stop) c.token-token.ensures (own_end c.args.found.stop) (text_onto history.tokens c.args.found.len value c.args.self.now.nesting same))
+pub returns-clause-mark : goal.returns-clause-mark
+returns-clause-mark c = rw c.token-token.ensures (end_mark c.args.found.stop)
 
 pub returns-clause-ahead : goal.returns-clause-ahead
 returns-clause-ahead c = λ lexemes fault ahead.
@@ -36,7 +27,7 @@ returns-clause-ahead c = λ lexemes fault ahead.
     let here = piece_here c.args.text.now history c.args.self.now (chunk_piece value c.args.found.len c.args.found.stop_len (text_end_node c.args.found.stop)) kept stands in
     let end : c.args.self.now.at + c.args.found.len + c.args.found.stop_len ≡ c.args.self.now.at + (c.args.found.len + c.args.found.stop_len) = omega arith in
     rw c.step_to.ensures (took c.args.text.now history c.args.self.now (Some (c.args.self.now.at + c.args.found.len, c.token-token.result, c.args.self.now.at + c.args.found.len + c.args.found.stop_len)) _ (chunk_piece value c.args.found.len c.args.found.stop_len (text_end_node c.args.found.stop)) c.utf8.text kept stands refl
-    (passed (goal.at.returns-clause-ahead c).After-pass history value kept.nesting)
+    (text_passed history.tokens c.args.found.len c.args.found.stop_len c.args.found.stop value _ _ _ c.token-token.ensures c.pass.ensures.passes kept.nesting)
     (kept.levels ∙ ap open_widths (sym (append-nil history.widths)))
     refl
     end
@@ -44,6 +35,3 @@ returns-clause-ahead c = λ lexemes fault ahead.
     refl
     (end_hands c.args.text.now c.args.self.now.pending c.args.self.now.at c.args.found.len c.args.found.stop_len value c.token-token.result (text_end_node c.args.found.stop) c.token-token.ensures (own_end c.args.found.stop) none c.requires.stands.idle)))
     c.requires.stands.idle (left_onward c.args.text.now c.args.self.now lexemes fault c.requires.stands.stage ahead)
-
-pub returns-clause-mark : goal.returns-clause-mark
-returns-clause-mark c = rw c.token-token.ensures (end_mark c.args.found.stop)
