@@ -7,6 +7,7 @@ use Rattle.starlark_grammar.specs.Reading.{outcome}
 use Rattle.starlark_grammar.specs.Tokens.{Spanned}
 use Rattle.starlark_grammar.specs.Words.{Text}
 use Rattle.starlark_grammar.specs.declared.class.Class.TheVariants as class
+use Rattle.starlark_grammar.proofs.Order.Inside.{lexemes_few}
 use Rattle.starlark_reader.specs.Inner.Pending.{pending_lexemes}
 use Rattle.starlark_reader.specs.Inner.Reader.{IsAhead, IsAheadAfter, IsAheadPast, IsAtCode, IsInCode, IsSomething, IsWordHere, newline_if}
 use Rattle.starlark_reader.specs.Inner.ReadBounds.{HasLooked, IsMarginRead, IsTaken}
@@ -36,6 +37,10 @@ pub taken_next : {E : Type 0} (old : LexerState) (reader : Reader) (taken : Resu
     → OnErr taken (IsSomething (left_in old) (outcome old.text.now).fault) → IsTakenNext (record old { reader = reader }) taken
 taken_next old reader taken lexing going ahead memory = record { fits = lexing.0; going = going; few = (lexing.1 going).0; ahead = ahead; memory = memory; reach = lexing.4 }
 
+-- one more lexeme can be counted
+pub one_more_fits : (state : LexerState) → length state.text.now < 2 ^ 32 → state.yielded_count ≤ length (outcome state.text.now).lexemes → state.yielded_count + 1 ≤ 2 ^ 34
+one_more_fits state fits few = omega (arith, few, lexemes_few state.text.now fits)
+
 -- a lexeme was passed, and is counted
 pub past_lexing : (old : LexerState) (lexeme : Spanned TokenView) (reader : Reader) (it : Lookahead) → length old.text.now < 2 ^ 32 → old.has_ended ≡ false → IsInReach old.text.now old.looked_to
     → IsAheadPast old.text.now lexeme reader (left_in old) (outcome old.text.now).fault → IsLooked old.text.now reader old.looked_to it → IsLexing (record old { reader = reader; yielded_count = old.yielded_count + 1; lookahead = it })
@@ -52,17 +57,17 @@ nothing_is lookahead.All nothing = cc
 pub at_word : (first state : LexerState) (mid : Reader) (word : Word) → IsLexing first → IsGoingOn first state → is_nothing state.lookahead ≡ true → HasLooked word.len ((5 * word.len - 4) + 3) state.reader mid
     → IsAhead state.text.now mid mid.stage (left_in state) (outcome state.text.now).fault → IsWordHere state.text.now mid word → IsAtWord (record state { reader = mid }) word
 at_word first state mid word lexing on nothing looked ahead stands =
-    let quick = nothing_looked state.text.now state.reader state.looked_to state.has_ended state.lookahead nothing on.5 on.6 in
-    let inv = lexing.1 (sym on.3 ∙ quick.0) in
+    let quick = nothing_looked state.text.now state.reader state.looked_to state.has_ended state.lookahead nothing on.4 on.5 in
+    let inv = lexing.1 (sym on.2 ∙ quick.0) in
     record {
       fits = rw on.0 lexing.0;
       going = quick.0;
-      few = rw (on.0, on.2) inv.0;
+      few = rw (on.0, on.1) inv.0;
       ahead = ahead;
       stands = stands;
       lookahead = nothing_is state.lookahead nothing;
       read = (state.reader, quick.1.stage, quick.2, quick.3, looked);
-      reach = on.7;
+      reach = on.6;
     }
 
 -- where the fast path doesn't pass it by itself, its bytes are spent as lookahead
@@ -113,11 +118,10 @@ line_end_passed first state mid new len on nothing at ahead code taken =
       on.0,
       on.1,
       on.2,
-      on.3,
       (λ going. ahead),
-      on.5,
+      on.4,
       (λ going. nothing_kept state.text.now new state.looked_to paid.0 state.lookahead nothing code (omega (arith, word.2, word.4.0, taken.1.0)) (omega (arith, paid.1)) read),
-      on.7,
+      on.6,
       (λ ended. let both : true ≡ false = sym ended ∙ at.going in cc),
     )
 
@@ -134,7 +138,7 @@ pub pending_newline : (state : LexerState) (len : ℕ) (new : Reader) → IsAtWo
     → IsAheadAfter state.text.now (newline_if true state.reader.at len) new (left_in state) (outcome state.text.now).fault
     → HasPassedNext state (fast.Passed (plain_mark kind.Newline state.reader.at (state.reader.at + len))) (record state { reader = new; yielded_count = state.yielded_count + 1; lookahead = lookahead.All })
 pending_newline state len new at last margin is = record {
-  passed = newline_passed state state state.reader new len (refl, refl, refl) at.fits at.stands.stage at.ahead last is;
+  passed = newline_passed state state state.reader new len (refl, refl) at.fits at.stands.stage at.ahead last is;
   lexing = past_lexing state _ new lookahead.All at.fits at.going at.reach is (margin_read state len new at margin);
   after = rw at.going refl;
 }
@@ -149,7 +153,7 @@ plain_newline state len new at last margin onward is =
     let past : state.looked_to ≤ new.at = omega (arith, at.read.2, at.read.4.0, laid.1) in
     let code : IsAtCode state.text.now new = record { stage = onward.0; idle = (is.2.is_pending, onward.2 state.text.now); code = onward.1 } in
     record {
-      passed = newline_passed state state state.reader new len (refl, refl, refl) at.fits at.stands.stage at.ahead last is;
+      passed = newline_passed state state state.reader new len (refl, refl) at.fits at.stands.stage at.ahead last is;
       lexing = past_lexing state _ new state.lookahead at.fits at.going at.reach is (nothing_kept state.text.now new state.looked_to paid.0 state.lookahead (ap is_nothing at.lookahead) code past (omega (arith, paid.1)) paid.2);
       after = rw at.going refl;
     }
@@ -173,5 +177,5 @@ passed_since first mid found new same going is = record {
   ended = λ ended. (let both : true ≡ false = sym ended ∙ going in cc);
   passed = λ on. passed_same first mid found new same is.passed;
   lexing = is.lexing;
-  after = rw (going, sym same.0, sym same.1, sym same.2) is.after;
+  after = rw (going, sym same.0, sym same.1) is.after;
 }

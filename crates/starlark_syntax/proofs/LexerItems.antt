@@ -99,6 +99,13 @@ item_between : (text : Text) (h : ℕ) → IsUtf8 text → IfSome (slice_get (it
 unfolding items
 item_between text h utf8 = all_between text (outcome text).lexemes _ h (outcome_edges text utf8) (λ k. fault_between text (outcome text).fault k (fault_edges text utf8))
 
+-- a lexeme among them, and the fault
+pub given_between : (text : Text) (h : ℕ) (lexeme : Spanned TokenView) → IsUtf8 text → slice_get (items text) h ≡ Some (Given lexeme) → IsCharBoundary text lexeme.begin × IsCharBoundary text lexeme.end
+given_between text h lexeme utf8 is = subst (λ (item : Option LexerItem). IfSome item (ItemBetween text)) is (item_between text h utf8)
+
+pub refused_between : (text : Text) (fault : Spanned Fault) → IsUtf8 text → (outcome text).fault ≡ Some fault → IsCharBoundary text fault.begin × IsCharBoundary text fault.end
+refused_between text fault utf8 has = subst (λ (found : Option (Spanned Fault)). IfSome found (AtBoundaries text)) has (fault_edges text utf8)
+
 -- so is what is answered for it
 answer_between : (text : Text) (file : SourceFile) (item : Option LexerItem) (answer : Option (Result (ℕ × Token × ℕ) (OrMemory (Diagnosed ErrorKind)))) → IfSome item (ItemBetween text) → AnswersNext file item answer → AnswersBetween text answer
 answer_between text file None None between is = tt
@@ -113,9 +120,6 @@ answer_between text file (Some (Refused fault)) (Some (Err (Error exception))) b
 
 pub next_between : (text : Text) (file : SourceFile) (h : ℕ) (answer : Option (Result (ℕ × Token × ℕ) (OrMemory (Diagnosed ErrorKind)))) → IsUtf8 text → AnswersNext file (slice_get (items text) h) answer → AnswersBetween text answer
 next_between text file h answer utf8 is = answer_between text file (slice_get (items text) h) answer (item_between text h utf8) is
-
-pub none_between : (text : Text) (file : SourceFile) (answer : Option (Result (ℕ × Token × ℕ) (OrMemory (Diagnosed ErrorKind)))) → AnswersNext file None answer → AnswersBetween text answer
-none_between text file answer is = answer_between text file None answer tt is
 
 -- of n bytes there are at most 2n + 1 items
 pub items_few : (text : Text) → length (items text) ≤ 2 * length text + 1

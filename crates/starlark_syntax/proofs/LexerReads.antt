@@ -1,5 +1,5 @@
 -- What a lexer's quick ways read is paid for by the place up to which they have looked.
-use Rattle.std.proofs.Common.{◌∙◌, ◌==◌, ◌≡◌, ◌≤◌, ◌+◌, ◌*◌, Bool, List, Option, Some, true, false, ℕ, drop, ap, length, leb, nat_eq, refl, subst, sym, take, arith}
+use Rattle.std.proofs.Common.{◌∙◌, ◌==◌, ◌≡◌, ◌≤◌, ◌+◌, ◌*◌, Bool, List, Option, Some, true, false, ℕ, drop, ap, length, leb, refl, subst, sym, take, arith}
 use Rattle.std.specs.Prelude.{if◌then◌else◌, Err, Ok, OnOk, Result}
 use Rattle.std.proofs.lemmas.Bool.{eqb-true, leb-true}
 use Rattle.std.proofs.lemmas.List.{length-drop, length-take}
@@ -10,12 +10,11 @@ use Rattle.starlark_token.specs.TokenViews.{TokenView}
 use Rattle.starlark_reader.specs.declared.reader.Stage.TheVariants as stages
 use Rattle.starlark_reader.proofs.TakenPieces.CodePlaces.{word_class, word_len, word_some}
 use Rattle.starlark_reader.proofs.TakenPieces.PieceTaken.{left_onward}
-use Rattle.std.specs.Char.{is_ascii_digit, is_ascii_hexdigit}
-use Rattle.starlark_grammar.specs.Words.{Text, class_in, is_based, is_binary_digit, is_comment, is_float, is_identifier, is_octal_digit, is_pointed, is_run, line_ends, names, openers, patterns, symbols}
+use Rattle.starlark_grammar.specs.Words.{Text, class_in, language, line_ends, names, openers, symbols}
 use Rattle.starlark_grammar.specs.declared.class.Class.TheVariants as class
 use Rattle.starlark_grammar.specs.declared.class.LiteralKind.TheVariants as kind
 use Rattle.starlark_grammar.specs.declared.class.Quote.{Quote}
-use Rattle.starlark_grammar.proofs.Words.Classes.{all_fit, language_all_fit, none_found, row_fits}
+use Rattle.starlark_grammar.proofs.Words.Classes.{RowsFit, language_all_fit, patterns_all_fit}
 use Rattle.starlark_reader.specs.Inner.Pending.{IsPending}
 use Rattle.starlark_reader.specs.Inner.Reader.{IsAhead, IsAtCode}
 use Rattle.starlark_reader.specs.Inner.ReadBounds.{HasLookedHere, HasRead, HasReadAt, IsPassedBy}
@@ -135,41 +134,18 @@ abbrev fits_two : Class → Text → Bool
 fits_two (class.Opener kind.Text is_raw quote) word = leb (length word) 2
 fits_two it word = true
 
-openers_fit : all_fit fits_two openers ≡ true
-unfolding openers
-openers_fit = refl
+rows_fit : RowsFit fits_two
+unfolding openers line_ends symbols names
+rows_fit = (refl, refl, refl, refl)
 
-line_ends_fit : all_fit fits_two line_ends ≡ true
-unfolding line_ends
-line_ends_fit = refl
-
-symbols_fit : all_fit fits_two symbols ≡ true
-unfolding symbols
-symbols_fit = refl
-
-names_fit : all_fit fits_two names ≡ true
-unfolding names
-names_fit = refl
-
-patterns_fit : (word : Text) (it : Class) → class_in patterns word ≡ Some it → fits_two it word ≡ true
-unfolding class_in patterns
-patterns_fit word it =
-    row_fits fits_two word (is_run (nat_eq 32) word) class.Skipped it _ (λ h. refl)
-    (row_fits fits_two word (is_comment word) class.Comment it _ (λ h. refl)
-    (row_fits fits_two word (is_run (nat_eq 9) word) class.Tabs it _ (λ h. refl)
-    (row_fits fits_two word (is_identifier word) class.Identifier it _ (λ h. refl)
-    (row_fits fits_two word (is_run is_ascii_digit word) class.Decimal it _ (λ h. refl)
-    (row_fits fits_two word (is_based 120 88 is_ascii_hexdigit word) class.Hexadecimal it _ (λ h. refl)
-    (row_fits fits_two word (is_based 111 79 is_octal_digit word) class.Octal it _ (λ h. refl)
-    (row_fits fits_two word (is_based 98 66 is_binary_digit word) class.Binary it _ (λ h. refl)
-    (row_fits fits_two word (is_float word) class.Float it _ (λ h. refl)
-    (row_fits fits_two word (is_pointed word) class.Float it _ (λ h. refl) (none_found fits_two word it))))))))))
+word_fits : (word : Text) (it : Class) → class_in language word ≡ Some it → fits_two it word ≡ true
+word_fits = language_all_fit fits_two rows_fit (λ word. patterns_all_fit fits_two word (λ h. refl) (λ h. refl) (λ h. refl) (λ h. refl) (λ h. refl) (λ h. refl) (λ h. refl) (λ h. refl) (λ h. refl) (λ h. refl))
 
 pub text_opener_len : (text : Text) (is_raw : Bool) (quote : Quote) (len : ℕ) → Some (class.Opener kind.Text is_raw quote, len) ≡ language_front text → (1 ≤ len) × (len ≤ 2)
 text_opener_len text is_raw quote len front =
     let it = class.Opener kind.Text is_raw quote in
     let known = word_class text it len (sym front) in
-    let fits : leb (length (take len text)) 2 ≡ true = language_all_fit fits_two openers_fit line_ends_fit symbols_fit names_fit patterns_fit (take len text) it known in
+    let fits : leb (length (take len text)) 2 ≡ true = word_fits (take len text) it known in
     (word_some text it len (sym front), omega (arith, leb-true (length (take len text)) 2 fits, word_len text it len (sym front)))
 
 -- a plain literal, of which the opener and the body were looked at

@@ -16,6 +16,7 @@
 -- RestartPlaces: the place: the next line begins at a character boundary.
 -- RestartReads: its reads: what a margin and the search of the next line take.
 -- RecoveredItems: items: all items of a text, by its own and those of the rest.
+-- NextItems: what is left: the first of it, which is answered next.
 -- Lefts: what is left: before and after each answer.
 -- ErrorRows: worked rows, by computing.
 -- LexerCuts: where a lexer may cut its text.
@@ -33,5 +34,6 @@ pub mod RecoveredItems
 pub mod RestartPlaces
 pub mod RestartReads
 pub mod Reaches
+pub mod NextItems
 pub mod Lefts
 pub mod Passes

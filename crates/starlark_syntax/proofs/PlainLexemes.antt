@@ -4,6 +4,7 @@ use Rattle.std.specs.Prelude.{◌&&◌, not, Result}
 use Rattle.std.specs.Option.{is_some}
 use Rattle.std.specs.Str.{IsCharBoundary, IsUtf8}
 use Rattle.starlark_base.specs.Diagnostics.{Diagnosed}
+use Rattle.starlark_base.specs.Sources.{SourceFile}
 use Rattle.starlark_grammar.specs.Reading.{outcome}
 use Rattle.starlark_grammar.specs.Tokens as grammar
 use Rattle.starlark_grammar.specs.Tokens.{Fault, Spanned}
@@ -19,8 +20,8 @@ use Rattle.starlark_syntax.specs.PlainLexemes.{IsPlainIn, plain_token, plain_val
 use Rattle.starlark_syntax.specs.declared.error.kinds.ErrorKind.{ErrorKind}
 use Rattle.starlark_syntax.specs.declared.lexer_state.FastPath.{FastPath}
 use Rattle.starlark_syntax.specs.declared.lexer_state.FastPath.TheVariants as fast
-use Rattle.starlark_syntax.proofs.LexerItems.{next_between}
-use Rattle.starlark_syntax.proofs.LexerStates.{IsSameText, answers_item, answers_within, lexing_read}
+use Rattle.starlark_syntax.proofs.LexerItems.{given_between, lexeme_item}
+use Rattle.starlark_syntax.proofs.LexerStates.{IsSameText, answers_within, lexing_read}
 use Rattle.starlark_syntax.specs.declared.lexer_state.LexerState.{LexerState}
 use Rattle.starlark_syntax.specs.declared.lexer_state.Waiting.{Waiting}
 use Rattle.starlark_syntax.specs.declared.lexer_state.Waiting.TheVariants as waiting
@@ -87,10 +88,10 @@ taken_lexing mid plain (Some (Err Memory)) new lexing taken = subst IsLexing (sy
 
 -- what the fast path tells of a state, it tells of one with the same text and number of items
 pub passed_same : (first now : LexerState) (found : FastPath) (new : LexerState) → IsSameText first now → HasPassed now found new → HasPassed first found new
-passed_same first now (fast.Passed plain) new same is = rw (same.0, same.2) at is
-passed_same first now (fast.Symbol terminal lexeme) new same is = rw (same.0, same.2) at is
+passed_same first now (fast.Passed plain) new same is = rw (same.0, same.1) at is
+passed_same first now (fast.Symbol terminal lexeme) new same is = rw (same.0, same.1) at is
 passed_same first now fast.Undecided new same is = is
-passed_same first now fast.OutOfMemory new same is = rw (same.0, same.2) at is
+passed_same first now fast.OutOfMemory new same is = rw (same.0, same.1) at is
 
 -- a name was passed, where the text and the number of items are those before
 pub name_passed : (first state : LexerState) (mid new : Reader) (len : ℕ) → IsSameText first state → length state.text.now < 2 ^ 32 → mid.stage ≡ stages.Onward → new.stage ≡ stages.Onward → IsAhead state.text.now mid mid.stage (left_in state) (outcome state.text.now).fault
@@ -104,7 +105,7 @@ name_passed first state mid new len same short on onward ahead at is =
     let past = subst (λ (view : Spanned TokenView). IsAheadPast text view new (left_in state) (outcome text).fault) (name_shown text mid.at len new.at at) is in
     let both : IsPlainIn text (record { kind = kind.Identifier; begin = mid.at; end = new.at; value_begin = mid.at; value_end = new.at }) × IsAheadPast text (plain_view text (record { kind = kind.Identifier; begin = mid.at; end = new.at; value_begin = mid.at; value_end = new.at })) new (left_in state) (outcome text).fault =
     (plain_inside text kind.Identifier mid.at new.at mid.at new.at short (omega (arith, at)) (omega (arith, at)) front last front last, past) in
-    rw (same.0, same.2) at both
+    rw (same.0, same.1) at both
 
 -- a newline was passed
 pub newline_passed : (first state : LexerState) (mid new : Reader) (len : ℕ) → IsSameText first state → length state.text.now < 2 ^ 32 → mid.stage ≡ stages.Onward → IsAhead state.text.now mid mid.stage (left_in state) (outcome state.text.now).fault
@@ -117,15 +118,15 @@ newline_passed first state mid new len same short on ahead last is =
     let front = reader_boundary text mid (left_in state) (outcome text).fault on ahead in
     let both : IsPlainIn text (record { kind = kind.Newline; begin = mid.at; end = mid.at + len; value_begin = mid.at + len; value_end = mid.at + len }) × IsAheadPast text (plain_view text (record { kind = kind.Newline; begin = mid.at; end = mid.at + len; value_begin = mid.at + len; value_end = mid.at + len })) new (left_in state) (outcome text).fault =
     (plain_inside text kind.Newline mid.at (mid.at + len) (mid.at + len) (mid.at + len) short (omega (arith)) (omega (arith)) front last last last, is) in
-    rw (same.0, same.2) at both
+    rw (same.0, same.1) at both
 
 -- a keyword or symbol lies in the text
 pub symbol_inside : (state : LexerState) (lexeme : ℕ × Token × ℕ) (new : LexerState) (plain : PlainLexeme) → length state.text.now < 2 ^ 32 → state.yielded_count ≤ length (outcome state.text.now).lexemes → IsUtf8 state.text.now
     → HasAnswered state (Some (Ok lexeme)) new → plain ≡ record { kind = plain.kind; begin = lexeme.0; end = lexeme.2; value_begin = lexeme.2; value_end = lexeme.2 } → IsPlainIn state.text.now plain
 symbol_inside state lexeme new plain short few utf8 is places =
-    let answers = answers_item state (Some (Ok lexeme)) new few is in
-    let within = answers_within state (Some (Ok lexeme)) new short is in
-    let between = next_between state.text.now state.code_map state.yielded_count (Some (Ok lexeme)) utf8 answers in
+    let item = lexeme_item state.text.now state.yielded_count _ is.0 is.1 in
+    let within = answers_within state (Some (Ok lexeme)) new refl short is in
+    let between = given_between state.text.now state.yielded_count (lexeme_view lexeme) utf8 item in
     subst (IsPlainIn state.text.now) (sym places) (plain_inside state.text.now plain.kind lexeme.0 lexeme.2 lexeme.2 lexeme.2 short within.0 (omega (arith)) between.0 between.1 between.1 between.1)
 
 pub symbol_shown : (text : Text) (lexeme : ℕ × Token × ℕ) (plain : PlainLexeme) → token_view lexeme.1 ≡ Whole (token_of plain.kind (plain_value text plain)) → plain ≡ record { kind = plain.kind; begin = lexeme.0; end = lexeme.2; value_begin = lexeme.2; value_end = lexeme.2 }
@@ -172,8 +173,8 @@ waiting_in_memory waiting.FStringExprStart begin end = refl
 waiting_in_memory waiting.FStringEnd begin end = refl
 
 -- a lexer that owes no error has ended where its state has
-pub whole_going : (state : LexerState) (has_run_out : Bool) (lexer : LexerView) → has_run_out ≡ false → lexer_view state has_run_out ≡ lexer → lexer.has_ended ≡ false → state.has_ended ≡ false
-whole_going state has_run_out lexer none is going = by state.has_ended refl
+pub whole_going : (state : LexerState) (file : SourceFile) (has_run_out : Bool) (lexer : LexerView) → has_run_out ≡ false → lexer_view state file has_run_out ≡ lexer → lexer.has_ended ≡ false → state.has_ended ≡ false
+whole_going state file has_run_out lexer none is going = by state.has_ended refl
   where
     ended : (state.has_ended && not has_run_out) ≡ false
     ended = ap (λ (v : LexerView). v.has_ended) is ∙ going

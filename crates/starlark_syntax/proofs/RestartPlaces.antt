@@ -1,6 +1,6 @@
 -- The place where lexing begins again, as the code finds it.
 use Rattle.std.proofs.Common.{◌≡◌, ℕ, ◌+◌, ◌-◌, ◌<◌, ◌≤◌, Bool, true, false, not, ◌==◌, ◌&&◌, ◌||◌, nat_eq, nat_lt, length, drop, get_or, refl, ap, sym, ◌∙◌, arith, ◌⊎◌, inl, inr}
-use Rattle.std.proofs.lemmas.Bool.{cases_lt, eqb-true}
+use Rattle.std.proofs.lemmas.Bool.{cases_lt, eqb-true, not-false}
 use Rattle.std.proofs.lemmas.List.{get_or-drop, length-drop}
 use Rattle.std.proofs.lemmas.List.Sums.{prefix_len_stops}
 use Rattle.std.proofs.lemmas.Str.{IsCharBoundary-after_ascii}
@@ -17,11 +17,7 @@ abbrev is_other : ℕ → Bool
 is_other b = not (is_lf b)
 
 is_feed : (b : ℕ) → is_other b ≡ false → b ≡ 10
-is_feed b other = eqb-true b 10 (by (b == 10) refl other)
-  where
-    by : (test : Bool) → (b == 10) ≡ test → not test ≡ false → (b == 10) ≡ true
-    by true is other = is
-    by false is other = cc
+is_feed b other = eqb-true b 10 (not-false (b == 10) other)
 
 -- the end of a text is a character boundary
 end_boundary : (text : Text) → IsCharBoundary text (length text)

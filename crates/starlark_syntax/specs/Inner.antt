@@ -3,4 +3,5 @@ pub mod LexerStates
 pub mod Looked
 pub mod LexedTexts
 pub mod Passed
+pub mod RawItems
 pub mod Rests

@@ -17,14 +17,15 @@ use Rattle.starlark_token.specs.Lexemes.{lexeme_view}
 pub use Rattle.starlark_token.specs.TextItems.{LexerItem, Given, Refused, items}
 use Rattle.starlark_token.specs.declared.tokens.Token.{Token}
 
--- a lexer: its text, the code map of its fault, how many items it has yielded, whether an error has
--- ended it, and how often it has read bytes
+-- A lexer: its text, the code map of its fault, how many items it has yielded, and whether an error
+-- has ended it; how often it has read bytes; and where its text may be cut now, if it knows.
 pub record LexerView : Type 0 where
   pub text : Text
   pub code_map : SourceFile
   pub yielded_count : ℕ
   pub has_ended : Bool
   pub reads : ℕ
+  pub cut : Option ℕ
 
 -- how often the bytes of a text are read at most
 abbrev pub most_reads : Text → ℕ
@@ -63,20 +64,20 @@ AnswersBetween text (Some (Err (refusal.Error exception))) =
 AnswersBetween text answer = ⊤
 
 -- how many items a result is: one, unless it is `None` or out of memory
-abbrev pub yielded_by : Option (Result (ℕ × Token × ℕ) (OrMemory (Diagnosed ErrorKind))) → ℕ
+abbrev pub yielded_by : {E : Type 0} → Option (Result (ℕ × Token × ℕ) (OrMemory E)) → ℕ
 yielded_by None = 0
 yielded_by (Some (Err refusal.Memory)) = 0
 yielded_by (Some answer) = 1
 
 -- whether a result ends the lexer: any error does
-abbrev pub is_ended_by : Option (Result (ℕ × Token × ℕ) (OrMemory (Diagnosed ErrorKind))) → Bool
+abbrev pub is_ended_by : {E : Type 0} → Option (Result (ℕ × Token × ℕ) (OrMemory E)) → Bool
 is_ended_by (Some (Err refused)) = true
 is_ended_by answer = false
 
 -- after a call that doesn't run out of memory there were at most so many reads; at the fault only for the bytes up to where
 -- lexing begins again, and each byte before it was read; and if it returns `None`, each byte was read
-abbrev pub HasReadFor : Text → Option (Result (ℕ × Token × ℕ) (OrMemory (Diagnosed ErrorKind))) → ℕ → Type 0
+abbrev pub HasReadFor : {E : Type 0} → Text → Option (Result (ℕ × Token × ℕ) (OrMemory E)) → ℕ → Type 0
 HasReadFor text None reads = (length text ≤ reads) × (reads ≤ most_reads text)
 HasReadFor text (Some (Err refusal.Memory)) reads = ⊤
-HasReadFor text (Some (Err (refusal.Error exception))) reads = (reads ≤ most_reads text) × HasReadToFault text reads
+HasReadFor text (Some (Err (refusal.Error fault))) reads = (reads ≤ most_reads text) × HasReadToFault text reads
 HasReadFor text (Some (Ok found)) reads = reads ≤ most_reads text

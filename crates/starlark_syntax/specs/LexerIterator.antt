@@ -13,7 +13,7 @@ pub record IsNextOf (old : LexerView) (answer : Option (Result (ℕ × Token × 
   pub item : AnswersNext old.code_map (if old.has_ended then None else slice_get (items old.text) old.yielded_count) answer
   pub within : AnswersWithin old.text answer
   pub between : AnswersBetween old.text answer
-  pub after : new ≡ record old { yielded_count = old.yielded_count + yielded_by answer; has_ended = old.has_ended || is_ended_by answer; reads = new.reads }
+  pub after : new ≡ record old { yielded_count = old.yielded_count + yielded_by answer; has_ended = old.has_ended || is_ended_by answer; reads = new.reads; cut = new.cut }
   pub reads : old.has_ended ≡ false → HasReadFor old.text answer new.reads
 
 -- the greatest number of items that are left

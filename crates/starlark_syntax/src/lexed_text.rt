@@ -80,16 +80,20 @@ impl<'a> LexedText<'a> {
         if input.len() > u32::MAX as usize {
             return Err(OrMemory::Error(SourceTooLong));
         }
-        let mut state = LexerState::new(alloc, input, code_map);
-        Ok(LexedText::lex_with(alloc, &mut state)?)
+        let mut state = LexerState::new(alloc, input);
+        Ok(LexedText::lex_with(alloc, &mut state, &code_map)?)
     }
 
     /// Lexes a text from a state that has just begun, whose count of reads is that of the lexed text.
-    fn lex_with(alloc: Global, state: &mut LexerState<'a>) -> Result<LexedText<'a>, AllocError>
+    fn lex_with(
+        alloc: Global,
+        state: &mut LexerState<'a>,
+        code_map: &CodeMap,
+    ) -> Result<LexedText<'a>, AllocError>
         requires lexing { IsLexing state.old }
-        requires begun { IsBegun state.old.text.now state.old.code_map state.old }
+        requires begun { IsBegun state.old.text.now state.old }
         ensures text { IfOk result (λ lexed. lexed.text ≡ state.old.text.now) }
-        ensures lexed { IfOk result (λ lexed. IsLexed state.old.code_map lexed) }
+        ensures lexed { IfOk result (λ lexed. IsLexed code_map.now lexed) }
         ensures counted { IfOk result (λ lexed. lexed.reads ≡ state.new.reader.reads) }
         ensures most_reads { IfOk result (λ lexed. lexed.reads ≤ most_reads state.old.text.now) }
         ensures least_reads { IfOk result (λ lexed. lexed.fault ≡ None → length state.old.text.now ≤ lexed.reads) }
@@ -99,7 +103,7 @@ impl<'a> LexedText<'a> {
         Ok(LexedText {
             text,
             lexemes: part.lexemes,
-            fault: part.fault,
+            fault: exception_of(alloc, part.fault, 0, code_map)?,
             cuts: part.cuts,
             is_cut: part.is_cut,
             reads: part.reads,
@@ -237,10 +241,7 @@ impl<'a> LexedText<'a> {
         ensures reads { IfOk result (IsReadFrom self.entry edited.now from) }
         ensures refused { IfErr result (λ lexed. lexed ≡ self.entry) }
     {
-        let Ok(file) = code_map.dupe() else {
-            return Err(self);
-        };
-        let mut state = LexerState::new(*self.lexemes.allocator(), edited, file);
+        let mut state = LexerState::new(*self.lexemes.allocator(), edited);
         self.relex_with(&mut state, from, edited, code_map)
     }
 
@@ -258,7 +259,7 @@ impl<'a> LexedText<'a> {
         requires same { take from self.text ≡ take from edited.now }
         requires fits { length edited.now < 2 ^ 32 }
         requires lexing { IsLexing state.old }
-        requires begun { IsBegun edited.now code_map.now state.old }
+        requires begun { IsBegun edited.now state.old }
         ensures text { IfOk result (λ lexed. lexed.text ≡ edited.now) }
         ensures lexed { IfOk result (λ lexed. IsLexed code_map.now lexed) }
         ensures counted { IfOk result (λ lexed. lexed.reads ≡ state.new.reader.reads) }

@@ -1,27 +1,42 @@
 //! The lexer, which yields the lexemes of a text one by one.
 
-ghost use Rattle.std.specs.Prelude.{◌≡◌, ◌≤◌, ◌+◌, ◌*◌, ◌^◌, ◌↔◌, ◌||◌, None, Some, length, true, false, IfOk, IfSome, IsErr};
+ghost use Rattle.std.specs.Prelude.{◌≡◌, ◌≤◌, ◌+◌, ◌*◌, ◌^◌, ◌<◌, ◌↔◌, ◌||◌, ℕ, None, Some, length, true, false, IfOk, IfSome, IsErr, OnOk};
 ghost use Rattle.std.specs.List.{slice_get};
 ghost use Rattle.starlark_syntax.specs.Lexer.{AnswersBetween, AnswersNext, AnswersWithin, HasReadFor, is_ended_by, most_reads, yielded_by};
-ghost use Rattle.starlark_syntax.specs.CutAfter.{IsCutAfter};
+ghost use Rattle.starlark_syntax.specs.CutAfter.{IsCutAfter, KnowsCut};
+ghost use Rattle.starlark_syntax.specs.Inner.RawItems.{IsNextItem, OffsetsHold};
+ghost use Rattle.std.specs.Str.{IsCharBoundary};
+ghost use Rattle.starlark_token.specs.Lexemes.{IsWithin};
 ghost use Rattle.starlark_syntax.specs.PlainLexemes.{IsPlainIn, passed_by, plain_view};
 ghost use Rattle.starlark_token.specs.TextItems.{Given, items};
 
-pub use crate::lexer_state::Lexeme;
+use crate::eval_exception::EvalException;
+use crate::fault_exception::exception;
 use crate::lexer_state::{FastPath, LexerState};
 use crate::plain_lexeme::PlainLexeme;
 use starlark_base::codemap::{CodeMap, OrMemory, SourceTooLong};
 use starlark_base::dialect::Dialect;
+use starlark_token::lexeme_error::LexemeError;
+use starlark_token::tokens::Token;
 use std::alloc::Global;
 use std::marker::Model;
+
+/// An item of a lexer: begin in bytes, token, end in bytes; or the fault, or out of memory.
+pub type Lexeme = Result<(usize, Token, usize), OrMemory<EvalException>>;
+
+/// An item with the fault itself, between two offsets, in the place of its exception.
+pub(crate) type Item = Result<(usize, Token, usize), OrMemory<(usize, LexemeError, usize)>>;
 
 /// A lexer: an iterator over the lexemes of a text, up to its first fault if it has one.
 ///
 /// Any error ends it. In a contract it is its text, its code map, how many items it has yielded,
-/// whether an error has ended it, and how often it has read bytes.
+/// whether an error has ended it, and how often it has read bytes. It is also where its text may be
+/// cut, if it knows that.
 #[derive(Drop)]
 pub struct Lexer<'a> {
     state: LexerState<'a>,
+    code_map: CodeMap,
+    alloc: Global,
     /// Whether `next_plain` ran out of memory, which `next` has still to return.
     has_run_out: bool,
 }
@@ -33,7 +48,7 @@ impl<'a> Model for Lexer<'a> {
 
     ghost Value = { LexerView };
 
-    ghost view = { λ lexer. lexer_view lexer.state lexer.has_run_out };
+    ghost view = { λ lexer. lexer_view lexer.state lexer.code_map lexer.has_run_out };
 
     ghost invariant = { λ lexer. IsLexing lexer.state × (lexer.has_run_out ≡ true → HasRunOut lexer.state) };
 }
@@ -49,7 +64,7 @@ impl<'a> Lexer<'a> {
         _dialect: &Dialect,
         code_map: CodeMap,
     ) -> Result<Lexer<'a>, SourceTooLong>
-        ensures ok { IfOk result (λ lexer. lexer ≡ record { text = input.now; code_map = code_map; yielded_count = 0; has_ended = false; reads = 0 }) }
+        ensures ok { IfOk result (λ lexer. lexer ≡ record { text = input.now; code_map = code_map; yielded_count = 0; has_ended = false; reads = 0; cut = None }) }
         ensures few { IfOk result (λ lexer. length (items lexer.text) ≤ 2 * length input.now + 1) }
         ensures too_long { IsErr result ↔ (2 ^ 32 ≤ length input.now) }
     {
@@ -57,7 +72,9 @@ impl<'a> Lexer<'a> {
             return Err(SourceTooLong);
         }
         Ok(Lexer {
-            state: LexerState::new(alloc, input, code_map),
+            state: LexerState::new(alloc, input),
+            code_map,
+            alloc,
             has_run_out: false,
         })
     }
@@ -73,7 +90,8 @@ impl<'a> Lexer<'a> {
         ensures item { self.old.has_ended ≡ false → AnswersNext self.old.code_map (slice_get (items self.old.text) self.old.yielded_count) result }
         ensures within { AnswersWithin self.old.text result }
         ensures between { AnswersBetween self.old.text result }
-        ensures after { self.new ≡ record self.old { yielded_count = self.old.yielded_count + yielded_by result; has_ended = self.old.has_ended || is_ended_by result; reads = self.new.reads } }
+        ensures after { self.new ≡ record self.old { yielded_count = self.old.yielded_count + yielded_by result; has_ended = self.old.has_ended || is_ended_by result; reads = self.new.reads; cut = self.new.cut } }
+        ensures cut { IfSome result (λ item. OnOk item (KnowsCut self.new.text self.new.yielded_count self.new.cut)) }
         ensures reads { self.old.has_ended ≡ false → HasReadFor self.old.text result self.new.reads }
     {
         // The proof of `between` needs that the text is UTF-8, which the read of a `&str` says.
@@ -82,12 +100,54 @@ impl<'a> Lexer<'a> {
         if item.is_some() {
             return item;
         }
+        if self.has_run_out {
+            self.has_run_out = false;
+            return Some(Err(OrMemory::Memory));
+        }
         // Not `None`: then the item would be dropped, which is inlined, too.
-        if !self.has_run_out {
+        if !self.state.has_fault() {
             return item;
         }
+        Some(Err(self.state.take_exception(&self.code_map)))
+    }
+
+    /// What `next` returns, with the fault itself in the place of its exception.
+    #[inline(always)]
+    pub(crate) fn next_item(&mut self) -> Option<Item>
+        ensures ended { self.old.has_ended ≡ true → IsNextItem None result }
+        ensures item { self.old.has_ended ≡ false → IsNextItem (slice_get (items self.old.text) self.old.yielded_count) result }
+        ensures within { OffsetsHold (IsWithin self.old.text) result }
+        ensures between { OffsetsHold (λ from to. IsCharBoundary self.old.text from × IsCharBoundary self.old.text to) result }
+        ensures after { self.new ≡ record self.old { yielded_count = self.old.yielded_count + yielded_by result; has_ended = self.old.has_ended || is_ended_by result; reads = self.new.reads; cut = self.new.cut } }
+        ensures reads { self.old.has_ended ≡ false → HasReadFor self.old.text result self.new.reads }
+    {
+        // The proof of `between` needs that the text is UTF-8, which the read of a `&str` says.
+        let _text = self.text();
+        match self.state.next() {
+            Some(Ok(lexeme)) => Some(Ok(lexeme)),
+            Some(Err(_)) => Some(Err(OrMemory::Memory)),
+            None if self.has_run_out => {
+                self.has_run_out = false;
+                Some(Err(OrMemory::Memory))
+            }
+            None => Some(Err(OrMemory::Error(self.state.take_fault()?))),
+        }
+    }
+
+    /// The code map of the fault.
+    pub(crate) fn code_map(&self) -> &CodeMap
+        ensures { result.now ≡ self.now.code_map }
+    {
+        &self.code_map
+    }
+
+    /// Lexes another text from its start on, with the same code map.
+    pub(crate) fn begin(&mut self, text: &'a str)
+        requires { length text.now < 2 ^ 32 }
+        ensures { self.new ≡ record { text = text.now; code_map = self.old.code_map; yielded_count = 0; has_ended = false; reads = 0; cut = None } }
+    {
+        self.state = LexerState::new(self.alloc, text);
         self.has_run_out = false;
-        Some(Err(OrMemory::Memory))
     }
 
     /// Passes the next lexeme if it is plain, and returns it. `None` where it isn't, and where there
@@ -103,7 +163,8 @@ impl<'a> Lexer<'a> {
         ensures item { IfSome result (λ plain. slice_get (items self.old.text) self.old.yielded_count ≡ Some (Given (plain_view self.old.text plain))) }
         ensures within { IfSome result (IsPlainIn self.old.text) }
         ensures going { IfSome result (λ plain. self.old.has_ended ≡ false) }
-        ensures after { self.new ≡ record self.old { yielded_count = self.old.yielded_count + passed_by result; reads = self.new.reads } }
+        ensures after { self.new ≡ record self.old { yielded_count = self.old.yielded_count + passed_by result; reads = self.new.reads; cut = self.new.cut } }
+        ensures cut { IfSome result (λ plain. KnowsCut self.new.text self.new.yielded_count self.new.cut) }
         ensures reads { IfSome result (λ plain. self.new.reads ≤ most_reads self.old.text) }
     {
         let _text = self.text();
@@ -122,10 +183,12 @@ impl<'a> Lexer<'a> {
     ///
     /// The text up to the offset is a clean cut. Its lexemes but the closing `Newline` are those
     /// yielded so far; the text's other lexemes are those of the rest, moved. The offset is before the
-    /// end of the text. `None` where there is no such offset, and after any error. No byte is read.
+    /// end of the text. `None` where there is no such offset, and after any error. Right after a lexeme
+    /// each is found, but maybe not after a `None` of `next_plain`. No byte is read.
     #[inline(always)]
     pub fn cut(&self) -> Option<usize>
         ensures kept { IfSome result (IsCutAfter self.now.text self.now.yielded_count) }
+        ensures known { (at : ℕ) → self.now.cut ≡ Some at → result ≡ Some at }
         ensures going { IfSome result (λ at. self.now.has_ended ≡ false) }
     {
         if self.state.has_ended() {

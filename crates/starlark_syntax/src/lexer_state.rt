@@ -1,13 +1,14 @@
 //! Lexes a text lexeme by lexeme. The fast path decides by the first bytes of a lexeme; what these
 //! don't determine comes from the reader.
 
-ghost use Rattle.std.specs.Prelude.{◌≡◌, ◌<◌, ◌≤◌, ◌+◌, ◌-◌, ◌^◌, ◌&&◌, ◌||◌, ℕ, None, Some, codes, length, nat_eq, true, false, IfSome, OnOk};
+ghost use Rattle.std.specs.Prelude.{◌≡◌, ◌<◌, ◌≤◌, ◌+◌, ◌-◌, ◌^◌, ◌&&◌, ◌||◌, ℕ, None, Some, codes, length, nat_eq, true, false, IfSome, IsSome, OnOk};
 ghost use Rattle.std.specs.List.{ends_with};
+ghost use Rattle.std.specs.Option.{is_some};
 ghost use Rattle.starlark_grammar.specs.Cuts.{is_settled};
 ghost use Rattle.starlark_grammar.specs.Reading.{History};
 ghost use Rattle.starlark_reader.specs.Inner.MarginCuts.{IsCutBefore};
-ghost use Rattle.starlark_reader.specs.Inner.Reader.{IsAtCode, IsReached, IsStateAfter, has_read_none};
-ghost use Rattle.starlark_syntax.specs.Inner.LexerStates.{HasAnswered, HasGivenNext, HasPassed, HasPassedNext, HasTaken, IsAtOpener, IsAtWord, IsBegun, IsLexing, IsOfMark, IsTakenNext, is_none_waiting, is_out_of_memory, left_in, passed_as, passed_count, plain_comment, plain_string, view_of};
+ghost use Rattle.starlark_reader.specs.Inner.Reader.{IsAtCode, IsAtEnd, IsReached, IsStateAfter, has_read_none};
+ghost use Rattle.starlark_syntax.specs.Inner.LexerStates.{HasAnswered, HasGivenNext, HasPassed, HasPassedNext, HasTaken, HasTakenLast, HasThrown, IsAtOpener, IsAtWord, IsBegun, IsLexing, IsOfMark, IsTakenNext, has_fault, is_none_waiting, is_out_of_memory, left_in, passed_as, passed_count, plain_comment, plain_string, taken_count, thrown_count, view_of};
 ghost use Rattle.starlark_syntax.specs.Lexer.{is_ended_by, most_reads, yielded_by};
 ghost use Rattle.starlark_syntax.specs.PlainLexemes.{IsPlainIn};
 ghost use Rattle.starlark_reader.specs.Inner.Pending.{IsMark};
@@ -16,20 +17,18 @@ ghost use Rattle.starlark_syntax.specs.Inner.Looked.{HasOpened, HasSpared, IsFou
 
 use crate::eval_exception::EvalException;
 use crate::fault_exception::exception;
+use crate::lexemes::Lexeme;
 use crate::plain_lexeme::{PlainKind, PlainLexeme, token_of};
 use starlark_base::codemap::{CodeMap, OrMemory};
-use starlark_reader::reader::{LineEnd, Next, Reader};
+use starlark_reader::reader::{LineEnd, Reader};
+use starlark_token::lexeme_error::LexemeError;
 use starlark_token::tokens::Token;
 use starlark_words::scanner::{Class, LiteralKind, Terminal, Word};
 use std::alloc::{AllocError, Global};
 
-/// An item of a lexer: begin in bytes, token, end in bytes; or the fault, or out of memory.
-pub type Lexeme = Result<(usize, Token, usize), OrMemory<EvalException>>;
-
 /// The state of lexing a text, which `Lexer` and `LexedText` share.
 ///
-/// It yields the lexemes of the text one by one, and the exception of the fault after them. Any error
-/// ends it. Below the offset `looked_to` lookahead has found no word, so the reader takes over there:
+/// It yields the lexemes of the text one by one, and then its fault. Any error ends it. Below the offset `looked_to` lookahead has found no word, so the reader takes over there:
 /// no byte is looked ahead at twice. `passed_begin` and `passed_end` are the offsets of the lexeme that
 /// `pass_waiting` passed last.
 // In this order for the reason that `Reader` has one.
@@ -43,7 +42,6 @@ pub struct LexerState<'a> {
     reader: Reader,
     passed_begin: usize,
     passed_end: usize,
-    code_map: CodeMap,
     alloc: Global,
 }
 
@@ -208,15 +206,14 @@ fn looked_after(reader: &Reader, looked_to: usize) -> Lookahead
 
 impl<'a> LexerState<'a> {
     /// Lexing that begins at the start of a text. It doesn't allocate.
-    pub(crate) fn new(alloc: Global, text: &'a str, code_map: CodeMap) -> LexerState<'a>
+    pub(crate) fn new(alloc: Global, text: &'a str) -> LexerState<'a>
         requires { length text.now < 2 ^ 32 }
         ensures lexing { IsLexing result }
-        ensures begun { IsBegun text.now code_map result }
+        ensures begun { IsBegun text.now result }
     {
         LexerState {
             alloc,
             text,
-            code_map,
             reader: Reader::new(alloc),
             yielded_count: 0,
             has_ended: false,
@@ -230,10 +227,10 @@ impl<'a> LexerState<'a> {
     /// Lexes another text instead, of which nothing was read yet either.
     pub(crate) fn set_text(&mut self, text: &'a str)
         requires fits { length text.now < 2 ^ 32 }
-        requires unread { IsBegun self.old.text.now self.old.code_map self.old }
+        requires unread { IsBegun self.old.text.now self.old }
         requires lexing { IsLexing self.old }
         ensures lexing { IsLexing self.new }
-        ensures begun { IsBegun text.now self.old.code_map self.new }
+        ensures begun { IsBegun text.now self.new }
     {
         self.text = text;
     }
@@ -246,23 +243,12 @@ impl<'a> LexerState<'a> {
         ensures { HasGivenNext self.old result self.new }
     {
         match self.reader.next(self.text) {
-            Ok(Next::Lexeme(lexeme)) => {
+            Ok(Some(lexeme)) => {
                 self.yielded_count += 1;
                 self.lookahead = looked_after(&self.reader, self.looked_to);
                 Some(Ok(lexeme))
             }
-            Ok(Next::Fault { begin, fault, end }) => {
-                self.has_ended = true;
-                self.lookahead = Lookahead::All;
-                match exception(self.alloc, begin, fault, end, &self.code_map) {
-                    Ok(exception) => {
-                        self.yielded_count += 1;
-                        Some(Err(OrMemory::Error(exception)))
-                    }
-                    Err(_) => Some(Err(OrMemory::Memory)),
-                }
-            }
-            Ok(Next::Nothing) => {
+            Ok(None) => {
                 self.lookahead = Lookahead::All;
                 None
             }
@@ -637,8 +623,8 @@ impl<'a> LexerState<'a> {
         self.next_of_all()
     }
 
-    /// The next lexeme, or the exception of the fault after them; `None` after all, and after any
-    /// error.
+    /// The next lexeme, or out of memory in its place; `None` after all, and after any error. No result
+    /// is the fault: after `None`, `take_fault` returns it.
     #[inline(always)]
     pub(crate) fn next(&mut self) -> Option<Lexeme>
         requires { IsLexing self.old }
@@ -652,6 +638,58 @@ impl<'a> LexerState<'a> {
             FastPath::Symbol(_, lexeme) => Some(Ok(lexeme)),
             FastPath::OutOfMemory => Some(Err(OrMemory::Memory)),
             FastPath::Undecided => self.next_slowly(),
+        }
+    }
+
+    /// Whether a fault is left after the last lexeme.
+    #[inline(always)]
+    pub(crate) fn has_fault(&self) -> bool
+        ensures { result ≡ has_fault self.now }
+    {
+        !self.has_ended && self.reader.has_fault()
+    }
+
+    /// The fault after the last lexeme, between two offsets, if one is left. It ends the lexer.
+    pub(crate) fn take_fault(&mut self) -> Option<(usize, LexemeError, usize)>
+        requires lexing { IsLexing self.old }
+        requires end { self.old.has_ended ≡ false → IsAtEnd self.old.text.now self.old.reader }
+        ensures ended { self.old.has_ended ≡ true → (result ≡ None) × (self.new ≡ self.old) }
+        ensures last { self.old.has_ended ≡ false → HasTakenLast self.old result self.new }
+        ensures some { IsSome result → has_fault self.old ≡ true }
+        ensures lexing { IsLexing self.new }
+        ensures after { view_of self.new ≡ record (view_of self.old) { yielded_count = self.old.yielded_count + taken_count result; has_ended = self.old.has_ended || is_some result; reads = self.new.reader.reads } }
+    {
+        if self.has_ended {
+            return None;
+        }
+        self.lookahead = Lookahead::All;
+        let fault = self.reader.take_fault()?;
+        self.yielded_count += 1;
+        self.has_ended = true;
+        Some(fault)
+    }
+
+    /// The exception of the fault that is left after the last lexeme, or out of memory in its place.
+    /// Either ends the lexer.
+    // A call that returns two registers: an item that it returns costs each lexeme 15 instructions.
+    #[inline(never)]
+    pub(crate) fn take_exception(&mut self, code_map: &CodeMap) -> OrMemory<EvalException>
+        requires lexing { IsLexing self.old }
+        requires fault { has_fault self.old ≡ true }
+        requires end { IsAtEnd self.old.text.now self.old.reader }
+        ensures thrown { HasThrown code_map.now self.old result self.new }
+        ensures lexing { IsLexing self.new }
+        ensures after { view_of self.new ≡ record (view_of self.old) { yielded_count = self.old.yielded_count + thrown_count result; has_ended = true; reads = self.new.reader.reads } }
+    {
+        let Some((begin, fault, end)) = self.take_fault() else {
+            return OrMemory::Memory;
+        };
+        match exception(self.alloc, begin, fault, end, code_map) {
+            Ok(exception) => OrMemory::Error(exception),
+            Err(_) => {
+                self.yielded_count -= 1;
+                OrMemory::Memory
+            }
         }
     }
 

@@ -2,7 +2,6 @@
 
 ghost use Rattle.std.specs.Prelude.{[], ◌≡◌, ◌<◌, ◌≤◌, ◌+◌, ◌++◌, Some, IfSome, OnErr, OnOk, drop, false, length, map, take, true};
 ghost use Rattle.std.specs.List.{AllByRecursion};
-ghost use Rattle.starlark_base.specs.Sources.{SourceFile};
 ghost use Rattle.starlark_grammar.specs.Words.{Text};
 ghost use Rattle.starlark_syntax.specs.Inner.LexedTexts.{IsMet, IsPutIn, later, later_cut, moved_cut, moved_lexeme, part_view};
 ghost use Rattle.starlark_syntax.specs.Inner.LexerStates.{IsLexing, view_of};
@@ -121,7 +120,7 @@ pub(crate) fn put_part(
     part: ReadPart,
     meeting: Meeting,
 ) -> Result<(), AllocError>
-    requires { (file : SourceFile) × (known : Text) × (text : Text) × IsPutIn known text lexemes.old.items cuts.old.items begin (part_view part) meeting }
+    requires { (known : Text) × (text : Text) × IsPutIn known text lexemes.old.items cuts.old.items begin (part_view part) meeting }
     ensures lexemes { OnOk result (lexemes.new.items ≡ take begin.lexemes lexemes.old.items ++ map (later begin.at) (part.lexemes.items ++ map (moved_lexeme meeting.cut.at meeting.at) (drop meeting.cut.lexemes lexemes.old.items))) }
     ensures cuts { OnOk result (cuts.new.items ≡ take begin.cuts cuts.old.items ++ map (later_cut begin.at begin.lexemes) (part.cuts.items ++ map (moved_cut meeting.cut (record { at = meeting.at; lexemes = length part.lexemes.items })) (drop (begin.cuts + meeting.index + 1) cuts.old.items))) }
     ensures same { OnErr result ((lexemes.new.items ≡ lexemes.old.items) × (cuts.new.items ≡ cuts.old.items)) }

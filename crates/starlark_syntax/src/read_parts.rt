@@ -1,20 +1,21 @@
 //! Lexes a whole text, or the rest of one.
 
-ghost use Rattle.std.specs.Prelude.{◌≡◌, ◌<◌, ◌≤◌, ◌+◌, ◌^◌, ◌++◌, Option, None, IfOk, IfSome, IsSome, OnOk, length, option_map};
+ghost use Rattle.std.specs.Prelude.{◌≡◌, ◌<◌, ◌≤◌, ◌+◌, ◌^◌, ◌++◌, Option, None, IfOk, IfSome, OnOk, length, option_map};
 ghost use Rattle.std.specs.List.{AllByRecursion};
-ghost use Rattle.starlark_base.specs.Sources.{SourceFile};
 ghost use Rattle.starlark_grammar.specs.Tokens.{Fault, Spanned, moved};
-ghost use Rattle.starlark_syntax.specs.Exceptions.{IsException, IsFaultIn};
+ghost use Rattle.starlark_syntax.specs.Exceptions.{IsFaultIn};
+ghost use Rattle.starlark_syntax.specs.Inner.RawItems.{IsRawIn};
 ghost use Rattle.starlark_syntax.specs.Inner.LexedTexts.{IsMet, IsReadPart, IsReadPartTo, cuts_at, end_cuts, part_view};
 ghost use Rattle.starlark_syntax.specs.Inner.LexerStates.{IsBegun, IsLexing};
 ghost use Rattle.starlark_syntax.specs.Lexer.{most_reads};
 
 use crate::cuts::Cut;
 use crate::eval_exception::EvalException;
+use crate::fault_exception::exception;
 use crate::lexer_state::LexerState;
 use crate::meetings::{Known, Meeting, meeting_at};
-use starlark_base::codemap::{CodeMap, FileSpan, OrMemory, Pos, Span};
-use starlark_base::diagnostic::WithDiagnostic;
+use starlark_base::codemap::CodeMap;
+use starlark_token::lexeme_error::LexemeError;
 use starlark_token::tokens::Token;
 use std::alloc::{AllocError, Global};
 
@@ -25,8 +26,8 @@ use std::alloc::{AllocError, Global};
 pub struct ReadPart {
     /// The lexemes up to the fault or the meeting, or all.
     pub lexemes: Vec<(usize, Token, usize)>,
-    /// The exception of the first fault, if there is one.
-    pub fault: Option<EvalException>,
+    /// The first fault, if there is one: begin in bytes, kind, end in bytes.
+    pub fault: Option<(usize, LexemeError, usize)>,
     /// The offsets where the text can be cut, in order.
     pub cuts: Vec<Cut>,
     /// Whether the text is a clean cut. At a meeting it says nothing.
@@ -69,17 +70,6 @@ fn with_end_cut(
     Ok(all)
 }
 
-/// The span of an exception that has one.
-fn span_of(exception: &EvalException) -> Span
-    requires { IsSome exception.now.span }
-    ensures { IfSome exception.now.span (λ place. result ≡ place.span) }
-{
-    let Some(FileSpan { span, .. }) = exception.error().span() else {
-        unreachable!()
-    };
-    *span
-}
-
 /// Lexes a text up to its end, its first fault or a meeting with a known text, from a state that has
 /// just begun.
 ///
@@ -91,9 +81,9 @@ pub(crate) fn read_part(
     known: Known<'_>,
 ) -> Result<ReadPart, AllocError>
     requires lexing { IsLexing state.old }
-    requires begun { IsBegun state.old.text.now state.old.code_map state.old }
+    requires begun { IsBegun state.old.text.now state.old }
     requires cuts { AllByRecursion (λ (cut : Cut). cut.at ≤ length known.text.now) known.cuts.now }
-    ensures part { IfOk result (λ part. part.met ≡ None → IsReadPart state.old.code_map state.old.text.now (part_view part)) }
+    ensures part { IfOk result (λ part. part.met ≡ None → IsReadPart state.old.text.now (part_view part)) }
     ensures met { IfOk result (λ part. IfSome part.met (λ meeting. IsMet state.old.text.now known.entry.text.now known.entry.cuts.now meeting × IsReadPartTo state.old.text.now meeting.at (part_view part))) }
     ensures faultless { IfOk result (λ part. IfSome part.met (λ meeting. part.fault ≡ None)) }
     ensures counted { IfOk result (λ part. part.reads ≡ state.new.reader.reads) }
@@ -104,36 +94,34 @@ pub(crate) fn read_part(
     let mut cuts = Vec::new(alloc);
     let mut lexemes = Vec::new(alloc);
     while let Some(item) = state.next() {
-        match item {
-            Ok(lexeme) => {
-                lexemes.push(lexeme)?;
-                let place = state.cut();
-                push_cut(&mut cuts, place, lexemes.len())?;
-                if let Some(meeting) = meeting_at(state, place, known) {
-                    return Ok(ReadPart {
-                        lexemes,
-                        fault: None,
-                        cuts,
-                        is_cut: false,
-                        has_tab: false,
-                        reads: state.reads(),
-                        met: Some(meeting),
-                    });
-                }
-            }
-            Err(OrMemory::Memory) => return Err(AllocError),
-            Err(OrMemory::Error(exception)) => {
-                return Ok(ReadPart {
-                    lexemes,
-                    fault: Some(exception),
-                    cuts,
-                    is_cut: false,
-                    has_tab: state.has_read_none(),
-                    reads: state.reads(),
-                    met: None,
-                });
-            }
+        let Ok(lexeme) = item else {
+            return Err(AllocError);
+        };
+        lexemes.push(lexeme)?;
+        let place = state.cut();
+        push_cut(&mut cuts, place, lexemes.len())?;
+        if let Some(meeting) = meeting_at(state, place, known) {
+            return Ok(ReadPart {
+                lexemes,
+                fault: None,
+                cuts,
+                is_cut: false,
+                has_tab: false,
+                reads: state.reads(),
+                met: Some(meeting),
+            });
         }
+    }
+    if let Some(fault) = state.take_fault() {
+        return Ok(ReadPart {
+            lexemes,
+            fault: Some(fault),
+            cuts,
+            is_cut: false,
+            has_tab: state.has_read_none(),
+            reads: state.reads(),
+            met: None,
+        });
     }
     let is_cut = state.is_clean_cut();
     let cuts = with_end_cut(cuts, text, &lexemes, is_cut)?;
@@ -149,42 +137,25 @@ pub(crate) fn read_part(
     })
 }
 
-/// The exception of a fault, moved by `len` bytes into a code map. Its place counts from where lexing
-/// began.
-fn moved_exception(
-    alloc: Global,
-    exception: EvalException,
-    len: usize,
-    code_map: &CodeMap,
-) -> Result<EvalException, AllocError>
-    requires near { IfSome exception.span (λ place. (place.span.begin ≤ place.span.end) × (len + place.span.end < 2 ^ 32)) }
-    requires placed { IsSome exception.span }
-    ensures { IfOk result (λ it. (file : SourceFile) (fault : Spanned Fault) → IsException file fault exception → IsException code_map.now (moved len fault) it) }
-{
-    let place = span_of(&exception);
-    let span = Span::new(
-        Pos::new((len + place.begin().get() as usize) as u32),
-        Pos::new((len + place.end().get() as usize) as u32),
-    );
-    match WithDiagnostic::new_spanned(alloc, exception.into_error(), span, code_map) {
-        Ok(diagnostic) => Ok(EvalException::from(diagnostic)),
-        Err(_) => Err(AllocError),
-    }
-}
-
 /// The exception of a part's fault, if it has one, moved by `len` bytes into a code map.
 pub(crate) fn exception_of(
     alloc: Global,
-    fault: Option<EvalException>,
+    fault: Option<(usize, LexemeError, usize)>,
     len: usize,
     code_map: &CodeMap,
 ) -> Result<Option<EvalException>, AllocError>
-    requires near { IfSome fault (λ exception. IsSome exception.span × IfSome exception.span (λ place. (place.span.begin ≤ place.span.end) × (len + place.span.end < 2 ^ 32))) }
+    requires near { IfSome fault (λ found. (found.0 ≤ found.2) × (len + found.2 < 2 ^ 32)) }
     ensures none { IfOk result (λ exception. exception ≡ None → fault ≡ None) }
-    ensures exception { IfOk result (λ exception. (file : SourceFile) (found : Option (Spanned Fault)) → IsFaultIn file found fault → IsFaultIn code_map.now (option_map (moved len) found) exception) }
+    ensures exception { IfOk result (λ exception. (found : Option (Spanned Fault)) → IsRawIn found fault → IsFaultIn code_map.now (option_map (moved len) found) exception) }
 {
     match fault {
-        Some(exception) => Ok(Some(moved_exception(alloc, exception, len, code_map)?)),
+        Some((begin, fault, end)) => Ok(Some(exception(
+            alloc,
+            len + begin,
+            fault,
+            len + end,
+            code_map,
+        )?)),
         None => Ok(None),
     }
 }

@@ -88,23 +88,21 @@ impl<'a> RecoveringLexer<'a> {
         ensures reads { self.old.has_ended ≡ false → HasReadOn self.old.text self.new.fault_count result self.new.reads }
     {
         let begin = self.begin;
-        let answer = self.rest.next()?;
-        match answer {
+        match self.rest.next_item()? {
             Ok(lexeme) => Some(Ok((begin + lexeme.0, lexeme.1, begin + lexeme.2))),
-            Err(refused) => match refused {
-                OrMemory::Memory => Some(Err(OrMemory::Memory)),
-                OrMemory::Error(exception) => {
-                    let Ok(passed) = pass(self.alloc, self.text, begin, exception) else {
-                        return Some(Err(OrMemory::Memory));
-                    };
-                    let reads = self.rest.reads().saturating_add(passed.reads);
-                    self.earlier_reads = self.earlier_reads.saturating_add(reads);
-                    self.fault_count += 1;
-                    self.begin = passed.begin;
-                    self.rest = passed.rest;
-                    Some(Err(OrMemory::Error(passed.fault)))
-                }
-            },
+            Err(OrMemory::Memory) => Some(Err(OrMemory::Memory)),
+            Err(OrMemory::Error(fault)) => {
+                let file = self.rest.code_map();
+                let Ok(passed) = pass(self.alloc, self.text, begin, fault, file) else {
+                    return Some(Err(OrMemory::Memory));
+                };
+                let reads = self.rest.reads().saturating_add(passed.reads);
+                self.earlier_reads = self.earlier_reads.saturating_add(reads);
+                self.fault_count += 1;
+                self.begin = passed.begin;
+                self.rest.begin(&self.text[passed.begin..]);
+                Some(Err(OrMemory::Error(passed.fault)))
+            }
         }
     }
 

@@ -1,9 +1,9 @@
 -- The lexemes of a text that were handed out so far, in a list.
-use Rattle.std.proofs.Common.{◌≡◌, Bool, true, false, ℕ, ◌+◌, ◌-◌, ◌<◌, ◌≤◌, List, [], ◌∷◌, ◌++◌, drop, map, take, length, refl, ap, sym, subst, ◌∙◌, arith, append-nil, append_assoc, length-append, None, Some, Ok, Err}
+use Rattle.std.proofs.Common.{◌≡◌, Bool, true, false, ℕ, ◌+◌, ◌-◌, ◌<◌, ◌≤◌, List, [], ◌∷◌, ◌++◌, drop, map, take, length, refl, ap, sym, subst, ◌∙◌, arith, append-nil, append_assoc, length-append, ◌||◌, None, Some, Ok, Result}
 use Rattle.std.specs.Prelude.{◌&&◌, IfSome, Option, codes, nat_eq, nat_le, nat_lt}
 use Rattle.std.specs.List.{AllByRecursion, ends_with}
 use Rattle.starlark_base.specs.Diagnostics.{Diagnosed}
-use Rattle.starlark_base.specs.Sources.{SourceFile}
+use Rattle.std.specs.Option.{is_some}
 use Rattle.std.proofs.lemmas.Bool.{leb-false, leb-true, ltb-false, ltb-true}
 use Rattle.std.proofs.lemmas.List.{length-map, map-append}
 use Rattle.starlark_grammar.specs.Words.{Text}
@@ -25,47 +25,45 @@ use Rattle.starlark_syntax.proofs.LexedTexts.JoinedLists.{begun}
 use Rattle.starlark_reader.proofs.TakenPieces.Onward.{margin_first}
 use Rattle.starlark_reader.proofs.TakenPieces.Taken.{no_tab}
 use Rattle.starlark_reader.specs.Inner.Reader.{IsReached, IsStateAfter, begins_with_tab, has_read_none, history_of}
-use Rattle.starlark_syntax.specs.Exceptions.{IsException, IsFaultIn}
-use Rattle.starlark_syntax.specs.Inner.LexerStates.{HasAnswered, IsBegun, IsLexing, left_in, view_of}
-use Rattle.starlark_syntax.specs.Lexer.{LexerView}
+use Rattle.starlark_syntax.specs.Inner.RawItems.{IsRawIn}
+use Rattle.starlark_syntax.specs.Lexer.{is_ended_by, yielded_by}
+use Rattle.starlark_syntax.specs.Inner.LexerStates.{HasAnswered, HasTakenLast, IsBegun, IsLexing, StateView, left_in, view_of}
 use Rattle.starlark_syntax.specs.declared.error.kinds.ErrorKind.{ErrorKind}
 use Rattle.starlark_syntax.specs.declared.lexer_state.LexerState.{LexerState}
 use Rattle.starlark_syntax.proofs.LexerItems.{one_more as next_left}
-use Rattle.starlark_text.specs.declared.or_memory.OrMemory.TheVariants.{Error}
+use Rattle.starlark_text.specs.declared.or_memory.OrMemory.{OrMemory}
 use Rattle.starlark_token.specs.TokenViews.{TokenView}
+use Rattle.starlark_token.specs.declared.lexeme_error.LexemeError.{LexemeError}
 use Rattle.starlark_token.specs.declared.tokens.Token.{Token}
 
 -- What was handed out and what is left in a lexer's state are all lexemes of a text.
-pub record IsCollected (text : Text) (file : SourceFile) (state : LexerState) (found : List (ℕ × Token × ℕ)) : Type 0 where
+pub record IsCollected (text : Text) (state : LexerState) (found : List (ℕ × Token × ℕ)) : Type 0 where
   pub lexing : IsLexing state
-  pub view : view_of state ≡ record { text = text; code_map = file; yielded_count = length found; has_ended = false; reads = state.reader.reads }
+  pub view : view_of state ≡ record { text = text; yielded_count = length found; has_ended = false; reads = state.reader.reads }
   pub all : map shown_lexeme (outcome text).lexemes ≡ map lexeme_view found ++ left_in state
 
-pub text_is : (text : Text) (file : SourceFile) (state : LexerState) (found : List (ℕ × Token × ℕ)) → IsCollected text file state found → state.text.now ≡ text
-text_is text file state found is = ap (λ (v : LexerView). v.text) is.view
+pub text_is : (text : Text) (state : LexerState) (found : List (ℕ × Token × ℕ)) → IsCollected text state found → state.text.now ≡ text
+text_is text state found is = ap (λ (v : StateView). v.text) is.view
 
-file_is : (text : Text) (file : SourceFile) (state : LexerState) (found : List (ℕ × Token × ℕ)) → IsCollected text file state found → state.code_map ≡ file
-file_is text file state found is = ap (λ (v : LexerView). v.code_map) is.view
-
-pub goes_on : (text : Text) (file : SourceFile) (state : LexerState) (found : List (ℕ × Token × ℕ)) → IsCollected text file state found → state.has_ended ≡ false
-goes_on text file state found is = ap (λ (v : LexerView). v.has_ended) is.view
+pub goes_on : (text : Text) (state : LexerState) (found : List (ℕ × Token × ℕ)) → IsCollected text state found → state.has_ended ≡ false
+goes_on text state found is = ap (λ (v : StateView). v.has_ended) is.view
 
 -- with one lexeme more, right after which a kept cut is reached
-pub one_more : (text : Text) (file : SourceFile) (old new : LexerState) (found : List (ℕ × Token × ℕ)) (lexeme : ℕ × Token × ℕ) → IsCollected text file old found → HasAnswered old (Some (Ok lexeme)) new → IsLexing new
+pub one_more : (text : Text) (old new : LexerState) (found : List (ℕ × Token × ℕ)) (lexeme : ℕ × Token × ℕ) → IsCollected text old found → HasAnswered old (Some (Ok lexeme)) new → IsLexing new
     → view_of new ≡ record (view_of old) { yielded_count = old.yielded_count + 1; has_ended = false; reads = new.reader.reads }
-    → IsCollected text file new (found ++ lexeme ∷ []) × (length found < length (outcome text).lexemes) × ((at : ℕ) → IsCutBefore text at (length (left_in new)) → IsReached new.reader at)
-one_more text file old new found lexeme is answer lexing after =
-    let same : old.text.now ≡ text = text_is text file old found is in
+    → IsCollected text new (found ++ lexeme ∷ []) × (length found < length (outcome text).lexemes) × ((at : ℕ) → IsCutBefore text at (length (left_in new)) → IsReached new.reader at)
+one_more text old new found lexeme is answer lexing after =
+    let same : old.text.now ≡ text = text_is text old found is in
     let left : left_in new ≡ answer.0 =
-    ap (λ (v : LexerView). drop v.yielded_count (map shown_lexeme (outcome v.text).lexemes)) after ∙ (next_left (map shown_lexeme (outcome old.text.now).lexemes) old.yielded_count (lexeme_view lexeme) answer.0 answer.1).1 in
+    ap (λ (v : StateView). drop v.yielded_count (map shown_lexeme (outcome v.text).lexemes)) after ∙ (next_left (map shown_lexeme (outcome old.text.now).lexemes) old.yielded_count (lexeme_view lexeme) answer.0 answer.1).1 in
     let all : map shown_lexeme (outcome text).lexemes ≡ map lexeme_view found ++ lexeme_view lexeme ∷ left_in new = is.all ∙ ap (λ vs. map lexeme_view found ++ vs) (answer.1 ∙ ap (λ vs. lexeme_view lexeme ∷ vs) (sym left)) in
     let parts : map lexeme_view (found ++ lexeme ∷ []) ++ left_in new ≡ map lexeme_view found ++ lexeme_view lexeme ∷ left_in new =
     ap (λ vs. vs ++ left_in new) (map-append lexeme_view found (lexeme ∷ [])) ∙ append_assoc (map lexeme_view found) (lexeme_view lexeme ∷ []) (left_in new) in
     let count : length (map shown_lexeme (outcome text).lexemes) ≡ length (map lexeme_view found) + length (lexeme_view lexeme ∷ left_in new) = ap length all ∙ length-append (map lexeme_view found) (lexeme_view lexeme ∷ left_in new) in (
       record {
         lexing = lexing;
-        view = after ∙ ap (λ (v : LexerView). record v { yielded_count = v.yielded_count + 1; has_ended = false; reads = new.reader.reads }) is.view
-            ∙ ap (λ n. record { text = text; code_map = file; yielded_count = n; has_ended = false; reads = new.reader.reads }) (sym (length-append found (lexeme ∷ [])));
+        view = after ∙ ap (λ (v : StateView). record v { yielded_count = v.yielded_count + 1; has_ended = false; reads = new.reader.reads }) is.view
+            ∙ ap (λ n. record { text = text; yielded_count = n; has_ended = false; reads = new.reader.reads }) (sym (length-append found (lexeme ∷ [])));
         all = all ∙ sym parts;
       },
       omega (arith, count, length-map (outcome text).lexemes shown_lexeme, length-map found lexeme_view),
@@ -73,34 +71,44 @@ one_more text file old new found lexeme is answer lexing after =
     )
 
 -- where only the number of reads changes
-pub same_collected : (text : Text) (file : SourceFile) (old new : LexerState) (found : List (ℕ × Token × ℕ)) → IsCollected text file old found → IsLexing new → view_of new ≡ record (view_of old) { reads = new.reader.reads } → IsCollected text file new found
-same_collected text file old new found is lexing after = record {
+pub same_collected : (text : Text) (old new : LexerState) (found : List (ℕ × Token × ℕ)) → IsCollected text old found → IsLexing new → view_of new ≡ record (view_of old) { reads = new.reader.reads } → IsCollected text new found
+same_collected text old new found is lexing after = record {
   lexing = lexing;
-  view = after ∙ ap (λ (v : LexerView). record v { reads = new.reader.reads }) is.view;
-  all = is.all ∙ ap (λ vs. map lexeme_view found ++ vs) (sym (ap (λ (v : LexerView). drop v.yielded_count (map shown_lexeme (outcome v.text).lexemes)) after));
+  view = after ∙ ap (λ (v : StateView). record v { reads = new.reader.reads }) is.view;
+  all = is.all ∙ ap (λ vs. map lexeme_view found ++ vs) (sym (ap (λ (v : StateView). drop v.yielded_count (map shown_lexeme (outcome v.text).lexemes)) after));
 }
+
+-- where no lexeme is left
+pub none_collected : (text : Text) (old new : LexerState) (answer : Option (Result (ℕ × Token × ℕ) (OrMemory (Diagnosed ErrorKind)))) (found : List (ℕ × Token × ℕ)) → is_some answer ≡ false → IsCollected text old found → IsLexing new
+    → view_of new ≡ record (view_of old) { yielded_count = old.yielded_count + yielded_by answer; has_ended = old.has_ended || is_ended_by answer; reads = new.reader.reads } → IsCollected text new found
+none_collected text old new (Some answer) found none is lexing after = cc
+none_collected text old new None found none is lexing after =
+    let count : old.yielded_count + 0 ≡ old.yielded_count = omega arith in
+    same_collected text old new found is lexing
+    (after ∙ ap (λ n. record (view_of old) { yielded_count = n; has_ended = old.has_ended || false; reads = new.reader.reads }) count ∙ ap (λ b. record (view_of old) { has_ended = b || false; reads = new.reader.reads }) (goes_on text old found is)
+    ∙ ap (λ b. record (view_of old) { has_ended = b; reads = new.reader.reads }) (sym (goes_on text old found is)))
 
 -- so fewer are ahead
 pub less_left : {A : Type 0} (all : ℕ) (old new : List A) (x : A) → new ≡ old ++ x ∷ [] → length old < all → all - length new < all - length old
 less_left all old new x is some = omega (arith, ap length is, length-append old (x ∷ []), some)
 
 -- none yet
-pub collected_none : (state : LexerState) (found : List (ℕ × Token × ℕ)) → found ≡ [] → IsLexing state → IsBegun state.text.now state.code_map state → IsCollected state.text.now state.code_map state found
+pub collected_none : (state : LexerState) (found : List (ℕ × Token × ℕ)) → found ≡ [] → IsLexing state → IsBegun state.text.now state → IsCollected state.text.now state found
 collected_none state found none lexing begun =
-    let none_yet : state.yielded_count ≡ 0 = ap (λ (v : LexerView). v.yielded_count) begun.view in
+    let none_yet : state.yielded_count ≡ 0 = ap (λ (v : StateView). v.yielded_count) begun.view in
     record {
       lexing = lexing;
-      view = begun.view ∙ ap (λ (ls : List (ℕ × Token × ℕ)). record { text = state.text.now; code_map = state.code_map; yielded_count = length ls; has_ended = false; reads = 0 }) (sym none)
-          ∙ ap (λ n. record { text = state.text.now; code_map = state.code_map; yielded_count = length found; has_ended = false; reads = n }) (sym (ap (λ (v : LexerView). v.reads) begun.view));
+      view = begun.view ∙ ap (λ (ls : List (ℕ × Token × ℕ)). record { text = state.text.now; yielded_count = length ls; has_ended = false; reads = 0 }) (sym none)
+          ∙ ap (λ n. record { text = state.text.now; yielded_count = length found; has_ended = false; reads = n }) (sym (ap (λ (v : StateView). v.reads) begun.view));
       all = sym (ap (λ (ls : List (ℕ × Token × ℕ)). map lexeme_view ls ++ left_in state) none ∙ ap (λ n. drop n (map shown_lexeme (outcome state.text.now).lexemes)) none_yet);
     }
 
 -- all of them, where none is left
-none_left : (text : Text) (file : SourceFile) (state : LexerState) (found : List (ℕ × Token × ℕ)) → IsCollected text file state found → left_in state ≡ [] → map lexeme_view found ≡ map shown_lexeme (outcome text).lexemes
-none_left text file state found is none = sym (is.all ∙ ap (λ vs. map lexeme_view found ++ vs) none ∙ append-nil (map lexeme_view found))
+none_left : (text : Text) (state : LexerState) (found : List (ℕ × Token × ℕ)) → IsCollected text state found → left_in state ≡ [] → map lexeme_view found ≡ map shown_lexeme (outcome text).lexemes
+none_left text state found is none = sym (is.all ∙ ap (λ vs. map lexeme_view found ++ vs) none ∙ append-nil (map lexeme_view found))
 
-found_all : (text : Text) (file : SourceFile) (state : LexerState) (found : List (ℕ × Token × ℕ)) → IsCollected text file state found → left_in state ≡ [] → length found ≡ length (outcome text).lexemes
-found_all text file state found is none = sym (length-map found lexeme_view) ∙ ap length (none_left text file state found is none) ∙ length-map (outcome text).lexemes shown_lexeme
+found_all : (text : Text) (state : LexerState) (found : List (ℕ × Token × ℕ)) → IsCollected text state found → left_in state ≡ [] → length found ≡ length (outcome text).lexemes
+found_all text state found is none = sym (length-map found lexeme_view) ∙ ap length (none_left text state found is none) ∙ length-map (outcome text).lexemes shown_lexeme
 
 -- The cuts that were found so far: all before a text's end and before so many lexemes or fewer.
 pub record AreCutsSoFar (text : Text) (count : ℕ) (cuts : List Cut) : Type 0 where
@@ -189,23 +197,23 @@ all_held text cuts more count so same last at kept = go (nat_lt at (length text)
         let clean : is_clean_cut text ≡ true = ap is_clean_cut (sym (ap (λ n. take n text) whole ∙ take_all text)) ∙ (kept_parts text at kept).1 in
         held_right at cuts more (ap (λ n. holds_cut n more) whole ∙ last clean)
 
--- with the exception of the text's fault after them
-pub fault_given : (text : Text) (file : SourceFile) (state new : LexerState) (part : PartView) (exception : Diagnosed ErrorKind) → IsCollected text file state part.lexemes → HasAnswered state (Some (Err (Error exception))) new
-    → AreCutsSoFar text (length part.lexemes) part.cuts → part.fault ≡ Some exception → part.is_cut ≡ false → part.has_tab ≡ has_read_none new.reader → IsReadPart file text part
-fault_given text file state new part exception is answer so thrown no_cut tab =
-    let same : state.text.now ≡ text = text_is text file state part.lexemes is in
-    let fault : (outcome text).fault ≡ Some answer.1.0 = ap (λ (t : Text). (outcome t).fault) (sym same) ∙ answer.1.1 in
+-- with the text's fault after them
+pub fault_given : (text : Text) (state new : LexerState) (part : PartView) (found : ℕ × LexemeError × ℕ) → IsCollected text state part.lexemes → HasTakenLast state (Some found) new
+    → AreCutsSoFar text (length part.lexemes) part.cuts → part.fault ≡ Some found → part.is_cut ≡ false → part.has_tab ≡ has_read_none new.reader → IsReadPart text part
+fault_given text state new part found is last so thrown no_cut tab =
+    let same : state.text.now ≡ text = text_is text state part.lexemes is in
+    let fault : (outcome text).fault ≡ Some last.0 = ap (λ (t : Text). (outcome t).fault) (sym same) ∙ last.1.has in
     record {
-      lexemes = none_left text file state part.lexemes is answer.0;
-      fault = subst (λ f. IsFaultIn file f part.fault) (sym fault) (subst (IsFaultIn file (Some answer.1.0)) (sym thrown) (subst (λ (f : SourceFile). IsException f answer.1.0 exception) (file_is text file state part.lexemes is) answer.1.2));
+      lexemes = none_left text state part.lexemes is last.1.none;
+      fault = subst (λ f. IsRawIn f part.fault) (sym fault) (subst (IsRawIn (Some last.0)) (sym thrown) last.2);
       cuts = record {
         each = so.each;
         order = so.order;
         all = λ place kept. subst (λ cuts. holds_cut place cuts ≡ true) (append-nil part.cuts)
-            (all_held text part.cuts [] (length part.lexemes) so (found_all text file state part.lexemes is answer.0) (λ clean. let both : true ≡ false = sym clean ∙ faulty_cut text answer.1.0 fault in cc) place kept);
+            (all_held text part.cuts [] (length part.lexemes) so (found_all text state part.lexemes is last.1.none) (λ clean. let both : true ≡ false = sym clean ∙ faulty_cut text last.0 fault in cc) place kept);
       };
-      is_cut = no_cut ∙ sym (faulty_cut text answer.1.0 fault);
-      tab = tab ∙ answer.2 ∙ ap begins_with_tab same;
+      is_cut = no_cut ∙ sym (faulty_cut text last.0 fault);
+      tab = tab ∙ last.1.tab ∙ ap begins_with_tab same;
     }
 
 -- the cut at a text's end, where it is one, after others
@@ -224,33 +232,33 @@ end_is text cuts count false so is same = record {
 }
 
 -- where the text has none
-pub all_given : (text : Text) (file : SourceFile) (state new : LexerState) (part : PartView) (cuts : List Cut) → IsCollected text file state part.lexemes → HasAnswered state None new → part.fault ≡ None
-    → AreCutsSoFar text (length part.lexemes) cuts → part.cuts ≡ cuts ++ end_cuts text (length part.lexemes) part.is_cut → part.is_cut ≡ is_clean_cut text → part.has_tab ≡ false → IsReadPart file text part
-all_given text file state new part cuts is answer no_fault so same is_cut no_tabs =
-    let none : (outcome text).fault ≡ None = ap (λ (t : Text). (outcome t).fault) (sym (text_is text file state part.lexemes is)) ∙ answer.1 in
+pub all_given : (text : Text) (state new : LexerState) (part : PartView) (cuts : List Cut) → IsCollected text state part.lexemes → HasTakenLast state None new → part.fault ≡ None
+    → AreCutsSoFar text (length part.lexemes) cuts → part.cuts ≡ cuts ++ end_cuts text (length part.lexemes) part.is_cut → part.is_cut ≡ is_clean_cut text → part.has_tab ≡ false → IsReadPart text part
+all_given text state new part cuts is answer no_fault so same is_cut no_tabs =
+    let none : (outcome text).fault ≡ None = ap (λ (t : Text). (outcome t).fault) (sym (text_is text state part.lexemes is)) ∙ answer.1 in
     record {
-      lexemes = none_left text file state part.lexemes is answer.0;
-      fault = subst (λ f. IsFaultIn file f part.fault) (sym none) (subst (IsFaultIn file None) (sym no_fault) tt);
-      cuts = subst (AreCuts text) (sym same) (end_is text cuts (length part.lexemes) part.is_cut so is_cut (found_all text file state part.lexemes is answer.0));
+      lexemes = none_left text state part.lexemes is answer.0;
+      fault = subst (λ f. IsRawIn f part.fault) (sym none) (subst (IsRawIn None) (sym no_fault) tt);
+      cuts = subst (AreCuts text) (sym same) (end_is text cuts (length part.lexemes) part.is_cut so is_cut (found_all text state part.lexemes is answer.0));
       is_cut = is_cut;
       tab = let margin = begun text none in no_tabs ∙ sym (no_tab text margin.0 (sym (margin_first text) ∙ margin.1));
     }
 
 -- how many are found and how many are left
-pub all_counted : (text : Text) (file : SourceFile) (state : LexerState) (found : List (ℕ × Token × ℕ)) → IsCollected text file state found → length found + length (left_in state) ≡ length (outcome text).lexemes
-all_counted text file state found is = omega (arith, ap length is.all, length-append (map lexeme_view found) (left_in state), length-map found lexeme_view, length-map (outcome text).lexemes shown_lexeme)
+pub all_counted : (text : Text) (state : LexerState) (found : List (ℕ × Token × ℕ)) → IsCollected text state found → length found + length (left_in state) ≡ length (outcome text).lexemes
+all_counted text state found is = omega (arith, ap length is.all, length-append (map lexeme_view found) (left_in state), length-map found lexeme_view, length-map (outcome text).lexemes shown_lexeme)
 
 -- Nothing is left of a text without fault only where it has a lexeme at least.
-pub some_given : (text : Text) (file : SourceFile) (state new : LexerState) (found : List (ℕ × Token × ℕ)) → IsCollected text file state found → HasAnswered state None new → 0 < length found
-some_given text file state new found is answer =
-    let none : (outcome text).fault ≡ None = ap (λ (t : Text). (outcome t).fault) (sym (text_is text file state found is)) ∙ answer.1 in
-    omega (arith, some_lexemes text none, found_all text file state found is answer.0)
+pub some_given : (text : Text) (state new : LexerState) (found : List (ℕ × Token × ℕ)) → IsCollected text state found → HasTakenLast state None new → 0 < length found
+some_given text state new found is answer =
+    let none : (outcome text).fault ≡ None = ap (λ (t : Text). (outcome t).fault) (sym (text_is text state found is)) ∙ answer.1 in
+    omega (arith, some_lexemes text none, found_all text state found is answer.0)
 
 -- whether the text is a clean cut, which the history at its end tells
-pub settled_is : (text : Text) (file : SourceFile) (state new : LexerState) (found : List (ℕ × Token × ℕ)) (is_cut : Bool) → IsCollected text file state found → HasAnswered state None new
+pub settled_is : (text : Text) (state new : LexerState) (found : List (ℕ × Token × ℕ)) (is_cut : Bool) → IsCollected text state found → HasTakenLast state None new
     → ((history : History) → IsStateAfter text history new.reader → is_cut ≡ (is_settled history && ends_with nat_eq text (codes "\n"))) → is_cut ≡ is_clean_cut text
-settled_is text file state new found is_cut is answer by =
-    let same = text_is text file state found is in
+settled_is text state new found is_cut is answer by =
+    let same = text_is text state found is in
     let none : (outcome text).fault ≡ None = ap (λ (t : Text). (outcome t).fault) (sym same) ∙ answer.1 in
     let after : IsStateAfter text (history_of text) new.reader = subst (λ (t : Text). IsStateAfter t (history_of t) new.reader) same answer.2 in
     by (history_of text) after ∙ sym (faultless_cut text none)

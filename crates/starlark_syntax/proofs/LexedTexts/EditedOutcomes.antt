@@ -8,7 +8,6 @@ use Rattle.std.proofs.Math.Seq.{take-append_seam}
 use Rattle.std.proofs.lemmas.Bool.{and_parts, lt-ltb}
 use Rattle.std.proofs.lemmas.List.{length-map, length-take, length-take-le, map-append, take-append-drop, take-map}
 use Rattle.std.proofs.lemmas.Option.{slice_get_cases}
-use Rattle.starlark_base.specs.Sources.{SourceFile}
 use Rattle.starlark_grammar.specs.Words.{Text, language}
 use Rattle.starlark_grammar.specs.Tokens.{Fault, InvalidTab, Lexeme, Newline, Outcome, Spanned, moved}
 use Rattle.starlark_grammar.specs.Margins.{has_tab, is_content, margin_of}
@@ -16,6 +15,7 @@ use Rattle.starlark_grammar.specs.Pieces.{Fails}
 use Rattle.starlark_grammar.specs.Reading.{nothing, outcome, pieces_len, read}
 use Rattle.starlark_grammar.specs.Cuts.{is_clean_cut, is_kept_cut, tabbed, without_closing}
 use Rattle.starlark_grammar.specs.TextLaws.{HasFirstMargin}
+use Rattle.starlark_grammar.proofs.Recovery.ClosedTexts.{unmoved}
 use Rattle.starlark_grammar.proofs.Joining.CleanCuts.{cuts_join}
 use Rattle.starlark_grammar.proofs.Joining.Laws.{kept_cuts_keep}
 use Rattle.starlark_grammar.proofs.Joining.LineCuts.{kept_parts}
@@ -46,13 +46,6 @@ pub record IsRelexed (edited : Text) (ls : List (ℕ × Token × ℕ)) (cuts : L
   pub near : kept.fault_at ≤ at
   pub few : kept.lexemes ≤ length ls
 
-unmoved : {A : Type 0} (xs : List (Spanned A)) → map (moved 0) xs ≡ xs
-unmoved [] = refl
-unmoved (x ∷ xs) =
-    let begin : 0 + x.begin ≡ x.begin = omega arith in
-    let end : 0 + x.end ≡ x.end = omega arith in
-    rw (begin, end, unmoved xs) refl
-
 same_cuts : (cuts : List Cut) → map (later_cut 0 0) cuts ≡ cuts
 same_cuts [] = refl
 same_cuts (cut ∷ cuts) =
@@ -65,9 +58,9 @@ begin_at None = 0
 begin_at (Some fault) = fault.begin
 
 -- Lexed from the text's begin on
-pub relexed_start : (file : SourceFile) (old edited : Text) (ls : List (ℕ × Token × ℕ)) (cuts : List Cut) (part : PartView) (count : ℕ) → AreCuts old cuts → AllByRecursion (λ (cut : Cut). cut.at ≤ 0) (take count cuts) → IsReadPart file edited part
+pub relexed_start : (old edited : Text) (ls : List (ℕ × Token × ℕ)) (cuts : List Cut) (part : PartView) (count : ℕ) → AreCuts old cuts → AllByRecursion (λ (cut : Cut). cut.at ≤ 0) (take count cuts) → IsReadPart edited part
     → IsRelexed edited ls cuts 0 0 part (record { lexemes = 0; cuts = count; fault_at = 0; gives_more = true })
-relexed_start file old edited ls cuts part count are up_to is = record {
+relexed_start old edited ls cuts part count are up_to is = record {
   lexemes = viewed_later 0 part.lexemes ∙ unmoved (map lexeme_view part.lexemes) ∙ is.lexemes;
   fault = sym (unmoved_fault (outcome edited).fault);
   are_cuts = record {
@@ -80,8 +73,8 @@ relexed_start file old edited ls cuts part count are up_to is = record {
 }
 
 -- Lexed from a kept cut on
-module _ (file : SourceFile) (old edited : Text) (ls : List (ℕ × Token × ℕ)) (cuts : List Cut) (part : PartView) (at count : ℕ) (lexed : map lexeme_view ls ≡ map shown_lexeme (outcome old).lexemes) (are : AreCuts old cuts)
-    (is : IsCutOf old (record { at = at; lexemes = count })) (same : take at old ≡ take at edited) (inside : at ≤ length edited) (is_part : IsReadPart file (drop at edited) part) where
+module _ (old edited : Text) (ls : List (ℕ × Token × ℕ)) (cuts : List Cut) (part : PartView) (at count : ℕ) (lexed : map lexeme_view ls ≡ map shown_lexeme (outcome old).lexemes) (are : AreCuts old cuts)
+    (is : IsCutOf old (record { at = at; lexemes = count })) (same : take at old ≡ take at edited) (inside : at ≤ length edited) (is_part : IsReadPart (drop at edited) part) where
   front : Text
   front = take at edited
 
@@ -275,27 +268,27 @@ begin_few old ls cuts from begin lexed is = by is.stands
         omega (arith, cut.lexemes, ap length lexed, length-map ls lexeme_view, length-map (outcome old).lexemes shown_lexeme, ap length law.1, length-append (without_closing (outcome (take begin.at old)).lexemes) law.0)
 
 -- all cases together
-pub relexed : (file : SourceFile) (old edited : Text) (ls : List (ℕ × Token × ℕ)) (cuts : List Cut) (from : ℕ) (begin : Begin) (part : PartView) (kept : Kept) (has : Bool) → map lexeme_view ls ≡ map shown_lexeme (outcome old).lexemes → AreCuts old cuts → IsBegin old cuts from begin
-    → take from old ≡ take from edited → from ≤ length edited → IsReadPart file (drop begin.at edited) part → has ≡ (is_content (margin_of (drop begin.at edited)).remainder && has_tab (margin_of (drop begin.at edited)))
+pub relexed : (old edited : Text) (ls : List (ℕ × Token × ℕ)) (cuts : List Cut) (from : ℕ) (begin : Begin) (part : PartView) (kept : Kept) (has : Bool) → map lexeme_view ls ≡ map shown_lexeme (outcome old).lexemes → AreCuts old cuts → IsBegin old cuts from begin
+    → take from old ≡ take from edited → from ≤ length edited → IsReadPart (drop begin.at edited) part → has ≡ (is_content (margin_of (drop begin.at edited)).remainder && has_tab (margin_of (drop begin.at edited)))
     → (has ≡ false → kept ≡ record { lexemes = begin.lexemes; cuts = begin.cuts; fault_at = begin.at; gives_more = true })
     → (has ≡ true → last_newline_of (map lexeme_view (take begin.lexemes ls)) ≡ None → kept ≡ record { lexemes = begin.lexemes; cuts = 0; fault_at = 0; gives_more = true })
     → (has ≡ true → (last : ℕ) → last_newline_of (map lexeme_view (take begin.lexemes ls)) ≡ Some last → IsTakenBack ls cuts last kept)
     → IsRelexed edited ls cuts begin.at begin.lexemes part kept
-relexed file old edited ls cuts from begin part kept has lexed are is same inside is_part tab_is plain comments line = by is.stands
+relexed old edited ls cuts from begin part kept has lexed are is same inside is_part tab_is plain comments line = by is.stands
   where
     by_start : begin.at ≡ 0 → begin.lexemes ≡ 0 → (b : Bool) → has ≡ b → IsRelexed edited ls cuts begin.at begin.lexemes part kept
     by_start e f b h =
         subst (λ n. IsRelexed edited ls cuts n begin.lexemes part kept) (sym e) (subst (λ n. IsRelexed edited ls cuts 0 n part kept) (sym f) (go b h))
       where
-        part_is : IsReadPart file edited part
-        part_is = subst (λ n. IsReadPart file (drop n edited) part) e is_part
+        part_is : IsReadPart edited part
+        part_is = subst (λ n. IsReadPart (drop n edited) part) e is_part
 
         up : AllByRecursion (λ (cut : Cut). cut.at ≤ 0) (take begin.cuts cuts)
         up = subst (λ n. AllByRecursion (λ (cut : Cut). cut.at ≤ n) (take begin.cuts cuts)) e is.up_to
 
         go : (b : Bool) → has ≡ b → IsRelexed edited ls cuts 0 0 part kept
-        go false h = subst (IsRelexed edited ls cuts 0 0 part) (sym (plain h ∙ rw (e, f) refl)) (relexed_start file old edited ls cuts part begin.cuts are up part_is)
-        go true h = subst (IsRelexed edited ls cuts 0 0 part) (sym (comments h (rw f refl) ∙ rw f refl)) (relexed_start file old edited ls cuts part 0 are tt part_is)
+        go false h = subst (IsRelexed edited ls cuts 0 0 part) (sym (plain h ∙ rw (e, f) refl)) (relexed_start old edited ls cuts part begin.cuts are up part_is)
+        go true h = subst (IsRelexed edited ls cuts 0 0 part) (sym (comments h (rw f refl) ∙ rw f refl)) (relexed_start old edited ls cuts part 0 are tt part_is)
 
     by_cut : IsCutOf old (record { at = begin.at; lexemes = begin.lexemes }) → IsRelexed edited ls cuts begin.at begin.lexemes part kept
     by_cut cut = go has refl
@@ -314,11 +307,11 @@ relexed file old edited ls cuts from begin part kept has lexed are is same insid
         margin_of_it h (inr tabbed) = let both : true ≡ false = sym (tab_is ∙ rw (tabbed.content, tabbed.is) refl) ∙ h in cc
 
         by_newline : has ≡ true → (found : Option ℕ) → last_newline_of (map lexeme_view (take begin.lexemes ls)) ≡ found → IsRelexed edited ls cuts begin.at begin.lexemes part kept
-        by_newline h None e = subst (IsRelexed edited ls cuts begin.at begin.lexemes part) (sym (comments h e)) (relexed_comments file old edited ls cuts part begin.at begin.lexemes lexed are cut front within is_part (has_of h) e)
-        by_newline h (Some last) e = relexed_line file old edited ls cuts part begin.at begin.lexemes lexed are cut front within is_part (has_of h) last kept e (line h last e)
+        by_newline h None e = subst (IsRelexed edited ls cuts begin.at begin.lexemes part) (sym (comments h e)) (relexed_comments old edited ls cuts part begin.at begin.lexemes lexed are cut front within is_part (has_of h) e)
+        by_newline h (Some last) e = relexed_line old edited ls cuts part begin.at begin.lexemes lexed are cut front within is_part (has_of h) last kept e (line h last e)
 
         go : (b : Bool) → has ≡ b → IsRelexed edited ls cuts begin.at begin.lexemes part kept
-        go false h = subst (IsRelexed edited ls cuts begin.at begin.lexemes part) (sym (plain h)) (relexed_cut file old edited ls cuts part begin.at begin.lexemes lexed are cut front within is_part begin.cuts is.up_to (all_nearer from begin.at (drop begin.cuts cuts) is.before is.beyond) (margin_of_it h (first_margin_is (drop begin.at edited))))
+        go false h = subst (IsRelexed edited ls cuts begin.at begin.lexemes part) (sym (plain h)) (relexed_cut old edited ls cuts part begin.at begin.lexemes lexed are cut front within is_part begin.cuts is.up_to (all_nearer from begin.at (drop begin.cuts cuts) is.before is.beyond) (margin_of_it h (first_margin_is (drop begin.at edited))))
         go true h = by_newline h (last_newline_of (map lexeme_view (take begin.lexemes ls))) refl
 
     by : ((begin.at ≡ 0) × (begin.lexemes ≡ 0)) ⊎ IsCutOf old (record { at = begin.at; lexemes = begin.lexemes }) → IsRelexed edited ls cuts begin.at begin.lexemes part kept
@@ -326,14 +319,14 @@ relexed file old edited ls cuts from begin part kept has lexed are is same insid
     by (inr cut) = by_cut cut
 
 -- whether the end is a clean cut
-pub end_cut_is : (file : SourceFile) (edited : Text) (at : ℕ) (part : PartView) (found : Bool) → at ≤ length edited → ((at ≡ 0) ⊎ (is_clean_cut (take at edited) ≡ true)) → IsReadPart file (drop at edited) part → found ≡ (part.is_cut || (length (drop at edited) == 0 && nat_lt 0 at)) → found ≡ is_clean_cut edited
-end_cut_is file edited at part found inside (inl start) is by = by ∙ ap (λ b. part.is_cut || (length (drop at edited) == 0 && b)) (ap (nat_lt 0) start) ∙ no_more part.is_cut (length (drop at edited) == 0) ∙ is.is_cut ∙ ap (λ n. is_clean_cut (drop n edited)) start
+pub end_cut_is : (edited : Text) (at : ℕ) (part : PartView) (found : Bool) → at ≤ length edited → ((at ≡ 0) ⊎ (is_clean_cut (take at edited) ≡ true)) → IsReadPart (drop at edited) part → found ≡ (part.is_cut || (length (drop at edited) == 0 && nat_lt 0 at)) → found ≡ is_clean_cut edited
+end_cut_is edited at part found inside (inl start) is by = by ∙ ap (λ b. part.is_cut || (length (drop at edited) == 0 && b)) (ap (nat_lt 0) start) ∙ no_more part.is_cut (length (drop at edited) == 0) ∙ is.is_cut ∙ ap (λ n. is_clean_cut (drop n edited)) start
   where
     no_more : (a b : Bool) → (a || (b && false)) ≡ a
     no_more true b = refl
     no_more false true = refl
     no_more false false = refl
-end_cut_is file edited at part found inside (inr clean) is by =
+end_cut_is edited at part found inside (inr clean) is by =
     let some : 0 < at = omega (arith, some_cut (take at edited) clean, length-take at edited) in
     cut_joined (take at edited) (drop at edited) found clean (by ∙ ap (λ b. part.is_cut || (length (drop at edited) == 0 && b)) (lt-ltb 0 at some) ∙ ap (λ b. part.is_cut || b) (and_true (length (drop at edited) == 0)) ∙ ap (λ b. b || length (drop at edited) == 0) is.is_cut) ∙ ap is_clean_cut (take-append-drop at edited)
   where

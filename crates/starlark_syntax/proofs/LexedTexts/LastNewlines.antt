@@ -21,7 +21,7 @@ one_more_not (x ∷ xs) zero d inside is = rw is refl
 one_more_not (x ∷ xs) (suc at) d inside is = rw (one_more_not xs at d (omega (arith, inside)) is) refl
 
 -- the same token tells it
-same_newline : (node : grammar.Token) → is_newline_view (Whole (shown node)) ≡ is_newline node
+pub same_newline : (node : grammar.Token) → is_newline_view (Whole (shown node)) ≡ is_newline node
 same_newline (grammar.Comment text) = refl
 same_newline grammar.Indent = refl
 same_newline grammar.Dedent = refl

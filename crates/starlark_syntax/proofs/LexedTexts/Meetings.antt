@@ -6,7 +6,6 @@ use Rattle.std.proofs.Math.Seq.{drop-append_seam, take-append-add, take-append_s
 use Rattle.std.proofs.lemmas.Bool.{eqb-true, leb-false, leb-true}
 use Rattle.std.proofs.Common.{eq-eqb}
 use Rattle.std.proofs.lemmas.List.{length-drop, length-map, length-take-le, map-append, take-append-drop}
-use Rattle.starlark_base.specs.Sources.{SourceFile}
 use Rattle.starlark_grammar.specs.Words.{Text, language}
 use Rattle.starlark_grammar.specs.Tokens.{Lexeme, Outcome, Spanned, moved}
 use Rattle.starlark_grammar.specs.Reading.{outcome}
@@ -17,7 +16,7 @@ use Rattle.starlark_grammar.proofs.Joining.LineCuts.{kept_by, kept_parts}
 use Rattle.starlark_reader.specs.Inner.MarginCuts.{IsCutBefore, lexemes_before}
 use Rattle.starlark_reader.proofs.TakenPieces.Onward.{margin_first}
 use Rattle.starlark_reader.proofs.TakenPieces.Taken.{no_tab}
-use Rattle.starlark_syntax.specs.Exceptions.{IsFaultIn}
+use Rattle.starlark_syntax.specs.Inner.RawItems.{IsRawIn}
 use Rattle.starlark_syntax.specs.Inner.LexedTexts.{AreCuts, IsCutOf, IsMet, IsReadPart, IsReadPartTo, IsRising, PartView, cuts_at, holds_cut, met_part, moved_cut, moved_lexeme}
 use Rattle.starlark_syntax.specs.Inner.LexerStates.{left_in}
 use Rattle.starlark_syntax.specs.declared.cuts.Cut.{Cut}
@@ -196,17 +195,17 @@ module _ (one other rest : Text) (clean_one : is_clean_cut one ≡ true) (clean_
 
 -- A text that has a known text's bytes after a kept cut, where that has none of its faults: its lexemes and its cuts are
 -- those up to the cut, and then the known text's, moved.
-pub met_whole : (file : SourceFile) (text known : Text) (ls : List (ℕ × Token × ℕ)) (cuts : List Cut) (is_cut : Bool) (at index : ℕ) (cut : Cut) (part : PartView) → map lexeme_view ls ≡ map shown_lexeme (outcome known).lexemes → (outcome known).fault ≡ None
+pub met_whole : (text known : Text) (ls : List (ℕ × Token × ℕ)) (cuts : List Cut) (is_cut : Bool) (at index : ℕ) (cut : Cut) (part : PartView) → map lexeme_view ls ≡ map shown_lexeme (outcome known).lexemes → (outcome known).fault ≡ None
     → is_cut ≡ is_clean_cut known → AreCuts known cuts → slice_get cuts index ≡ Some cut → drop at text ≡ drop cut.at known → IsReadPartTo text at part
-    → IsReadPart file text (met_part cut (record { at = at; lexemes = length part.lexemes }) index ls cuts is_cut part)
-met_whole file text known ls cuts is_cut at index cut part lexed faultless is are found same to =
+    → IsReadPart text (met_part cut (record { at = at; lexemes = length part.lexemes }) index ls cuts is_cut part)
+met_whole text known ls cuts is_cut at index cut part lexed faultless is are found same to =
     record {
       lexemes = ap (λ n. map lexeme_view (part.lexemes ++ map (moved_lexeme n at) (drop cut.lexemes ls))) (sym one_len)
           ∙ ap (λ n. map lexeme_view (part.lexemes ++ map (moved_lexeme (length (take cut.at known)) n) (drop cut.lexemes ls))) (sym other_len)
           ∙ ap (λ n. map lexeme_view (part.lexemes ++ map (moved_lexeme (length (take cut.at known)) (length (take at text))) (drop n ls))) one_count
           ∙ after_other (take cut.at known) (take at text) (drop at text) clean_one clean_other none ls part.lexemes (lexed ∙ ap (λ (t : Text). map shown_lexeme (outcome t).lexemes) (sym before)) to.lexemes
           ∙ ap (λ (t : Text). map shown_lexeme (outcome t).lexemes) whole;
-      fault = subst (λ f. IsFaultIn file f None) (sym text_none) tt;
+      fault = subst (λ f. IsRawIn f None) (sym text_none) tt;
       cuts = record {
         each = all_both (IsCutOf text) part.cuts _ to.each (each_moved (drop (index + 1) cuts) (all_drop (IsCutOf known) (index + 1) cuts are.each) beyond);
         order = rising_both at part.cuts _ to.order (rising_moved cut there (drop (index + 1) cuts) beyond (rising_drop (index + 1) cuts are.order)) to.up_to (above_moved cut there (drop (index + 1) cuts) beyond);
@@ -292,9 +291,9 @@ met_whole file text known ls cuts is_cut at index cut part lexed faultless is ar
             held_right x part.cuts _ (ap (λ n. holds_cut n (map (moved_cut cut there) (drop (index + 1) cuts))) (sym place) ∙ held_moved cut there (x - at + cut.at) (drop (index + 1) cuts) held)
 
 -- What was collected up to a kept cut that was just reached.
-pub met_front : (text : Text) (file : SourceFile) (state : LexerState) (cuts : List Cut) (at : ℕ) (part : PartView) → IsCollected text file state part.lexemes → IsCutBefore text at (length (left_in state)) → AreCutsSoFar text (length part.lexemes) part.cuts
+pub met_front : (text : Text) (state : LexerState) (cuts : List Cut) (at : ℕ) (part : PartView) → IsCollected text state part.lexemes → IsCutBefore text at (length (left_in state)) → AreCutsSoFar text (length part.lexemes) part.cuts
     → part.cuts ≡ cuts ++ cuts_at (Some at) (length part.lexemes) → IsReadPartTo text at part
-met_front text file state cuts at part is before so last = record {
+met_front text state cuts at part is before so last = record {
   inside = before.inside;
   is_kept = before.is_kept;
   lexemes = same_front (map lexeme_view part.lexemes) (map shown_lexeme (without_closing (outcome (take at text)).lexemes)) (left_in state) (map shown_lexeme law.0)
@@ -310,7 +309,7 @@ met_front text file state cuts at part is before so last = record {
     law = kept_cuts_keep text at before.is_kept
 
     count : lexemes_before text at ≡ length part.lexemes
-    count = omega (arith, before.count, all_counted text file state part.lexemes is)
+    count = omega (arith, before.count, all_counted text state part.lexemes is)
 
 -- a text without cuts isn't met
 pub none_met : (text known : Text) (cuts : List Cut) (met : Option Meeting) (P : Meeting → Type 0) → cuts ≡ [] → IfSome met (λ meeting. IsMet text known cuts meeting × P meeting) → met ≡ None

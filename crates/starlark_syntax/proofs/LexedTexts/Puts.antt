@@ -6,7 +6,6 @@ use Rattle.std.proofs.lemmas.Bool.{eqb-true}
 use Rattle.std.specs.Prelude.{OnOk, Option, Result, ◌&&◌, ◌||◌, ◌==◌, nat_lt, slice_get}
 use Rattle.std.specs.List.{AllByRecursion}
 use Rattle.std.proofs.lemmas.List.{length-map, length-take-le, map-append, take-append-drop}
-use Rattle.starlark_base.specs.Sources.{SourceFile}
 use Rattle.starlark_grammar.specs.Words.{Text}
 use Rattle.starlark_grammar.specs.Tokens.{Spanned, moved}
 use Rattle.starlark_grammar.specs.Reading.{outcome}
@@ -84,8 +83,8 @@ module _ (known text : Text) (lexemes : List (ℕ × Token × ℕ)) (cuts : List
   there = record { at = meeting.at; lexemes = length part.lexemes }
 
   -- what the text comes to
-  pub whole_is : (file : SourceFile) (is : Bool) → is ≡ is_clean_cut known → IsReadPart file text (met_part meeting.cut (record { at = meeting.at; lexemes = length part.lexemes }) (begin.cuts + meeting.index) lexemes cuts is part)
-  whole_is file is same = met_whole file text known lexemes cuts is meeting.at (begin.cuts + meeting.index) meeting.cut part r.lexed r.faultless same r.are found r.met.same r.to
+  pub whole_is : (is : Bool) → is ≡ is_clean_cut known → IsReadPart text (met_part meeting.cut (record { at = meeting.at; lexemes = length part.lexemes }) (begin.cuts + meeting.index) lexemes cuts is part)
+  whole_is is same = met_whole text known lexemes cuts is meeting.at (begin.cuts + meeting.index) meeting.cut part r.lexed r.faultless same r.are found r.met.same r.to
 
   -- the meeting lies after the edit
   after_begin : r.from < meeting.cut.at
@@ -109,8 +108,8 @@ module _ (known text : Text) (lexemes : List (ℕ × Token × ℕ)) (cuts : List
   text_short : length text < 2 ^ 32
   text_short = omega (arith, r.short)
 
-  pub part_near : (file : SourceFile) → AllNear part.lexemes
-  part_near file = all_front (λ (x : ℕ × Token × ℕ). (x.0 < 2 ^ 32) × (x.2 < 2 ^ 32)) part.lexemes _ (lexemes_near text _ (whole_is file (is_clean_cut known) refl).lexemes text_short)
+  pub part_near : AllNear part.lexemes
+  part_near = all_front (λ (x : ℕ × Token × ℕ). (x.0 < 2 ^ 32) × (x.2 < 2 ^ 32)) part.lexemes _ (lexemes_near text _ (whole_is (is_clean_cut known) refl).lexemes text_short)
 
   pub rest_after : AllAfter meeting.cut.at (drop meeting.cut.lexemes lexemes)
   rest_after =
@@ -139,8 +138,8 @@ module _ (known text : Text) (lexemes : List (ℕ × Token × ℕ)) (cuts : List
       let few = count_near text text_short in
       (omega (arith, r.to.inside, text_short), omega (arith, count, few, ap length law.1, length-append (without_closing (outcome (take meeting.at text)).lexemes) law.0))
 
-  pub whole_near : (file : SourceFile) → AllNearCuts (part.cuts ++ map (moved_cut meeting.cut (record { at = meeting.at; lexemes = length part.lexemes })) (drop (begin.cuts + meeting.index + 1) cuts))
-  whole_near file = cuts_near text _ text_short (whole_is file (is_clean_cut known) refl).cuts.each
+  pub whole_near : AllNearCuts (part.cuts ++ map (moved_cut meeting.cut (record { at = meeting.at; lexemes = length part.lexemes })) (drop (begin.cuts + meeting.index + 1) cuts))
+  whole_near = cuts_near text _ text_short (whole_is (is_clean_cut known) refl).cuts.each
 
   pub begin_near : begin.lexemes < 2 ^ 34
   begin_near = omega (arith, begin_few known lexemes cuts r.from begin r.lexed r.begins, count_near known r.known_short, ap length r.lexed, length-map lexemes lexeme_view, length-map (outcome known).lexemes shown_lexeme)

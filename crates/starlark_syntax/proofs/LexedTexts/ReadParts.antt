@@ -1,42 +1,51 @@
 -- What was read of a text, as a lexed text.
-use Rattle.std.proofs.Common.{◌≡◌, Bool, true, false, ℕ, ◌+◌, ◌<◌, ◌≤◌, ◌^◌, List, [], map, length, refl, sym, subst, arith, Some, None}
-use Rattle.std.specs.Prelude.{Option, IfSome, IsSome, if◌then◌else◌, option_map}
-use Rattle.starlark_base.specs.Diagnostics.{Diagnosed}
+use Rattle.std.proofs.Common.{◌≡◌, Bool, true, false, ℕ, ◌+◌, ◌<◌, ◌≤◌, ◌^◌, ◌∙◌, List, [], ap, map, length, refl, subst, sym, arith, Some, None}
+use Rattle.std.specs.Prelude.{Option, IfSome, if◌then◌else◌, option_map}
+use Rattle.starlark_base.specs.Diagnostics.{Diagnosed, place_in, unplaced, with_span}
 use Rattle.starlark_base.specs.Sources.{SourceFile}
 use Rattle.starlark_syntax.specs.declared.error.kinds.ErrorKind.{ErrorKind}
+use Rattle.starlark_syntax.specs.declared.error.kinds.ErrorKind.TheVariants.{Parser}
+use Rattle.starlark_syntax.specs.declared.error.kinds.ParserMessage.TheVariants.{Lexeme}
 use Rattle.starlark_grammar.specs.Words.{Text}
 use Rattle.starlark_grammar.specs.Tokens.{Fault, Spanned, moved}
 use Rattle.starlark_grammar.specs.Reading.{outcome}
+use Rattle.starlark_reader.specs.Inner.Reader.{IsRaw}
 use Rattle.starlark_syntax.specs.LexedTexts.{IsLexed}
 use Rattle.starlark_syntax.specs.Exceptions.{IsException, IsFaultIn}
 use Rattle.starlark_token.specs.Lexemes.{lexeme_view}
+use Rattle.starlark_token.specs.declared.lexeme_error.LexemeError.{LexemeError}
 use Rattle.starlark_syntax.specs.Inner.LexedTexts.{AllNear, IsReadPart, part_view}
+use Rattle.starlark_syntax.specs.Inner.RawItems.{IsRawIn}
 use Rattle.starlark_syntax.specs.declared.read_parts.ReadPart.{ReadPart}
 use Rattle.starlark_syntax.proofs.LexedTexts.Within.{lexemes_near}
 use Rattle.starlark_grammar.proofs.Order.Inside.{fault_within}
 use Rattle.starlark_token.specs.declared.tokens.Token.{Token}
 
--- an exception has a span, which stays near where it is moved by `len` bytes
-abbrev pub IsNear : ℕ → Diagnosed ErrorKind → Type 0
-IsNear len exception = IsSome exception.span × IfSome exception.span (λ place. (place.span.begin ≤ place.span.end) × (len + place.span.end < 2 ^ 32))
-
--- the fault of a text lies in it, so that its exception is near
-pub fault_near : (file : SourceFile) (text : Text) (exception : Option (Diagnosed ErrorKind)) (len : ℕ) → IsFaultIn file (outcome text).fault exception → len + length text < 2 ^ 32 → IfSome exception (IsNear len)
-fault_near file text exception len is short = go (outcome text).fault refl exception is
+-- the fault of a text lies in it, so that it stays near where it is moved by `len` bytes
+pub fault_near : (text : Text) (found : Option (ℕ × LexemeError × ℕ)) (len : ℕ) → IsRawIn (outcome text).fault found → len + length text < 2 ^ 32 → IfSome found (λ (raw : ℕ × LexemeError × ℕ). (raw.0 ≤ raw.2) × (len + raw.2 < 2 ^ 32))
+fault_near text found len is short = go (outcome text).fault refl found is
   where
-    go : (found : Option (Spanned Fault)) → (outcome text).fault ≡ found → (exception : Option (Diagnosed ErrorKind)) → IsFaultIn file found exception → IfSome exception (IsNear len)
+    go : (fault : Option (Spanned Fault)) → (outcome text).fault ≡ fault → (found : Option (ℕ × LexemeError × ℕ)) → IsRawIn fault found → IfSome found (λ (raw : ℕ × LexemeError × ℕ). (raw.0 ≤ raw.2) × (len + raw.2 < 2 ^ 32))
     go None e None is = tt
-    go None e (Some exception) is = absurd is
+    go None e (Some raw) is = absurd is
     go (Some fault) e None is = absurd is
-    go (Some fault) e (Some exception) is =
+    go (Some fault) e (Some raw) is =
         let within = fault_within text fault e in
-        subst (IsNear len) (sym is.2) (refl, (within.0, omega (arith, within.1, short)))
+        (omega (arith, within.0, is.0, is.2), omega (arith, within.1, short, is.2))
 
--- the exception of a fault that a text may have, where that of each fault is moved
-pub moved_fault : (file other : SourceFile) (len : ℕ) (exception new : Diagnosed ErrorKind) → ((fault : Spanned Fault) → IsException file fault exception → IsException other (moved len fault) new)
-    → (found : Option (Spanned Fault)) → IsFaultIn file found (Some exception) → IsFaultIn other (option_map (moved len) found) (Some new)
-moved_fault file other len exception new each None is = absurd is
-moved_fault file other len exception new each (Some fault) is = each fault is
+-- the exception of a fault that is moved
+pub raw_thrown : (file : SourceFile) (len : ℕ) (fault : Spanned Fault) (found : ℕ × LexemeError × ℕ) (exception : Diagnosed ErrorKind) → IsRaw fault found
+    → exception ≡ with_span (unplaced (Parser (Lexeme found.1))) (place_in file (record { begin = len + found.0; end = len + found.2 })) → IsException file (moved len fault) exception
+raw_thrown file len fault found exception raw is = (
+  found.1,
+  raw.1,
+  is ∙ ap (λ (n : ℕ). with_span (unplaced (Parser (Lexeme found.1))) (place_in file (record { begin = len + n; end = len + found.2 }))) raw.0
+      ∙ ap (λ (n : ℕ). with_span (unplaced (Parser (Lexeme found.1))) (place_in file (record { begin = len + fault.begin; end = len + n }))) raw.2,
+)
+
+pub no_raw : (fault : Option (Spanned Fault)) → IsRawIn fault None → fault ≡ None
+no_raw None is = refl
+no_raw (Some fault) is = absurd is
 
 -- nothing is moved by no bytes
 pub unmoved_fault : (fault : Option (Spanned Fault)) → option_map (moved 0) fault ≡ fault
@@ -46,10 +55,11 @@ unmoved_fault (Some fault) =
     let end : 0 + fault.end ≡ fault.end = omega arith in
     rw (begin, end) refl
 
-pub lexed_part : (file : SourceFile) (text : Text) (part : ReadPart) (reads : ℕ) → IsReadPart file text (part_view part) → IsLexed file (record { text = text; lexemes = map lexeme_view part.lexemes.items; fault = part.fault; reads = reads })
-lexed_part file text part reads is = record { lexemes = is.lexemes; fault = is.fault }
+pub lexed_part : (file : SourceFile) (text : Text) (part : ReadPart) (exception : Option (Diagnosed ErrorKind)) (reads : ℕ) → IsReadPart text (part_view part) → ((fault : Option (Spanned Fault)) → IsRawIn fault part.fault → IsFaultIn file (option_map (moved 0) fault) exception)
+    → IsLexed file (record { text = text; lexemes = map lexeme_view part.lexemes.items; fault = exception; reads = reads })
+lexed_part file text part exception reads is thrown = record { lexemes = is.lexemes; fault = subst (λ (f : Option (Spanned Fault)). IsFaultIn file f exception) (unmoved_fault (outcome text).fault) (thrown (outcome text).fault is.fault) }
 
 -- the lexemes that are given lie near
-pub given_near : (file : SourceFile) (text : Text) (part : ReadPart) (gives : Bool) (given : List (ℕ × Token × ℕ)) → IsReadPart file text (part_view part) → length text < 2 ^ 32 → given ≡ (if gives then part.lexemes.items else []) → AllNear given
-given_near file text part true given is short same = subst AllNear (sym same) (lexemes_near text part.lexemes.items is.lexemes short)
-given_near file text part false given is short same = subst AllNear (sym same) tt
+pub given_near : (text : Text) (part : ReadPart) (gives : Bool) (given : List (ℕ × Token × ℕ)) → IsReadPart text (part_view part) → length text < 2 ^ 32 → given ≡ (if gives then part.lexemes.items else []) → AllNear given
+given_near text part true given is short same = subst AllNear (sym same) (lexemes_near text part.lexemes.items is.lexemes short)
+given_near text part false given is short same = subst AllNear (sym same) tt

@@ -12,7 +12,7 @@ use Rattle.starlark_grammar.specs.Reading.{outcome, pieces_len, read}
 use Rattle.starlark_grammar.specs.Cuts.{is_clean_cut, without_closing}
 use Rattle.starlark_grammar.specs.TextLaws.{HasFirstMargin}
 use Rattle.starlark_grammar.proofs.Joining.CleanCuts.{cut}
-use Rattle.starlark_grammar.proofs.Joining.Followed.{ends_line}
+use Rattle.starlark_grammar.proofs.Joining.Followed.{ends_line, ends_line_some}
 use Rattle.starlark_grammar.proofs.Joining.Laws.{cuts_of_joined}
 use Rattle.starlark_grammar.proofs.Joining.LineCuts.{kept_by, kept_parts}
 use Rattle.starlark_grammar.proofs.Indentation.LayoutTotals.{outcome_balances}
@@ -25,11 +25,7 @@ use Rattle.starlark_syntax.proofs.LexedTexts.KeptCuts.{clean_faultless, count_is
 
 -- a clean cut isn't empty
 pub some_cut : (text : Text) → is_clean_cut text ≡ true → 0 < length text
-some_cut text clean = go text (cut text clean).ends
-  where
-    go : (text : Text) → ends_line text ≡ true → 0 < length text
-    go [] h = cc
-    go (b ∷ bs) h = omega arith
+some_cut text clean = ends_line_some text (cut text clean).ends
 
 -- A kept cut of a text after a clean cut, as one of both.
 pub cut_later : (first second : Text) (cut : Cut) → is_clean_cut first ≡ true → HasFirstMargin language second → IsCutOf second cut → IsCutOf (first ++ second) (later_cut (length first) (length (without_closing (outcome first).lexemes)) cut)

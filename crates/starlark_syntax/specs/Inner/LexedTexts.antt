@@ -1,16 +1,14 @@
 -- The lexemes and cuts of a lexed text, as the code stores them.
 use Rattle.std.specs.Prelude.{◌≡◌, Bool, true, false, ℕ, suc, ◌+◌, ◌-◌, ◌<◌, ◌≤◌, ◌^◌, List, [], ◌∷◌, ◌++◌, map, length, drop, take, slice_get, ◌==◌, Option, Some, None, ⊤, ◌⊎◌}
 use Rattle.std.specs.List.{AllByRecursion, list_any}
-use Rattle.starlark_base.specs.Diagnostics.{Diagnosed}
-use Rattle.starlark_base.specs.Sources.{SourceFile}
-use Rattle.starlark_syntax.specs.declared.error.kinds.ErrorKind.{ErrorKind}
 use Rattle.starlark_grammar.specs.Words.{Text}
 use Rattle.starlark_grammar.specs.Tokens as grammar
 use Rattle.starlark_grammar.specs.Reading.{outcome}
 use Rattle.starlark_grammar.specs.Cuts.{is_clean_cut, is_kept_cut, without_closing}
 use Rattle.starlark_token.specs.TokenViews.{TokenView, Whole}
 use Rattle.starlark_token.specs.declared.tokens.Token.{Token}
-use Rattle.starlark_syntax.specs.Exceptions.{IsFaultIn}
+use Rattle.starlark_syntax.specs.Inner.RawItems.{IsRawIn}
+use Rattle.starlark_token.specs.declared.lexeme_error.LexemeError.{LexemeError}
 use Rattle.starlark_token.specs.Lexemes.{lexeme_view, shown_lexeme}
 use Rattle.starlark_reader.specs.Inner.MarginCuts.{lexemes_before}
 use Rattle.starlark_reader.specs.Inner.Reader.{begins_with_tab}
@@ -100,7 +98,7 @@ pub record IsTakenBack (lexemes : List (ℕ × Token × ℕ)) (cuts : List Cut) 
 -- a part as a proof sees it
 pub record PartView : Type 0 where
   pub lexemes : List (ℕ × Token × ℕ)
-  pub fault : Option (Diagnosed ErrorKind)
+  pub fault : Option (ℕ × LexemeError × ℕ)
   pub cuts : List Cut
   pub is_cut : Bool
   pub has_tab : Bool
@@ -108,10 +106,10 @@ pub record PartView : Type 0 where
 abbrev pub part_view : ReadPart → PartView
 part_view part = record { lexemes = part.lexemes.items; fault = part.fault; cuts = part.cuts.items; is_cut = part.is_cut; has_tab = part.has_tab }
 
--- the part has the lexemes, the fault and the cuts of the text; the fault is in a code map
-pub record IsReadPart (file : SourceFile) (text : Text) (part : PartView) : Type 0 where
+-- the part has the lexemes, the fault and the cuts of the text
+pub record IsReadPart (text : Text) (part : PartView) : Type 0 where
   pub lexemes : map lexeme_view part.lexemes ≡ map shown_lexeme (outcome text).lexemes
-  pub fault : IsFaultIn file (outcome text).fault part.fault
+  pub fault : IsRawIn (outcome text).fault part.fault
   pub cuts : AreCuts text part.cuts
   pub is_cut : part.is_cut ≡ is_clean_cut text
   pub tab : part.has_tab ≡ begins_with_tab text

@@ -1,5 +1,5 @@
 -- What is ahead of a text that is lexed so far, and what a call answers of it.
-use Rattle.std.specs.Prelude.{◌≡◌, ◌≤◌, ◌<◌, ◌^◌, ◌+◌, ◌-◌, ◌&&◌, not, Bool, ⊤, ℕ, true, false, List, [], drop, length, map, Option, None, Some, Result, Ok, Err, IfOk, OnErr}
+use Rattle.std.specs.Prelude.{◌≡◌, ◌≤◌, ◌<◌, ◌^◌, ◌+◌, ◌-◌, ◌&&◌, if◌then◌else◌, nat_lt, not, Bool, ⊤, ℕ, true, false, List, [], drop, length, map, Option, None, Some, Result, Ok, Err, IfOk, OnErr}
 use Rattle.starlark_base.specs.Diagnostics.{Diagnosed}
 use Rattle.starlark_base.specs.Sources.{SourceFile}
 use Rattle.starlark_words.specs.Inner.Reads.{more_reads}
@@ -9,8 +9,13 @@ use Rattle.starlark_grammar.specs.Tokens.{Fault, Spanned}
 use Rattle.starlark_grammar.specs.Words.{Text}
 use Rattle.starlark_grammar.specs.declared.class.Class.{Class}
 use Rattle.starlark_words.specs.declared.scanner.word.Word.{Word}
-use Rattle.starlark_reader.specs.Inner.Reader.{IsAhead, IsAheadAfter, IsAheadPast, IsSomething, IsStateAfter, IsTokenOf, IsWordHere, begins_with_tab, has_read_none, history_of}
+use Rattle.starlark_reader.specs.Inner.Reader.{IsAhead, IsAheadAfter, IsAheadPast, IsAtEnd, IsRaw, IsSomething, IsStateAfter, IsTokenOf, IsWordHere, begins_with_tab, has_read_none, history_of, is_fault}
 use Rattle.starlark_reader.specs.Inner.ReadBounds.{HasRead}
+use Rattle.starlark_reader.specs.declared.reader.Before.{Before}
+use Rattle.starlark_reader.specs.declared.reader.Before.TheVariants as before
+use Rattle.starlark_reader.specs.declared.reader.Reader.{Reader}
+use Rattle.starlark_reader.specs.declared.reader.Stage.{Stage}
+use Rattle.starlark_reader.specs.declared.reader.Stage.TheVariants as stages
 use Rattle.starlark_syntax.specs.Exceptions.{IsException}
 use Rattle.starlark_syntax.specs.Inner.Looked.{GoesOn, HasReadWord, IsInReach, IsLooked, is_text_opener}
 use Rattle.starlark_syntax.specs.Lexer.{HasReadToFault, LexerView, is_ended_by, most_reads, yielded_by}
@@ -29,15 +34,32 @@ use Rattle.starlark_syntax.specs.declared.plain_lexeme.PlainKind.TheVariants as 
 use Rattle.starlark_syntax.specs.declared.plain_lexeme.PlainLexeme.{PlainLexeme}
 use Rattle.starlark_token.specs.Lexemes.{lexeme_view, shown_lexeme}
 use Rattle.starlark_token.specs.TokenViews.{TokenView, Whole, token_view}
+use Rattle.starlark_token.specs.declared.lexeme_error.LexemeError.{LexemeError}
 use Rattle.starlark_token.specs.declared.tokens.Token.{Token}
 
 -- the lexemes of the text that weren't yielded yet
 abbrev pub left_in : LexerState → List (Spanned TokenView)
 left_in state = drop state.yielded_count (map shown_lexeme (outcome state.text.now).lexemes)
 
--- the state as users of a lexer see it
-abbrev pub view_of : LexerState → LexerView
-view_of state = record { text = state.text.now; code_map = state.code_map; yielded_count = state.yielded_count; has_ended = state.has_ended; reads = state.reader.reads }
+-- the state as users of a lexer see it, without its cut
+pub record StateView : Type 0 where
+  pub text : Text
+  pub yielded_count : ℕ
+  pub has_ended : Bool
+  pub reads : ℕ
+
+abbrev pub view_of : LexerState → StateView
+view_of state = record { text = state.text.now; yielded_count = state.yielded_count; has_ended = state.has_ended; reads = state.reader.reads }
+
+-- the offset that a reader has reached in a flat margin, if that is before the text's end
+abbrev pub reached_cut : Text → Reader → Stage → Before → Option ℕ
+reached_cut text reader stages.Onward before.Layout =
+    if reader.pending.is_flat && nat_lt 0 reader.pending.from && nat_lt reader.pending.from (length text) then Some reader.pending.from else None
+reached_cut text reader stage before = None
+
+-- where the text may be cut, if the reader knows after a lexeme
+unfoldable pub known_cut : LexerState → Option ℕ
+known_cut state = if not state.has_ended && nat_lt 0 state.yielded_count then reached_cut state.text.now state.reader state.reader.stage state.reader.before else None
 
 -- What the reader has ahead are the lexemes that weren't yielded yet, and the fault after them; and what was read is paid
 -- for. After an error nothing of this is known.
@@ -51,24 +73,53 @@ IsLexing state =
     × IsInReach state.text.now state.looked_to
 
 -- Lexing a text has begun, and nothing was looked at yet: the reader has all of any text ahead.
-pub record IsBegun (text : Text) (file : SourceFile) (state : LexerState) : Type 0 where
-  pub view : view_of state ≡ record { text = text; code_map = file; yielded_count = 0; has_ended = false; reads = 0 }
+pub record IsBegun (text : Text) (state : LexerState) : Type 0 where
+  pub view : view_of state ≡ record { text = text; yielded_count = 0; has_ended = false; reads = 0 }
   pub ahead : (any : Text) → IsAhead any state.reader state.reader.stage (map shown_lexeme (outcome any).lexemes) (outcome any).fault
   pub reads : (any : Text) → HasRead any 0 state.reader
   pub lookahead : state.lookahead ≡ lookahead.All
   pub place : state.looked_to ≡ 0
 
--- What a call answers: the first lexeme that is left, or the exception of the fault where none is, or nothing where there is
--- neither; or out of memory in the place of a lexeme or the fault.
+-- What a call answers: the first lexeme that is left, or nothing where none is; or out of memory in the place of a lexeme or
+-- the fault.
 abbrev pub HasAnswered : LexerState → Option (Result (ℕ × Token × ℕ) (OrMemory (Diagnosed ErrorKind))) → LexerState → Type 0
 HasAnswered old (Some (Ok lexeme)) new = IsAheadAfter old.text.now (Some lexeme) new.reader (left_in old) (outcome old.text.now).fault
-HasAnswered old (Some (Err (Error exception))) new =
-    (left_in old ≡ []) × ((fault : Spanned Fault) × ((outcome old.text.now).fault ≡ Some fault) × IsException old.code_map fault exception)
-    × (has_read_none new.reader ≡ begins_with_tab old.text.now) × (new.reader.reads ≤ most_reads old.text.now) × HasReadToFault old.text.now new.reader.reads
+HasAnswered old (Some (Err (Error exception))) new = ⊥
 HasAnswered old (Some (Err Memory)) new = IsSomething (left_in old) (outcome old.text.now).fault
-HasAnswered old None new =
+HasAnswered old None new = IsAtEnd old.text.now new.reader
+
+-- whether a fault was reached, and isn't taken yet
+abbrev pub has_fault : LexerState → Bool
+has_fault state = not state.has_ended && is_fault state.reader.stage
+
+-- What was read up to the fault of a text, which is all that is left of it.
+pub record HasReachedFault (old : LexerState) (fault : Spanned Fault) (new : LexerState) : Type 0 where
+  pub none : left_in old ≡ []
+  pub has : (outcome old.text.now).fault ≡ Some fault
+  pub tab : has_read_none new.reader ≡ begins_with_tab old.text.now
+  pub most : new.reader.reads ≤ most_reads old.text.now
+  pub reads : HasReadToFault old.text.now new.reader.reads
+
+-- What is taken after the last lexeme: the fault, between two offsets, or nothing where the text has none.
+abbrev pub HasTakenLast : LexerState → Option (ℕ × LexemeError × ℕ) → LexerState → Type 0
+HasTakenLast old (Some found) new = (fault : Spanned Fault) × HasReachedFault old fault new × IsRaw fault found
+HasTakenLast old None new =
     (left_in old ≡ []) × ((outcome old.text.now).fault ≡ None) × IsStateAfter old.text.now (history_of old.text.now) new.reader
     × (more_reads 0 (length old.text.now) ≤ new.reader.reads) × (new.reader.reads < most_reads old.text.now)
+
+-- The exception of the fault after the last lexeme, or out of memory in its place.
+abbrev pub HasThrown : SourceFile → LexerState → OrMemory (Diagnosed ErrorKind) → LexerState → Type 0
+HasThrown file old (Error exception) new = (fault : Spanned Fault) × HasReachedFault old fault new × IsException file fault exception
+HasThrown file old Memory new = IsSomething (left_in old) (outcome old.text.now).fault
+
+-- how many items it is
+abbrev pub thrown_count : OrMemory (Diagnosed ErrorKind) → ℕ
+thrown_count (Error exception) = 1
+thrown_count Memory = 0
+
+abbrev pub taken_count : Option (ℕ × LexemeError × ℕ) → ℕ
+taken_count (Some found) = 1
+taken_count None = 0
 
 -- A call gave the next item, where no error had ended the lexer.
 pub record HasGivenNext (old : LexerState) (item : Option (Result (ℕ × Token × ℕ) (OrMemory (Diagnosed ErrorKind)))) (new : LexerState) : Type 0 where
@@ -174,5 +225,5 @@ pub record HasRunOut (state : LexerState) : Type 0 where
   pub left : IsSomething (left_in state) (outcome state.text.now).fault
 
 -- the lexer as its users see it, which hasn't ended until it has said so
-abbrev pub lexer_view : LexerState → (has_run_out : Bool) → LexerView
-lexer_view state has_run_out = record (view_of state) { has_ended = state.has_ended && not has_run_out }
+abbrev pub lexer_view : LexerState → SourceFile → (has_run_out : Bool) → LexerView
+lexer_view state file has_run_out = record { text = state.text.now; code_map = file; yielded_count = state.yielded_count; has_ended = state.has_ended && not has_run_out; reads = state.reader.reads; cut = known_cut state }

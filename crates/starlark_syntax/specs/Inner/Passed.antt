@@ -8,22 +8,19 @@ use Rattle.starlark_syntax.specs.Lexer.{search_reads}
 use Rattle.starlark_syntax.specs.Recovery.{restart}
 use Rattle.starlark_syntax.specs.declared.passed_faults.Passed.{Passed}
 use Rattle.starlark_syntax.specs.Exceptions.{IsException}
-use Rattle.starlark_syntax.specs.declared.error.kinds.ErrorKind.{ErrorKind}
-use Rattle.starlark_syntax.specs.declared.error.kinds.ErrorKind.TheVariants.{Parser}
-use Rattle.starlark_syntax.specs.declared.error.kinds.ParserMessage.TheVariants.{Lexeme}
 use Rattle.starlark_words.specs.Inner.Reads.{AreReads}
+use Rattle.starlark_token.specs.declared.lexeme_error.LexemeError.{LexemeError}
 use Rattle.starlark_token.specs.declared.lexeme_error.LexemeError.TheVariants.{InvalidTab}
 
 -- the error is that of a tab
-abbrev pub is_tab_kind : ErrorKind → Bool
-is_tab_kind (Parser (Lexeme InvalidTab)) = true
-is_tab_kind kind = false
+abbrev pub is_tab_error : LexemeError → Bool
+is_tab_error InvalidTab = true
+is_tab_error error = false
 
--- a fault of a text's part from byte `begin` on was passed: its exception is moved, and the lexer goes on after its line,
--- which was searched for
+-- a fault of a text's part from byte `begin` on was passed: its exception is moved, and lexing goes on after its line, which
+-- was searched for
 pub record HasPassed (file : SourceFile) (text : Text) (begin : ℕ) (fault : Spanned Fault) (passed : Passed) : Type 0 where
   pub exception : IsException file (moved begin fault) passed.fault
   pub from : passed.begin ≡ begin + restart (drop begin text) fault
   pub boundary : IsCharBoundary text passed.begin
   pub reads : AreReads 1 (search_reads (drop begin text) fault) 0 passed.reads
-  pub rest : passed.rest ≡ record { text = drop passed.begin text; code_map = file; yielded_count = 0; has_ended = false; reads = 0 }

@@ -14,40 +14,40 @@ rest_is c =
     ap (λ k. take k (drop n c.deref.result.now)) (sym (length-drop n c.deref.result.now)) ∙ take-length (drop n c.deref.result.now) ∙ ap (drop n) c.deref.ensures.value
 
 pub push_moved_cuts-requires-clause-near : goal.push_moved_cuts-requires-clause-near
-push_moved_cuts-requires-clause-near c = subst AllNearCuts (sym (rest_is (goal.at.push_moved_cuts-requires-clause-near c).After-deref)) (known_near _ _ _ _ _ _ _ c.requires.3)
+push_moved_cuts-requires-clause-near c = subst AllNearCuts (sym (rest_is (goal.at.push_moved_cuts-requires-clause-near c).After-deref)) (known_near _ _ _ _ _ _ _ c.requires.2)
 
 pub push_moved_cuts-requires-clause-after : goal.push_moved_cuts-requires-clause-after
-push_moved_cuts-requires-clause-after c = subst (AllByRecursion (λ (cut : Cut). (c.args.meeting.cut.at ≤ cut.at) × (c.args.meeting.cut.lexemes ≤ cut.lexemes))) (sym (rest_is (goal.at.push_moved_cuts-requires-clause-after c).After-deref)) (cuts_after _ _ _ _ _ _ _ c.requires.3)
+push_moved_cuts-requires-clause-after c = subst (AllByRecursion (λ (cut : Cut). (c.args.meeting.cut.at ≤ cut.at) × (c.args.meeting.cut.lexemes ≤ cut.lexemes))) (sym (rest_is (goal.at.push_moved_cuts-requires-clause-after c).After-deref)) (cuts_after _ _ _ _ _ _ _ c.requires.2)
 
 pub push_moved_cuts-requires-clause-fits : goal.push_moved_cuts-requires-clause-fits
 push_moved_cuts-requires-clause-fits c =
-    let fits = to_fits _ _ _ _ _ _ _ c.requires.3 in
+    let fits = to_fits _ _ _ _ _ _ _ c.requires.2 in
     (fits.0, omega (arith, fits.1, c.len.ensures, c.args.part.lexemes.ok))
 
 pub replace_lexemes-requires-clause-order : goal.replace_lexemes-requires-clause-order
-replace_lexemes-requires-clause-order c = order _ _ _ _ _ _ _ c.requires.3
+replace_lexemes-requires-clause-order c = order _ _ _ _ _ _ _ c.requires.2
 
 pub replace_lexemes-requires-clause-inside : goal.replace_lexemes-requires-clause-inside
-replace_lexemes-requires-clause-inside c = inside _ _ _ _ _ _ _ c.requires.3
+replace_lexemes-requires-clause-inside c = inside _ _ _ _ _ _ _ c.requires.2
 
 pub replace_lexemes-requires-clause-near : goal.replace_lexemes-requires-clause-near
-replace_lexemes-requires-clause-near c = rest_near _ _ _ _ _ _ _ c.requires.3
+replace_lexemes-requires-clause-near c = rest_near _ _ _ _ _ _ _ c.requires.2
 
 pub replace_lexemes-requires-clause-more_near : goal.replace_lexemes-requires-clause-more_near
-replace_lexemes-requires-clause-more_near c = part_near _ _ _ _ _ _ _ c.requires.3 c.requires.0
+replace_lexemes-requires-clause-more_near c = part_near _ _ _ _ _ _ _ c.requires.2
 
 pub replace_lexemes-requires-clause-after : goal.replace_lexemes-requires-clause-after
-replace_lexemes-requires-clause-after c = rest_after _ _ _ _ _ _ _ c.requires.3
+replace_lexemes-requires-clause-after c = rest_after _ _ _ _ _ _ _ c.requires.2
 
 pub append_cuts-requires-clause-near : goal.append_cuts-requires-clause-near
 append_cuts-requires-clause-near c =
     let count : c.len.result ≡ length c.args.part.lexemes.items = omega (arith, c.len.ensures, c.args.part.lexemes.ok) in
     let list = c.in_ok-push_moved_cuts.ensures ∙ ap (λ xs. c.args.part.cuts.items ++ map (moved_cut c.args.meeting.cut (record { at = c.args.meeting.at; lexemes = c.len.result })) xs) (rest_is (goal.at.append_cuts-requires-clause-near c).After-deref)
     ∙ ap (λ n. c.args.part.cuts.items ++ map (moved_cut c.args.meeting.cut (record { at = c.args.meeting.at; lexemes = n })) (drop (c.args.begin.cuts + c.args.meeting.index + 1) c.args.cuts.now.items)) count in
-    subst AllNearCuts (sym list) (whole_near _ _ _ _ _ _ _ c.requires.3 c.requires.0)
+    subst AllNearCuts (sym list) (whole_near _ _ _ _ _ _ _ c.requires.2)
 
 pub append_cuts-requires-clause-count : goal.append_cuts-requires-clause-count
-append_cuts-requires-clause-count c = begin_near _ _ _ _ _ _ _ c.requires.3
+append_cuts-requires-clause-count c = begin_near _ _ _ _ _ _ _ c.requires.2
 
 pub returns-clause-lexemes : goal.returns-clause-lexemes
 returns-clause-lexemes c = c.in_ok-replace_lexemes.ensures.made ∙ ap (λ xs. take c.args.begin.lexemes c.args.lexemes.now.items ++ xs) (both_moved c.args.meeting.cut.at c.args.meeting.at c.args.begin.at c.args.part.lexemes.items (drop c.args.meeting.cut.lexemes c.args.lexemes.now.items))

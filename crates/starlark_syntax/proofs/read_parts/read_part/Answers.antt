@@ -1,19 +1,16 @@
-use Rattle.std.proofs.Common.{◌≡◌, ◌<◌, ◌≤◌, ◌+◌, ◌++◌, ◌∷◌, [], Err, IfSome, List, None, Ok, Some, arith, ap, false, length, length-append, refl, subst, sym, ℕ, ◌∙◌}
+use Rattle.std.proofs.Common.{◌≡◌, ◌<◌, ◌+◌, ◌++◌, ◌∷◌, [], IfSome, List, Ok, Some, arith, ap, false, length, length-append, refl, subst, sym, ℕ, ◌∙◌}
 use Rattle.std.specs.List.{ends_with}
+use Rattle.std.specs.Option.{is_some}
 use Rattle.std.specs.Prelude.{◌&&◌, Option, codes, nat_eq}
-use Rattle.starlark_words.specs.Inner.Reads.{more_reads}
 use Rattle.starlark_grammar.specs.Cuts.{is_clean_cut, is_settled}
 use Rattle.starlark_grammar.specs.Reading.{outcome}
 use Rattle.starlark_grammar.specs.Words.{Text}
 use Rattle.starlark_reader.specs.Inner.MarginCuts.{IsCutBefore}
 use Rattle.starlark_reader.specs.Inner.Reader.{IsStateAfter}
-use Rattle.starlark_syntax.specs.Lexer.{LexerView}
 use Rattle.starlark_syntax.specs.Inner.LexedTexts.{IsMet, cuts_at, end_cuts}
-use Rattle.starlark_syntax.specs.Inner.LexerStates.{HasAnswered, left_in, view_of}
-use Rattle.starlark_syntax.specs.Lexer.{most_reads}
-use Rattle.starlark_text.specs.declared.or_memory.OrMemory.TheVariants.{Error}
+use Rattle.starlark_syntax.specs.Inner.LexerStates.{HasAnswered, StateView, left_in, view_of}
 use Rattle.starlark_token.specs.declared.tokens.Token.{Token}
-use Rattle.starlark_syntax.proofs.LexedTexts.Collected.{AreCutsSoFar, IsCollected, all_counted, all_given, collected_none, cuts_more, fault_given, goes_on, less_left, no_cuts_yet, one_more, same_collected, settled_is, some_given, text_is}
+use Rattle.starlark_syntax.proofs.LexedTexts.Collected.{AreCutsSoFar, IsCollected, all_counted, all_given, collected_none, cuts_more, fault_given, goes_on, less_left, no_cuts_yet, none_collected, one_more, same_collected, settled_is, some_given, text_is}
 use Rattle.starlark_syntax.proofs.LexedTexts.HeldCuts.{kept_some}
 use Rattle.starlark_syntax.proofs.LexedTexts.Meetings.{met_front}
 use Rattle.starlark_syntax.proofs.read_parts.read_part.Goals as goal
@@ -28,105 +25,76 @@ pub loop-item-preserved : goal.loop-item-preserved
 loop-item-preserved c =
     let text = c.args.state.now.text.now in
     let is = c.loop-item.invariant.collected in
-    let going : c.loop-item.state.has_ended ≡ false = goes_on _ _ c.loop-item.state c.loop-item.lexemes.items is in
+    let going : c.loop-item.state.has_ended ≡ false = goes_on _ c.loop-item.state c.loop-item.lexemes.items is in
     let answer : HasAnswered c.loop-item.state (Some (Ok c.in-Ok.lexeme)) c.next.new.self = rw c.in-Ok.is at (c.in-Some.ensures.answer going) in
     let after : view_of c.next.new.self ≡ record (view_of c.loop-item.state) { yielded_count = c.loop-item.state.yielded_count + 1; has_ended = false; reads = c.next.new.self.reader.reads } = rw (c.in-Ok.is, going) at c.in-Some.ensures.after in
-    let more = one_more text c.args.state.now.code_map c.loop-item.state c.next.new.self c.loop-item.lexemes.items c.in-Ok.lexeme is answer c.in-Some.ensures.lexing after in
-    let collected : IsCollected text c.args.state.now.code_map c.next.new.self c.push.new.self.items = subst (IsCollected text c.args.state.now.code_map c.next.new.self) (sym c.in_ok-push-in-Ok.ensures.items) more.0 in
-    let one : length c.push.new.self.items ≡ length c.loop-item.lexemes.items + 1 = ap length c.in_ok-push-in-Ok.ensures.items ∙ length-append c.loop-item.lexemes.items (c.in-Ok.lexeme ∷ []) in
-    let same = text_is text c.args.state.now.code_map c.next.new.self c.push.new.self.items collected in
-    let cuts = cuts_more text (length c.loop-item.lexemes.items) (left_in c.next.new.self) c.loop-item.cuts.items c.cut-place.result c.loop-item.invariant.cuts (omega (arith, one, all_counted text c.args.state.now.code_map c.next.new.self c.push.new.self.items collected))
+    let more = one_more text c.loop-item.state c.next.new.self c.loop-item.lexemes.items c.in-Ok.lexeme is answer c.in-Some.ensures.lexing after in
+    let collected : IsCollected text c.next.new.self c.push.new.self.items = subst (IsCollected text c.next.new.self) (sym c.in_ok-push.ensures.items) more.0 in
+    let one : length c.push.new.self.items ≡ length c.loop-item.lexemes.items + 1 = ap length c.in_ok-push.ensures.items ∙ length-append c.loop-item.lexemes.items (c.in-Ok.lexeme ∷ []) in
+    let same = text_is text c.next.new.self c.push.new.self.items collected in
+    let cuts = cuts_more text (length c.loop-item.lexemes.items) (left_in c.next.new.self) c.loop-item.cuts.items c.cut-place.result c.loop-item.invariant.cuts (omega (arith, one, all_counted text c.next.new.self c.push.new.self.items collected))
     (subst (λ (t : Text). IfSome c.cut-place.result (λ at. IsCutBefore t at (length (left_in c.next.new.self)))) same c.cut-place.ensures.kept)
     (λ at cut. c.cut-place.ensures.reached at (more.2 at cut) (kept_some text at cut.is_kept) (subst (λ (t : Text). at < length t) (sym same) cut.inside)) in
     let counted : c.len.result ≡ length c.loop-item.lexemes.items + 1 = omega (arith, c.len.ensures, c.push.new.self.ok, one) in
     record {
-      collected = same_collected text c.args.state.now.code_map c.next.new.self c.meeting_at.new.state c.push.new.self.items collected c.meeting_at.ensures.lexing c.meeting_at.ensures.after;
-      cuts = subst (λ n. AreCutsSoFar text n c.push_cut.new.cuts.items) (sym one) (subst (AreCutsSoFar text (length c.loop-item.lexemes.items + 1)) (sym (c.in_ok-push_cut-in-Ok.ensures ∙ ap (λ n. c.loop-item.cuts.items ++ cuts_at c.cut-place.result n) counted)) cuts);
+      collected = same_collected text c.next.new.self c.meeting_at.new.state c.push.new.self.items collected c.meeting_at.ensures.lexing c.meeting_at.ensures.after;
+      cuts = subst (λ n. AreCutsSoFar text n c.push_cut.new.cuts.items) (sym one) (subst (AreCutsSoFar text (length c.loop-item.lexemes.items + 1)) (sym (c.in_ok-push_cut.ensures ∙ ap (λ n. c.loop-item.cuts.items ++ cuts_at c.cut-place.result n) counted)) cuts);
     }
 
 pub returns-in-Some-meeting_at-clause-met : goal.returns-in-Some-meeting_at-clause-met
 returns-in-Some-meeting_at-clause-met c =
     let text = c.args.state.now.text.now in
     let is = c.loop-item.invariant.collected in
-    let going : c.loop-item.state.has_ended ≡ false = goes_on _ _ c.loop-item.state c.loop-item.lexemes.items is in
+    let going : c.loop-item.state.has_ended ≡ false = goes_on _ c.loop-item.state c.loop-item.lexemes.items is in
     let answer : HasAnswered c.loop-item.state (Some (Ok c.in-Ok.lexeme)) c.next.new.self = rw c.in-Ok.is at (c.in-Some.ensures.answer going) in
     let after : view_of c.next.new.self ≡ record (view_of c.loop-item.state) { yielded_count = c.loop-item.state.yielded_count + 1; has_ended = false; reads = c.next.new.self.reader.reads } = rw (c.in-Ok.is, going) at c.in-Some.ensures.after in
-    let more = one_more text c.args.state.now.code_map c.loop-item.state c.next.new.self c.loop-item.lexemes.items c.in-Ok.lexeme is answer c.in-Some.ensures.lexing after in
-    let collected : IsCollected text c.args.state.now.code_map c.next.new.self c.push.new.self.items = subst (IsCollected text c.args.state.now.code_map c.next.new.self) (sym c.in_ok-push-in-Ok.ensures.items) more.0 in
-    let one : length c.push.new.self.items ≡ length c.loop-item.lexemes.items + 1 = ap length c.in_ok-push-in-Ok.ensures.items ∙ length-append c.loop-item.lexemes.items (c.in-Ok.lexeme ∷ []) in
-    let same = text_is text c.args.state.now.code_map c.next.new.self c.push.new.self.items collected in
-    let cuts = cuts_more text (length c.loop-item.lexemes.items) (left_in c.next.new.self) c.loop-item.cuts.items c.cut-place.result c.loop-item.invariant.cuts (omega (arith, one, all_counted text c.args.state.now.code_map c.next.new.self c.push.new.self.items collected))
+    let more = one_more text c.loop-item.state c.next.new.self c.loop-item.lexemes.items c.in-Ok.lexeme is answer c.in-Some.ensures.lexing after in
+    let collected : IsCollected text c.next.new.self c.push.new.self.items = subst (IsCollected text c.next.new.self) (sym c.in_ok-push.ensures.items) more.0 in
+    let one : length c.push.new.self.items ≡ length c.loop-item.lexemes.items + 1 = ap length c.in_ok-push.ensures.items ∙ length-append c.loop-item.lexemes.items (c.in-Ok.lexeme ∷ []) in
+    let same = text_is text c.next.new.self c.push.new.self.items collected in
+    let cuts = cuts_more text (length c.loop-item.lexemes.items) (left_in c.next.new.self) c.loop-item.cuts.items c.cut-place.result c.loop-item.invariant.cuts (omega (arith, one, all_counted text c.next.new.self c.push.new.self.items collected))
     (subst (λ (t : Text). IfSome c.cut-place.result (λ at. IsCutBefore t at (length (left_in c.next.new.self)))) same c.cut-place.ensures.kept)
     (λ at cut. c.cut-place.ensures.reached at (more.2 at cut) (kept_some text at cut.is_kept) (subst (λ (t : Text). at < length t) (sym same) cut.inside)) in
     let counted : c.len.result ≡ length c.loop-item.lexemes.items + 1 = omega (arith, c.len.ensures, c.push.new.self.ok, one) in
-    let so : AreCutsSoFar text (length c.push.new.self.items) c.push_cut.new.cuts.items = subst (λ n. AreCutsSoFar text n c.push_cut.new.cuts.items) (sym one) (subst (AreCutsSoFar text (length c.loop-item.lexemes.items + 1)) (sym (c.in_ok-push_cut-in-Ok.ensures ∙ ap (λ n. c.loop-item.cuts.items ++ cuts_at c.cut-place.result n) counted)) cuts) in
+    let so : AreCutsSoFar text (length c.push.new.self.items) c.push_cut.new.cuts.items = subst (λ n. AreCutsSoFar text n c.push_cut.new.cuts.items) (sym one) (subst (AreCutsSoFar text (length c.loop-item.lexemes.items + 1)) (sym (c.in_ok-push_cut.ensures ∙ ap (λ n. c.loop-item.cuts.items ++ cuts_at c.cut-place.result n) counted)) cuts) in
     let reached : c.cut-place.result ≡ Some c.in-Some-meeting_at.meeting.at = c.in-Some-meeting_at.ensures.place in
     let before : IsCutBefore text c.in-Some-meeting_at.meeting.at (length (left_in c.next.new.self)) = subst (λ (t : Text). IsCutBefore t c.in-Some-meeting_at.meeting.at (length (left_in c.next.new.self))) same (subst (λ (found : Option ℕ). IfSome found (λ at. IsCutBefore c.next.new.self.text.now at (length (left_in c.next.new.self)))) reached c.cut-place.ensures.kept) in
-    let last : c.push_cut.new.cuts.items ≡ c.loop-item.cuts.items ++ cuts_at (Some c.in-Some-meeting_at.meeting.at) (length c.push.new.self.items) = c.in_ok-push_cut-in-Ok.ensures ∙ ap (λ n. c.loop-item.cuts.items ++ cuts_at c.cut-place.result n) (counted ∙ sym one) ∙ ap (λ (found : Option ℕ). c.loop-item.cuts.items ++ cuts_at found (length c.push.new.self.items)) reached in (
+    let last : c.push_cut.new.cuts.items ≡ c.loop-item.cuts.items ++ cuts_at (Some c.in-Some-meeting_at.meeting.at) (length c.push.new.self.items) = c.in_ok-push_cut.ensures ∙ ap (λ n. c.loop-item.cuts.items ++ cuts_at c.cut-place.result n) (counted ∙ sym one) ∙ ap (λ (found : Option ℕ). c.loop-item.cuts.items ++ cuts_at found (length c.push.new.self.items)) reached in (
       subst (λ (t : Text). IsMet t c.args.known.text.now c.args.known.cuts.now c.in-Some-meeting_at.meeting) same c.in-Some-meeting_at.ensures.met,
-      met_front text c.args.state.now.code_map c.next.new.self c.loop-item.cuts.items c.in-Some-meeting_at.meeting.at _ collected before so last,
+      met_front text c.next.new.self c.loop-item.cuts.items c.in-Some-meeting_at.meeting.at _ collected before so last,
     )
-
-pub returns-in-Err-Error-clause-part : goal.returns-in-Err-Error-clause-part
-returns-in-Err-Error-clause-part c = λ none.
-    let is = c.loop-item.invariant.collected in
-    let going : c.loop-item.state.has_ended ≡ false = goes_on _ _ c.loop-item.state c.loop-item.lexemes.items is in
-    let answer : HasAnswered c.loop-item.state (Some (Err (Error c.in-Err-Error.exception))) c.next.new.self = rw c.in-Err-Error.field-0-is at (rw c.in-Err-Error.is at (c.in-Some.ensures.answer going)) in
-    fault_given _ _ c.loop-item.state c.next.new.self _ c.in-Err-Error.exception is answer c.loop-item.invariant.cuts (ap Some c.in-Err-Error.exception-is) refl c.has_read_none.ensures
-
-pub with_end_cut-requires : goal.with_end_cut-requires
-with_end_cut-requires c =
-    let is = c.loop-item.invariant.collected in
-    let going : c.loop-item.state.has_ended ≡ false = goes_on _ _ c.loop-item.state c.loop-item.lexemes.items is in
-    let answer : HasAnswered c.loop-item.state None c.next.new.self = rw c.in_default.is at (c.next.ensures.answer going) in
-    rw c.deref.ensures.value (some_given _ _ c.loop-item.state c.next.new.self c.loop-item.lexemes.items is answer)
-
-pub returns-clause-part : goal.returns-clause-part
-returns-clause-part c = λ none.
-    let text = c.args.state.now.text.now in
-    let file = c.args.state.now.code_map in
-    let is = c.loop-item.invariant.collected in
-    let going : c.loop-item.state.has_ended ≡ false = goes_on _ _ c.loop-item.state c.loop-item.lexemes.items is in
-    let answer : HasAnswered c.loop-item.state None c.next.new.self = rw c.in_default.is at (c.next.ensures.answer going) in
-    let same : c.next.new.self.text.now ≡ text = ap (λ (v : LexerView). v.text) c.next.ensures.after ∙ text_is text file c.loop-item.state c.loop-item.lexemes.items is in
-    let is_cut : c.is_clean_cut-is_cut.result ≡ is_clean_cut text =
-    settled_is text file c.loop-item.state c.next.new.self c.loop-item.lexemes.items c.is_clean_cut-is_cut.result is answer
-    (λ history after. c.is_clean_cut-is_cut.ensures.value history (subst (λ (t : Text). IsStateAfter t history c.next.new.self.reader) (sym same) after) ∙ ap (λ (t : Text). is_settled history && ends_with nat_eq t (codes "\n")) same) in
-    let cuts : c.in_ok-cuts.cuts.items ≡ c.loop-item.cuts.items ++ end_cuts text (length c.loop-item.lexemes.items) c.is_clean_cut-is_cut.result =
-    c.in_ok-cuts.ensures ∙ ap (λ (t : Text). c.loop-item.cuts.items ++ end_cuts t (length c.deref.result.now) c.is_clean_cut-is_cut.result) c.text-text.ensures
-    ∙ ap (λ (xs : List (ℕ × Token × ℕ)). c.loop-item.cuts.items ++ end_cuts text (length xs) c.is_clean_cut-is_cut.result) c.deref.ensures.value in
-    all_given text file c.loop-item.state c.next.new.self _ c.loop-item.cuts.items is answer refl c.loop-item.invariant.cuts cuts is_cut refl
 
 pub loop-item-smaller : goal.loop-item-smaller
 loop-item-smaller c =
     let is = c.loop-item.invariant.collected in
-    let going : c.loop-item.state.has_ended ≡ false = goes_on _ _ c.loop-item.state c.loop-item.lexemes.items is in
+    let going : c.loop-item.state.has_ended ≡ false = goes_on _ c.loop-item.state c.loop-item.lexemes.items is in
     let answer : HasAnswered c.loop-item.state (Some (Ok c.in-Ok.lexeme)) c.next.new.self = rw c.in-Ok.is at (c.in-Some.ensures.answer going) in
     let after : view_of c.next.new.self ≡ record (view_of c.loop-item.state) { yielded_count = c.loop-item.state.yielded_count + 1; has_ended = false; reads = c.next.new.self.reader.reads } = rw (c.in-Ok.is, going) at c.in-Some.ensures.after in
-    let more = one_more c.args.state.now.text.now c.args.state.now.code_map c.loop-item.state c.next.new.self c.loop-item.lexemes.items c.in-Ok.lexeme is answer c.in-Some.ensures.lexing after in
-    less_left (length (outcome c.args.state.now.text.now).lexemes) c.loop-item.lexemes.items c.push.new.self.items c.in-Ok.lexeme c.in_ok-push-in-Ok.ensures.items more.1
+    let more = one_more c.args.state.now.text.now c.loop-item.state c.next.new.self c.loop-item.lexemes.items c.in-Ok.lexeme is answer c.in-Some.ensures.lexing after in
+    less_left (length (outcome c.args.state.now.text.now).lexemes) c.loop-item.lexemes.items c.push.new.self.items c.in-Ok.lexeme c.in_ok-push.ensures.items more.1
 
-pub returns-in-Err-Error-clause-most : goal.returns-in-Err-Error-clause-most
-returns-in-Err-Error-clause-most c =
-    let is = c.loop-item.invariant.collected in
-    let going : c.loop-item.state.has_ended ≡ false = goes_on _ _ c.loop-item.state c.loop-item.lexemes.items is in
-    let answer : HasAnswered c.loop-item.state (Some (Err (Error c.in-Err-Error.exception))) c.next.new.self = rw c.in-Err-Error.field-0-is at (rw c.in-Err-Error.is at (c.in-Some.ensures.answer going)) in
-    rw c.reads-in-Err-Error.ensures (subst (λ (t : Text). c.next.new.self.reader.reads ≤ most_reads t) (text_is _ _ c.loop-item.state c.loop-item.lexemes.items is) answer.3)
+pub returns-in-Some-take_fault-clause-part : goal.returns-in-Some-take_fault-clause-part
+returns-in-Some-take_fault-clause-part c = λ none.
+    let mid = none_collected _ c.loop-item.state c.next.new.self c.next.result c.loop-item.lexemes.items (ap is_some c.in_default.is) c.loop-item.invariant.collected c.next.ensures.lexing c.next.ensures.after in
+    let last = c.in-Some-take_fault.ensures.last (goes_on _ c.next.new.self c.loop-item.lexemes.items mid) in
+    fault_given _ c.next.new.self c.take_fault.new.self _ c.in-Some-take_fault.fault mid last c.loop-item.invariant.cuts refl refl c.has_read_none.ensures
 
-pub returns-clause-most : goal.returns-clause-most
-returns-clause-most c =
-    let is = c.loop-item.invariant.collected in
-    let going : c.loop-item.state.has_ended ≡ false = goes_on _ _ c.loop-item.state c.loop-item.lexemes.items is in
-    let answer : HasAnswered c.loop-item.state None c.next.new.self = rw c.in_default.is at (c.next.ensures.answer going) in
-    let few : c.next.new.self.reader.reads < most_reads c.args.state.now.text.now = subst (λ (t : Text). c.next.new.self.reader.reads < most_reads t) (text_is _ _ c.loop-item.state c.loop-item.lexemes.items is) answer.4 in
-    omega (arith, few, c.is_clean_cut-is_cut.ensures.most, c.reads-reads.ensures)
+pub with_end_cut-requires : goal.with_end_cut-requires
+with_end_cut-requires c =
+    let mid = none_collected _ c.loop-item.state c.next.new.self c.next.result c.loop-item.lexemes.items (ap is_some c.in_default.is) c.loop-item.invariant.collected c.next.ensures.lexing c.next.ensures.after in
+    let last = c.in_default-take_fault.ensures.last (goes_on _ c.next.new.self c.loop-item.lexemes.items mid) in
+    rw c.deref.ensures.value (some_given _ c.next.new.self c.take_fault.new.self c.loop-item.lexemes.items mid last)
 
-pub returns-clause-least : goal.returns-clause-least
-returns-clause-least c = λ none.
-    let is = c.loop-item.invariant.collected in
-    let going : c.loop-item.state.has_ended ≡ false = goes_on _ _ c.loop-item.state c.loop-item.lexemes.items is in
-    let answer : HasAnswered c.loop-item.state None c.next.new.self = rw c.in_default.is at (c.next.ensures.answer going) in
-    let same = text_is _ _ c.loop-item.state c.loop-item.lexemes.items is in
-    let few : c.next.new.self.reader.reads < most_reads c.args.state.now.text.now = subst (λ (t : Text). c.next.new.self.reader.reads < most_reads t) same answer.4 in
-    let all : more_reads 0 (length c.args.state.now.text.now) ≤ c.next.new.self.reader.reads = subst (λ (t : Text). more_reads 0 (length t) ≤ c.next.new.self.reader.reads) same answer.3 in
-    omega (arith, all, c.is_clean_cut-is_cut.ensures.least (omega (arith, few, c.requires.lexing.0)), c.reads-reads.ensures)
+pub returns-clause-part : goal.returns-clause-part
+returns-clause-part c = λ none.
+    let text = c.args.state.now.text.now in
+    let mid = none_collected text c.loop-item.state c.next.new.self c.next.result c.loop-item.lexemes.items (ap is_some c.in_default.is) c.loop-item.invariant.collected c.next.ensures.lexing c.next.ensures.after in
+    let last = c.in_default-take_fault.ensures.last (goes_on text c.next.new.self c.loop-item.lexemes.items mid) in
+    let same : c.take_fault.new.self.text.now ≡ text = ap (λ (v : StateView). v.text) c.take_fault.ensures.after ∙ text_is text c.next.new.self c.loop-item.lexemes.items mid in
+    let is_cut : c.is_clean_cut-is_cut.result ≡ is_clean_cut text =
+    settled_is text c.next.new.self c.take_fault.new.self c.loop-item.lexemes.items c.is_clean_cut-is_cut.result mid last
+    (λ history after. c.is_clean_cut-is_cut.ensures.value history (subst (λ (t : Text). IsStateAfter t history c.take_fault.new.self.reader) (sym same) after) ∙ ap (λ (t : Text). is_settled history && ends_with nat_eq t (codes "\n")) same) in
+    let cuts : c.in_ok-cuts.cuts.items ≡ c.loop-item.cuts.items ++ end_cuts text (length c.loop-item.lexemes.items) c.is_clean_cut-is_cut.result =
+    c.in_ok-cuts.ensures ∙ ap (λ (t : Text). c.loop-item.cuts.items ++ end_cuts t (length c.deref.result.now) c.is_clean_cut-is_cut.result) c.text-text.ensures
+    ∙ ap (λ (xs : List (ℕ × Token × ℕ)). c.loop-item.cuts.items ++ end_cuts text (length xs) c.is_clean_cut-is_cut.result) c.deref.ensures.value in
+    all_given text c.next.new.self c.take_fault.new.self _ c.loop-item.cuts.items mid last refl c.loop-item.invariant.cuts cuts is_cut refl

@@ -1,20 +1,19 @@
 use Rattle.std.proofs.Common.{rules, true, false, None, ◌≡◌, refl, ℕ, ◌+◌, ◌-◌, ◌<◌, ◌≤◌, ◌^◌, ◌++◌, List, [], map, take, drop, length, ap, arith, subst, sym, ◌∙◌}
 use Rattle.std.specs.Prelude.{IfSome, Option, option_map, ◌&&◌, ◌||◌, ◌==◌, if◌then◌else◌, nat_lt}
 use Rattle.std.proofs.lemmas.List.{length-drop, length-map}
-use Rattle.starlark_base.specs.Sources.{SourceFile}
 use Rattle.starlark_grammar.specs.Tokens.{moved}
 use Rattle.starlark_grammar.specs.Words.{Text}
+use Rattle.starlark_syntax.specs.Inner.LexerStates.{StateView}
 use Rattle.starlark_syntax.specs.declared.meetings.Meeting.{Meeting}
 use Rattle.starlark_grammar.specs.Reading.{outcome}
 use Rattle.starlark_syntax.specs.LexedTexts.{IsReadFrom, LexedView}
 use Rattle.starlark_syntax.specs.Exceptions.{IsFaultIn}
-use Rattle.starlark_syntax.specs.Lexer.{LexerView}
 use Rattle.starlark_token.specs.Lexemes.{lexeme_view, shown_lexeme}
 use Rattle.starlark_syntax.specs.Inner.LexedTexts.{AreCuts, IsBegin, IsReadPart, IsTakenBack, last_newline_of, later, later_cut, part_view}
 use Rattle.starlark_syntax.specs.declared.cuts.Cut.{Cut}
 use Rattle.starlark_token.specs.declared.tokens.Token.{Token}
 use Rattle.starlark_syntax.proofs.LexedTexts.EditedOutcomes.{begin_boundary, begin_clean, begin_few, end_cut_is, read_from, relexed}
-use Rattle.starlark_syntax.proofs.LexedTexts.ReadParts.{fault_near, given_near}
+use Rattle.starlark_syntax.proofs.LexedTexts.ReadParts.{fault_near, given_near, no_raw}
 use Rattle.starlark_syntax.proofs.LexedTexts.RelexedOutcomes.{count_near, cuts_near}
 use Rattle.starlark_syntax.proofs.LexedTexts.Puts.{cut_stays_so, known_inside, met_known, not_some, succeeded, whole_is}
 use Rattle.starlark_syntax.proofs.LexedTexts.JoinedLists.{no_fault}
@@ -38,22 +37,22 @@ pub exception_of-requires : goal.exception_of-requires
 exception_of-requires c =
     let begin : IsBegin c.old.inside.text.now c.old.inside.cuts.items c.args.from c.begin_of-begin.result = subst (λ (xs : List Cut). IsBegin c.old.inside.text.now xs c.args.from c.begin_of-begin.result) c.deref.ensures.value (c.begin_of-begin.ensures c.old.inside.text.now (subst (AreCuts c.old.inside.text.now) (sym c.deref.ensures.value) c.old.invariant.2)) in
     let same : take c.args.from c.old.inside.text.now ≡ take c.args.from c.args.edited.now = ap (λ (v : LexedView). take c.args.from v.text) c.old.view_is ∙ c.requires.same in
-    let part : IsReadPart c.set_text.new.self.code_map (drop c.begin_of-begin.result.at c.args.edited.now) (part_view c.in-Ok.part) = subst (λ (t : Text). IsReadPart c.set_text.new.self.code_map t (part_view c.in-Ok.part)) (ap (λ (v : LexerView). v.text) c.set_text.ensures.begun.view ∙ c.range_from-rest.ensures.value) (c.in-Ok.ensures.part c.in_default-met.is) in
+    let part : IsReadPart (drop c.begin_of-begin.result.at c.args.edited.now) (part_view c.in-Ok.part) = subst (λ (t : Text). IsReadPart t (part_view c.in-Ok.part)) (ap (λ (v : StateView). v.text) c.set_text.ensures.begun.view ∙ c.range_from-rest.ensures.value) (c.in-Ok.ensures.part c.in_default-met.is) in
     let short : c.begin_of-begin.result.at + length (drop c.begin_of-begin.result.at c.args.edited.now) < 2 ^ 32 = omega (arith, length-drop c.begin_of-begin.result.at c.args.edited.now, begin.before, c.requires.new.0, c.requires.fits) in
-    let made = relexed c.set_text.new.self.code_map c.old.inside.text.now c.args.edited.now c.old.inside.lexemes.items c.old.inside.cuts.items c.args.from c.begin_of-begin.result (part_view c.in-Ok.part) c.kept_of-kept.result c.in-Ok.part.has_tab c.old.invariant.3.1.lexemes c.old.invariant.2 begin same c.requires.new.0 part part.tab
+    let made = relexed c.old.inside.text.now c.args.edited.now c.old.inside.lexemes.items c.old.inside.cuts.items c.args.from c.begin_of-begin.result (part_view c.in-Ok.part) c.kept_of-kept.result c.in-Ok.part.has_tab c.old.invariant.3.1.lexemes c.old.invariant.2 begin same c.requires.new.0 part part.tab
     c.kept_of-kept.ensures.plain
     (λ h e. c.kept_of-kept.ensures.comments h (ap (λ (xs : List (ℕ × Token × ℕ)). last_newline_of (map lexeme_view (take c.begin_of-begin.result.lexemes xs))) c.deref-3.ensures.value ∙ e))
     (λ h last e. subst (λ (xs : List (ℕ × Token × ℕ)). IsTakenBack xs c.old.inside.cuts.items last c.kept_of-kept.result) c.deref-3.ensures.value
     (subst (λ (xs : List Cut). IsTakenBack c.deref-3.result.now xs last c.kept_of-kept.result) c.deref-4.ensures.value
     (c.kept_of-kept.ensures.line h last (ap (λ (xs : List (ℕ × Token × ℕ)). last_newline_of (map lexeme_view (take c.begin_of-begin.result.lexemes xs))) c.deref-3.ensures.value ∙ e)))) in
-    record { near = fault_near c.set_text.new.self.code_map (drop c.begin_of-begin.result.at c.args.edited.now) c.in-Ok.part.fault c.kept_of-kept.result.fault_at part.fault (omega (arith, made.near, short)) }
+    record { near = fault_near (drop c.begin_of-begin.result.at c.args.edited.now) c.in-Ok.part.fault c.kept_of-kept.result.fault_at part.fault (omega (arith, made.near, short)) }
 
 pub make_room-requires : goal.make_room-requires
 make_room-requires c =
     let begin : IsBegin c.old.inside.text.now c.old.inside.cuts.items c.args.from c.begin_of-begin.result = subst (λ (xs : List Cut). IsBegin c.old.inside.text.now xs c.args.from c.begin_of-begin.result) c.deref.ensures.value (c.begin_of-begin.ensures c.old.inside.text.now (subst (AreCuts c.old.inside.text.now) (sym c.deref.ensures.value) c.old.invariant.2)) in
     let same : take c.args.from c.old.inside.text.now ≡ take c.args.from c.args.edited.now = ap (λ (v : LexedView). take c.args.from v.text) c.old.view_is ∙ c.requires.same in
-    let part : IsReadPart c.set_text.new.self.code_map (drop c.begin_of-begin.result.at c.args.edited.now) (part_view c.in-Ok.part) = subst (λ (t : Text). IsReadPart c.set_text.new.self.code_map t (part_view c.in-Ok.part)) (ap (λ (v : LexerView). v.text) c.set_text.ensures.begun.view ∙ c.range_from-rest.ensures.value) (c.in-Ok.ensures.part c.in_default-met.is) in
-    let made = relexed c.set_text.new.self.code_map c.old.inside.text.now c.args.edited.now c.old.inside.lexemes.items c.old.inside.cuts.items c.args.from c.begin_of-begin.result (part_view c.in-Ok.part) c.kept_of-kept.result c.in-Ok.part.has_tab c.old.invariant.3.1.lexemes c.old.invariant.2 begin same c.requires.new.0 part part.tab
+    let part : IsReadPart (drop c.begin_of-begin.result.at c.args.edited.now) (part_view c.in-Ok.part) = subst (λ (t : Text). IsReadPart t (part_view c.in-Ok.part)) (ap (λ (v : StateView). v.text) c.set_text.ensures.begun.view ∙ c.range_from-rest.ensures.value) (c.in-Ok.ensures.part c.in_default-met.is) in
+    let made = relexed c.old.inside.text.now c.args.edited.now c.old.inside.lexemes.items c.old.inside.cuts.items c.args.from c.begin_of-begin.result (part_view c.in-Ok.part) c.kept_of-kept.result c.in-Ok.part.has_tab c.old.invariant.3.1.lexemes c.old.invariant.2 begin same c.requires.new.0 part part.tab
     c.kept_of-kept.ensures.plain
     (λ h e. c.kept_of-kept.ensures.comments h (ap (λ (xs : List (ℕ × Token × ℕ)). last_newline_of (map lexeme_view (take c.begin_of-begin.result.lexemes xs))) c.deref-3.ensures.value ∙ e))
     (λ h last e. subst (λ (xs : List (ℕ × Token × ℕ)). IsTakenBack xs c.old.inside.cuts.items last c.kept_of-kept.result) c.deref-3.ensures.value
@@ -72,14 +71,14 @@ make_room-requires-else-is_err-2 c =
 pub append_later-requires-clause-near : goal.append_later-requires-clause-near
 append_later-requires-clause-near c =
     let begin : IsBegin c.old.inside.text.now c.old.inside.cuts.items c.args.from c.begin_of-begin.result = subst (λ (xs : List Cut). IsBegin c.old.inside.text.now xs c.args.from c.begin_of-begin.result) c.deref.ensures.value (c.begin_of-begin.ensures c.old.inside.text.now (subst (AreCuts c.old.inside.text.now) (sym c.deref.ensures.value) c.old.invariant.2)) in
-    let part : IsReadPart c.set_text.new.self.code_map (drop c.begin_of-begin.result.at c.args.edited.now) (part_view c.in-Ok.part) = subst (λ (t : Text). IsReadPart c.set_text.new.self.code_map t (part_view c.in-Ok.part)) (ap (λ (v : LexerView). v.text) c.set_text.ensures.begun.view ∙ c.range_from-rest.ensures.value) (c.in-Ok.ensures.part c.in_default-met.is) in
+    let part : IsReadPart (drop c.begin_of-begin.result.at c.args.edited.now) (part_view c.in-Ok.part) = subst (λ (t : Text). IsReadPart t (part_view c.in-Ok.part)) (ap (λ (v : StateView). v.text) c.set_text.ensures.begun.view ∙ c.range_from-rest.ensures.value) (c.in-Ok.ensures.part c.in_default-met.is) in
     let short : c.begin_of-begin.result.at + length (drop c.begin_of-begin.result.at c.args.edited.now) < 2 ^ 32 = omega (arith, length-drop c.begin_of-begin.result.at c.args.edited.now, begin.before, c.requires.new.0, c.requires.fits) in
-    given_near c.set_text.new.self.code_map (drop c.begin_of-begin.result.at c.args.edited.now) c.in-Ok.part c.kept_of-kept.result.gives_more c.given_after-more.result.items part (omega (arith, short)) c.given_after-more.ensures
+    given_near (drop c.begin_of-begin.result.at c.args.edited.now) c.in-Ok.part c.kept_of-kept.result.gives_more c.given_after-more.result.items part (omega (arith, short)) c.given_after-more.ensures
 
 pub append_cuts-requires-clause-near : goal.append_cuts-requires-clause-near
 append_cuts-requires-clause-near c =
     let begin : IsBegin c.old.inside.text.now c.old.inside.cuts.items c.args.from c.begin_of-begin.result = subst (λ (xs : List Cut). IsBegin c.old.inside.text.now xs c.args.from c.begin_of-begin.result) c.deref.ensures.value (c.begin_of-begin.ensures c.old.inside.text.now (subst (AreCuts c.old.inside.text.now) (sym c.deref.ensures.value) c.old.invariant.2)) in
-    let part : IsReadPart c.set_text.new.self.code_map (drop c.begin_of-begin.result.at c.args.edited.now) (part_view c.in-Ok.part) = subst (λ (t : Text). IsReadPart c.set_text.new.self.code_map t (part_view c.in-Ok.part)) (ap (λ (v : LexerView). v.text) c.set_text.ensures.begun.view ∙ c.range_from-rest.ensures.value) (c.in-Ok.ensures.part c.in_default-met.is) in
+    let part : IsReadPart (drop c.begin_of-begin.result.at c.args.edited.now) (part_view c.in-Ok.part) = subst (λ (t : Text). IsReadPart t (part_view c.in-Ok.part)) (ap (λ (v : StateView). v.text) c.set_text.ensures.begun.view ∙ c.range_from-rest.ensures.value) (c.in-Ok.ensures.part c.in_default-met.is) in
     let short : c.begin_of-begin.result.at + length (drop c.begin_of-begin.result.at c.args.edited.now) < 2 ^ 32 = omega (arith, length-drop c.begin_of-begin.result.at c.args.edited.now, begin.before, c.requires.new.0, c.requires.fits) in
     cuts_near (drop c.begin_of-begin.result.at c.args.edited.now) c.in-Ok.part.cuts.items (omega (arith, short)) part.cuts.each
 
@@ -93,8 +92,8 @@ pub invariant_of-result-2 : goal.invariant_of-result-2
 invariant_of-result-2 c =
     let begin : IsBegin c.old.inside.text.now c.old.inside.cuts.items c.args.from c.begin_of-begin.result = subst (λ (xs : List Cut). IsBegin c.old.inside.text.now xs c.args.from c.begin_of-begin.result) c.deref.ensures.value (c.begin_of-begin.ensures c.old.inside.text.now (subst (AreCuts c.old.inside.text.now) (sym c.deref.ensures.value) c.old.invariant.2)) in
     let same : take c.args.from c.old.inside.text.now ≡ take c.args.from c.args.edited.now = ap (λ (v : LexedView). take c.args.from v.text) c.old.view_is ∙ c.requires.same in
-    let part : IsReadPart c.set_text.new.self.code_map (drop c.begin_of-begin.result.at c.args.edited.now) (part_view c.in-Ok.part) = subst (λ (t : Text). IsReadPart c.set_text.new.self.code_map t (part_view c.in-Ok.part)) (ap (λ (v : LexerView). v.text) c.set_text.ensures.begun.view ∙ c.range_from-rest.ensures.value) (c.in-Ok.ensures.part c.in_default-met.is) in
-    let made = relexed c.set_text.new.self.code_map c.old.inside.text.now c.args.edited.now c.old.inside.lexemes.items c.old.inside.cuts.items c.args.from c.begin_of-begin.result (part_view c.in-Ok.part) c.kept_of-kept.result c.in-Ok.part.has_tab c.old.invariant.3.1.lexemes c.old.invariant.2 begin same c.requires.new.0 part part.tab
+    let part : IsReadPart (drop c.begin_of-begin.result.at c.args.edited.now) (part_view c.in-Ok.part) = subst (λ (t : Text). IsReadPart t (part_view c.in-Ok.part)) (ap (λ (v : StateView). v.text) c.set_text.ensures.begun.view ∙ c.range_from-rest.ensures.value) (c.in-Ok.ensures.part c.in_default-met.is) in
+    let made = relexed c.old.inside.text.now c.args.edited.now c.old.inside.lexemes.items c.old.inside.cuts.items c.args.from c.begin_of-begin.result (part_view c.in-Ok.part) c.kept_of-kept.result c.in-Ok.part.has_tab c.old.invariant.3.1.lexemes c.old.invariant.2 begin same c.requires.new.0 part part.tab
     c.kept_of-kept.ensures.plain
     (λ h e. c.kept_of-kept.ensures.comments h (ap (λ (xs : List (ℕ × Token × ℕ)). last_newline_of (map lexeme_view (take c.begin_of-begin.result.lexemes xs))) c.deref-3.ensures.value ∙ e))
     (λ h last e. subst (λ (xs : List (ℕ × Token × ℕ)). IsTakenBack xs c.old.inside.cuts.items last c.kept_of-kept.result) c.deref-3.ensures.value
@@ -106,18 +105,18 @@ invariant_of-result-2 c =
     let cuts : c.append_cuts.new.cuts.items ≡ take c.kept_of-kept.result.cuts c.old.inside.cuts.items ++ map (later_cut c.begin_of-begin.result.at c.begin_of-begin.result.lexemes) c.in-Ok.part.cuts.items =
     c.append_cuts.ensures ∙ ap (λ xs. take c.kept_of-kept.result.cuts xs ++ map (later_cut c.begin_of-begin.result.at c.begin_of-begin.result.lexemes) c.in-Ok.part.cuts.items) c.make_room-else-is_err-2.ensures.same in (
       c.requires.fits,
-      end_cut_is c.set_text.new.self.code_map c.args.edited.now c.begin_of-begin.result.at (part_view c.in-Ok.part) c.is_cut_after-is_cut.result (omega (arith, begin.before, c.requires.new.0)) (begin_clean c.old.inside.text.now c.args.edited.now c.old.inside.cuts.items c.args.from c.begin_of-begin.result begin same) part
+      end_cut_is c.args.edited.now c.begin_of-begin.result.at (part_view c.in-Ok.part) c.is_cut_after-is_cut.result (omega (arith, begin.before, c.requires.new.0)) (begin_clean c.old.inside.text.now c.args.edited.now c.old.inside.cuts.items c.args.from c.begin_of-begin.result begin same) part
           (c.is_cut_after-is_cut.ensures ∙ ap (λ (t : Text). c.in-Ok.part.is_cut || (length t == 0 && nat_lt 0 c.begin_of-begin.result.at)) c.range_from-rest.ensures.value),
       subst (AreCuts c.args.edited.now) (sym cuts) made.are_cuts,
-      (c.args.code_map.now, record { lexemes = ap (map lexeme_view) lexemes ∙ made.lexemes; fault = subst (λ f. IsFaultIn c.args.code_map.now f c.in-Ok-exception_of.fault) (sym made.fault) (c.in-Ok-exception_of.ensures.exception c.set_text.new.self.code_map (outcome (drop c.begin_of-begin.result.at c.args.edited.now)).fault part.fault) }),
+      (c.args.code_map.now, record { lexemes = ap (map lexeme_view) lexemes ∙ made.lexemes; fault = subst (λ f. IsFaultIn c.args.code_map.now f c.in-Ok-exception_of.fault) (sym made.fault) (c.in-Ok-exception_of.ensures.exception (outcome (drop c.begin_of-begin.result.at c.args.edited.now)).fault part.fault) }),
     )
 
 pub returns-clause-lexed : goal.returns-clause-lexed
 returns-clause-lexed c =
     let begin : IsBegin c.old.inside.text.now c.old.inside.cuts.items c.args.from c.begin_of-begin.result = subst (λ (xs : List Cut). IsBegin c.old.inside.text.now xs c.args.from c.begin_of-begin.result) c.deref.ensures.value (c.begin_of-begin.ensures c.old.inside.text.now (subst (AreCuts c.old.inside.text.now) (sym c.deref.ensures.value) c.old.invariant.2)) in
     let same : take c.args.from c.old.inside.text.now ≡ take c.args.from c.args.edited.now = ap (λ (v : LexedView). take c.args.from v.text) c.old.view_is ∙ c.requires.same in
-    let part : IsReadPart c.set_text.new.self.code_map (drop c.begin_of-begin.result.at c.args.edited.now) (part_view c.in-Ok.part) = subst (λ (t : Text). IsReadPart c.set_text.new.self.code_map t (part_view c.in-Ok.part)) (ap (λ (v : LexerView). v.text) c.set_text.ensures.begun.view ∙ c.range_from-rest.ensures.value) (c.in-Ok.ensures.part c.in_default-met.is) in
-    let made = relexed c.set_text.new.self.code_map c.old.inside.text.now c.args.edited.now c.old.inside.lexemes.items c.old.inside.cuts.items c.args.from c.begin_of-begin.result (part_view c.in-Ok.part) c.kept_of-kept.result c.in-Ok.part.has_tab c.old.invariant.3.1.lexemes c.old.invariant.2 begin same c.requires.new.0 part part.tab
+    let part : IsReadPart (drop c.begin_of-begin.result.at c.args.edited.now) (part_view c.in-Ok.part) = subst (λ (t : Text). IsReadPart t (part_view c.in-Ok.part)) (ap (λ (v : StateView). v.text) c.set_text.ensures.begun.view ∙ c.range_from-rest.ensures.value) (c.in-Ok.ensures.part c.in_default-met.is) in
+    let made = relexed c.old.inside.text.now c.args.edited.now c.old.inside.lexemes.items c.old.inside.cuts.items c.args.from c.begin_of-begin.result (part_view c.in-Ok.part) c.kept_of-kept.result c.in-Ok.part.has_tab c.old.invariant.3.1.lexemes c.old.invariant.2 begin same c.requires.new.0 part part.tab
     c.kept_of-kept.ensures.plain
     (λ h e. c.kept_of-kept.ensures.comments h (ap (λ (xs : List (ℕ × Token × ℕ)). last_newline_of (map lexeme_view (take c.begin_of-begin.result.lexemes xs))) c.deref-3.ensures.value ∙ e))
     (λ h last e. subst (λ (xs : List (ℕ × Token × ℕ)). IsTakenBack xs c.old.inside.cuts.items last c.kept_of-kept.result) c.deref-3.ensures.value
@@ -126,12 +125,12 @@ returns-clause-lexed c =
     let lexemes : c.append_later.new.lexemes.items ≡ take c.kept_of-kept.result.lexemes c.old.inside.lexemes.items ++ map (later c.begin_of-begin.result.at) (if c.kept_of-kept.result.gives_more then c.in-Ok.part.lexemes.items else []) =
     c.append_later.ensures ∙ ap (λ xs. take c.kept_of-kept.result.lexemes xs ++ map (later c.begin_of-begin.result.at) c.given_after-more.result.items) c.make_room.ensures.same
     ∙ ap (λ xs. take c.kept_of-kept.result.lexemes c.old.inside.lexemes.items ++ map (later c.begin_of-begin.result.at) xs) c.given_after-more.ensures in
-    record { lexemes = ap (map lexeme_view) lexemes ∙ made.lexemes; fault = subst (λ f. IsFaultIn c.args.code_map.now f c.in-Ok-exception_of.fault) (sym made.fault) (c.in-Ok-exception_of.ensures.exception c.set_text.new.self.code_map (outcome (drop c.begin_of-begin.result.at c.args.edited.now)).fault part.fault) }
+    record { lexemes = ap (map lexeme_view) lexemes ∙ made.lexemes; fault = subst (λ f. IsFaultIn c.args.code_map.now f c.in-Ok-exception_of.fault) (sym made.fault) (c.in-Ok-exception_of.ensures.exception (outcome (drop c.begin_of-begin.result.at c.args.edited.now)).fault part.fault) }
 
 pub returns-clause-reads : goal.returns-clause-reads
 returns-clause-reads c =
     let begin : IsBegin c.old.inside.text.now c.old.inside.cuts.items c.args.from c.begin_of-begin.result = subst (λ (xs : List Cut). IsBegin c.old.inside.text.now xs c.args.from c.begin_of-begin.result) c.deref.ensures.value (c.begin_of-begin.ensures c.old.inside.text.now (subst (AreCuts c.old.inside.text.now) (sym c.deref.ensures.value) c.old.invariant.2)) in
-    let rest : length c.set_text.new.self.text.now ≡ length c.args.edited.now - c.begin_of-begin.result.at = ap length (ap (λ (v : LexerView). v.text) c.set_text.ensures.begun.view ∙ c.range_from-rest.ensures.value) ∙ length-drop c.begin_of-begin.result.at c.args.edited.now in
+    let rest : length c.set_text.new.self.text.now ≡ length c.args.edited.now - c.begin_of-begin.result.at = ap length (ap (λ (v : StateView). v.text) c.set_text.ensures.begun.view ∙ c.range_from-rest.ensures.value) ∙ length-drop c.begin_of-begin.result.at c.args.edited.now in
     let lexemes : c.append_later.new.lexemes.items ≡ take c.kept_of-kept.result.lexemes c.old.inside.lexemes.items ++ map (later c.begin_of-begin.result.at) c.given_after-more.result.items =
     c.append_later.ensures ∙ ap (λ xs. take c.kept_of-kept.result.lexemes xs ++ map (later c.begin_of-begin.result.at) c.given_after-more.result.items) c.make_room.ensures.same in
     let made : LexedView = record { text = c.args.edited.now; lexemes = map lexeme_view c.append_later.new.lexemes.items; fault = c.in-Ok-exception_of.fault; reads = c.in-Ok.part.reads } in
@@ -152,7 +151,7 @@ begin_is : (c : In-Some) → IsBegin c.old.inside.text.now c.old.inside.cuts.ite
 begin_is c = subst (λ (xs : List Cut). IsBegin c.old.inside.text.now xs c.args.from c.begin_of-begin.result) c.deref.ensures.value (c.begin_of-begin.ensures c.old.inside.text.now (subst (AreCuts c.old.inside.text.now) (sym c.deref.ensures.value) c.old.invariant.2))
 
 text_is : (c : In-Some) → c.set_text.new.self.text.now ≡ drop c.begin_of-begin.result.at c.args.edited.now
-text_is c = ap (λ (v : LexerView). v.text) c.set_text.ensures.begun.view ∙ c.range_from-rest.ensures.value
+text_is c = ap (λ (v : StateView). v.text) c.set_text.ensures.begun.view ∙ c.range_from-rest.ensures.value
 
 same_is : (c : In-Some) → take c.args.from c.old.inside.text.now ≡ take c.args.from c.args.edited.now
 same_is c = ap (λ (v : LexedView). take c.args.from v.text) c.old.view_is ∙ c.requires.same
@@ -182,20 +181,20 @@ abbrev whole : In-Some → PartView
 whole c = met_part c.in-Some.meeting.cut (record { at = c.in-Some.meeting.at; lexemes = length c.in-Ok.part.lexemes.items }) (c.begin_of-begin.result.cuts + c.in-Some.meeting.index) c.old.inside.lexemes.items c.old.inside.cuts.items c.old.inside.is_cut (part_view c.in-Ok.part)
 
 -- what the rest comes to, and so the edited text
-whole_part : (c : In-Some) (file : SourceFile) → IsReadPart file (drop c.begin_of-begin.result.at c.args.edited.now) (whole c)
-whole_part c file = whole_is _ _ _ _ _ _ _ (put_is c) file c.old.inside.is_cut c.old.invariant.1
+whole_part : (c : In-Some) → IsReadPart (drop c.begin_of-begin.result.at c.args.edited.now) (whole c)
+whole_part c = whole_is _ _ _ _ _ _ _ (put_is c) c.old.inside.is_cut c.old.invariant.1
 
 met_relexed : (c : In-Some) → IsRelexed c.args.edited.now c.old.inside.lexemes.items c.old.inside.cuts.items c.begin_of-begin.result.at c.begin_of-begin.result.lexemes (whole c) (record { lexemes = c.begin_of-begin.result.lexemes; cuts = c.begin_of-begin.result.cuts; fault_at = c.begin_of-begin.result.at; gives_more = true })
 met_relexed c =
-    let part = whole_part c c.old.invariant.3.0 in
-    relexed c.old.invariant.3.0 c.old.inside.text.now c.args.edited.now c.old.inside.lexemes.items c.old.inside.cuts.items c.args.from c.begin_of-begin.result (whole c) (record { lexemes = c.begin_of-begin.result.lexemes; cuts = c.begin_of-begin.result.cuts; fault_at = c.begin_of-begin.result.at; gives_more = true }) false
+    let part = whole_part c in
+    relexed c.old.inside.text.now c.args.edited.now c.old.inside.lexemes.items c.old.inside.cuts.items c.args.from c.begin_of-begin.result (whole c) (record { lexemes = c.begin_of-begin.result.lexemes; cuts = c.begin_of-begin.result.cuts; fault_at = c.begin_of-begin.result.at; gives_more = true }) false
     c.old.invariant.3.1.lexemes c.old.invariant.2 (begin_is c) (same_is c) c.requires.new.0 part part.tab (λ h. refl) (λ h e. cc) (λ h last e. cc)
 
 none_is : (c : In-Some) → (outcome c.args.edited.now).fault ≡ None
-none_is c = (met_relexed c).fault ∙ ap (option_map (moved c.begin_of-begin.result.at)) (no_fault c.old.invariant.3.0 (outcome (drop c.begin_of-begin.result.at c.args.edited.now)).fault None refl (whole_part c c.old.invariant.3.0).fault)
+none_is c = (met_relexed c).fault ∙ ap (option_map (moved c.begin_of-begin.result.at)) (no_raw (outcome (drop c.begin_of-begin.result.at c.args.edited.now)).fault (whole_part c).fault)
 
 pub put_part-put-requires : goal.put_part-put-requires
-put_part-put-requires c = (c.old.invariant.3.0, c.old.inside.text.now, drop c.begin_of-begin.result.at c.args.edited.now, put_is (goal.at.put_part-put-requires c).In-Some)
+put_part-put-requires c = (c.old.inside.text.now, drop c.begin_of-begin.result.at c.args.edited.now, put_is (goal.at.put_part-put-requires c).In-Some)
 
 pub invariant_of-result : goal.invariant_of-result
 invariant_of-result c =
@@ -204,7 +203,7 @@ invariant_of-result c =
     let lexemes : c.put_part-put.new.lexemes.items ≡ take c.begin_of-begin.result.lexemes c.old.inside.lexemes.items ++ map (later c.begin_of-begin.result.at) (whole d).lexemes = search rules in
     let cuts : c.put_part-put.new.cuts.items ≡ take c.begin_of-begin.result.cuts c.old.inside.cuts.items ++ map (later_cut c.begin_of-begin.result.at c.begin_of-begin.result.lexemes) (whole d).cuts = search rules in (
       c.requires.fits,
-      end_cut_is c.old.invariant.3.0 c.args.edited.now c.begin_of-begin.result.at (whole d) c.old.inside.is_cut (omega (arith, (begin_is d).before, c.requires.new.0)) (begin_clean c.old.inside.text.now c.args.edited.now c.old.inside.cuts.items c.args.from c.begin_of-begin.result (begin_is d) (same_is d)) (whole_part d c.old.invariant.3.0)
+      end_cut_is c.args.edited.now c.begin_of-begin.result.at (whole d) c.old.inside.is_cut (omega (arith, (begin_is d).before, c.requires.new.0)) (begin_clean c.old.inside.text.now c.args.edited.now c.old.inside.cuts.items c.args.from c.begin_of-begin.result (begin_is d) (same_is d)) (whole_part d)
           (cut_stays_so c.old.inside.is_cut (length (drop c.begin_of-begin.result.at c.args.edited.now)) c.begin_of-begin.result.at (omega (arith, (put_is d).to.inside))),
       subst (AreCuts c.args.edited.now) (sym cuts) made.are_cuts,
       (c.old.invariant.3.0, record { lexemes = ap (map lexeme_view) lexemes ∙ made.lexemes; fault = subst (λ f. IsFaultIn c.old.invariant.3.0 f None) (sym (none_is d)) tt }),

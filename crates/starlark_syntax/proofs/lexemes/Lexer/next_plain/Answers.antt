@@ -1,7 +1,10 @@
-use Rattle.std.proofs.Common.{◌≡◌, ap, sym, ◌∙◌}
+use Rattle.std.proofs.Common.{◌≡◌, ap, sym, ◌∙◌, false}
+use Rattle.std.specs.Prelude.{◌||◌}
 use Rattle.std.proofs.Common.{Some}
+use Rattle.starlark_syntax.specs.Inner.LexerStates.{StateView}
 use Rattle.starlark_syntax.specs.Lexer.{LexerView}
 use Rattle.starlark_token.specs.TextItems.{Given}
+use Rattle.starlark_syntax.proofs.LexerCuts.{knows_cut}
 use Rattle.starlark_syntax.proofs.LexerItems.{lexeme_item}
 use Rattle.starlark_syntax.proofs.PlainLexemes.{passed_going, passed_reads, symbol_inside, symbol_shown}
 use Rattle.starlark_syntax.proofs.lexemes.Lexer.next_plain.Goals as goal
@@ -16,7 +19,7 @@ pub returns-in-Passed-clause-reads : goal.returns-in-Passed-clause-reads
 returns-in-Passed-clause-reads c =
     let going = passed_going c.self.inside.state _ c.next_plain.new.self (λ other. cc) c.in-Passed.ensures.ended in
     let after = c.in-Passed.ensures.after in
-    rw (← c.self.view_is) (passed_reads c.self.inside.state c.next_plain.new.self c.in-Passed.ensures.lexing going (ap (λ (v : LexerView). v.text) after) (ap (λ (v : LexerView). v.has_ended) after))
+    rw (← c.self.view_is) (passed_reads c.self.inside.state c.next_plain.new.self c.in-Passed.ensures.lexing going (ap (λ (v : StateView). v.text) after) (ap (λ (v : StateView). v.has_ended) after))
 
 pub of_symbol-requires : goal.of_symbol-requires
 of_symbol-requires c =
@@ -39,4 +42,16 @@ pub returns-in-Symbol-clause-reads : goal.returns-in-Symbol-clause-reads
 returns-in-Symbol-clause-reads c =
     let going = passed_going c.self.inside.state _ c.next_plain.new.self (λ other. cc) c.in-Symbol.ensures.ended in
     let after = c.in-Symbol.ensures.after in
-    rw (← c.self.view_is) (passed_reads c.self.inside.state c.next_plain.new.self c.in-Symbol.ensures.lexing going (ap (λ (v : LexerView). v.text) after) (ap (λ (v : LexerView). v.has_ended) after))
+    rw (← c.self.view_is) (passed_reads c.self.inside.state c.next_plain.new.self c.in-Symbol.ensures.lexing going (ap (λ (v : StateView). v.text) after) (ap (λ (v : StateView). v.has_ended) after))
+
+pub returns-in-Passed-clause-cut : goal.returns-in-Passed-clause-cut
+returns-in-Passed-clause-cut c =
+    let going = passed_going c.self.inside.state _ c.next_plain.new.self (λ other. cc) c.in-Passed.ensures.ended in
+    let after = c.in-Passed.ensures.after in
+    knows_cut c.self.inside.state c.next_plain.new.self _ _ c.self.invariant.0 going (c.in-Passed.ensures.passed going).1 (ap (λ (v : StateView). v.text) after) (ap (λ (v : StateView). v.yielded_count) after) (ap (λ (v : StateView). v.has_ended) after ∙ ap (λ b. b || false) going)
+
+pub returns-in-Symbol-clause-cut : goal.returns-in-Symbol-clause-cut
+returns-in-Symbol-clause-cut c =
+    let going = passed_going c.self.inside.state _ c.next_plain.new.self (λ other. cc) c.in-Symbol.ensures.ended in
+    let after = c.in-Symbol.ensures.after in
+    knows_cut c.self.inside.state c.next_plain.new.self _ _ c.self.invariant.0 going (c.in-Symbol.ensures.passed going).1 (ap (λ (v : StateView). v.text) after) (ap (λ (v : StateView). v.yielded_count) after) (ap (λ (v : StateView). v.has_ended) after ∙ ap (λ b. b || false) going)

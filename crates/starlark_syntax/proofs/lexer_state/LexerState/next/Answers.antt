@@ -1,12 +1,12 @@
 use Rattle.std.proofs.Common.{◌≡◌, ◌||◌, ap, arith, false, ◌∙◌}
-use Rattle.starlark_syntax.specs.Lexer.{LexerView}
+use Rattle.starlark_syntax.specs.Inner.LexerStates.{StateView}
 use Rattle.starlark_syntax.proofs.LexerStates.{answered_same}
 use Rattle.starlark_syntax.proofs.PlainLexemes.{taken_answer, taken_lexing}
 use Rattle.starlark_syntax.proofs.lexer_state.LexerState.next.Goals as goal
 
 pub returns-in-Passed-clause-answer : goal.returns-in-Passed-clause-answer
 returns-in-Passed-clause-answer c = λ going.
-    taken_answer c.args.self.now c.next_plain.new.self c.in-Passed.plain c.take.result c.take.new.self (c.in-Passed.ensures.passed going) (ap (λ (v : LexerView). v.text) c.in-Passed.ensures.after) c.take.ensures
+    taken_answer c.args.self.now c.next_plain.new.self c.in-Passed.plain c.take.result c.take.new.self (c.in-Passed.ensures.passed going) (ap (λ (v : StateView). v.text) c.in-Passed.ensures.after) c.take.ensures
 
 pub returns-in-Passed-clause-lexing : goal.returns-in-Passed-clause-lexing
 returns-in-Passed-clause-lexing c = taken_lexing c.next_plain.new.self c.in-Passed.plain c.take.result c.take.new.self c.in-Passed.ensures.lexing c.take.ensures
@@ -14,7 +14,7 @@ returns-in-Passed-clause-lexing c = taken_lexing c.next_plain.new.self c.in-Pass
 pub returns-in-Undecided-clause-answer : goal.returns-in-Undecided-clause-answer
 returns-in-Undecided-clause-answer c = λ going.
     let after = c.in-Undecided.ensures.after in
-    let goes : c.next_plain.new.self.has_ended ≡ false = ap (λ (v : LexerView). v.has_ended) after ∙ ap (λ b. b || false) going in
+    let goes : c.next_plain.new.self.has_ended ≡ false = ap (λ (v : StateView). v.has_ended) after ∙ ap (λ b. b || false) going in
     answered_same c.args.self.now c.next_plain.new.self c.next_slowly.result c.next_slowly.new.self
-    (ap (λ (v : LexerView). v.text) after, ap (λ (v : LexerView). v.code_map) after, omega (arith, ap (λ (v : LexerView). v.yielded_count) after))
+    (ap (λ (v : StateView). v.text) after, omega (arith, ap (λ (v : StateView). v.yielded_count) after))
     (c.next_slowly.ensures.answer goes)

@@ -24,7 +24,7 @@ item_in_code-requires c =
     }
 
 pub returns-in-Some : goal.returns-in-Some
-returns-in-Some c = given_same c.args.self.now _ c.item_in_code.result c.item_in_code.new.self (refl, refl, refl) c.item_in_code.ensures
+returns-in-Some c = given_same c.args.self.now _ c.item_in_code.result c.item_in_code.new.self (refl, refl) c.item_in_code.ensures
 
 pub item_in_code-requires-then-number_stands : goal.item_in_code-requires-then-number_stands
 item_in_code-requires-then-number_stands c =
@@ -44,7 +44,7 @@ item_in_code-requires-then-number_stands c =
     }
 
 pub returns-then-number_stands : goal.returns-then-number_stands
-returns-then-number_stands c = given_same c.args.self.now _ c.item_in_code-then-number_stands.result c.item_in_code-then-number_stands.new.self (refl, refl, refl) c.item_in_code-then-number_stands.ensures
+returns-then-number_stands c = given_same c.args.self.now _ c.item_in_code-then-number_stands.result c.item_in_code-then-number_stands.new.self (refl, refl) c.item_in_code-then-number_stands.ensures
 
 pub item_of-requires : goal.item_of-requires
 item_of-requires c =
@@ -60,7 +60,7 @@ item_of-requires c =
     }
 
 pub returns-in-Some-fstring_opener : goal.returns-in-Some-fstring_opener
-returns-in-Some-fstring_opener c = given_same c.args.self.now _ c.item_of.result c.item_of.new.self (refl, refl, refl) c.item_of.ensures
+returns-in-Some-fstring_opener c = given_same c.args.self.now _ c.item_of.result c.item_of.new.self (refl, refl) c.item_of.ensures
 
 pub item_in_code-requires-in-Ok : goal.item_in_code-requires-in-Ok
 item_in_code-requires-in-Ok c =
@@ -78,7 +78,7 @@ item_in_code-requires-in-Ok c =
     }
 
 pub returns-in-Ok : goal.returns-in-Ok
-returns-in-Ok c = given_same c.args.self.now _ c.item_in_code-in-Ok.result c.item_in_code-in-Ok.new.self (refl, refl, refl) c.item_in_code-in-Ok.ensures
+returns-in-Ok c = given_same c.args.self.now _ c.item_in_code-in-Ok.result c.item_in_code-in-Ok.new.self (refl, refl) c.item_in_code-in-Ok.ensures
 
 pub next_of_reader-requires-in-Err-clause-lexing : goal.next_of_reader-requires-in-Err-clause-lexing
 next_of_reader-requires-in-Err-clause-lexing c =
@@ -100,7 +100,7 @@ next_of_reader-requires-in-Err-clause-lexing c =
     )
 
 pub returns-in-Err : goal.returns-in-Err
-returns-in-Err c = given_same c.args.self.now _ c.next_of_reader-in-Err.result c.next_of_reader-in-Err.new.self (refl, refl, refl) c.next_of_reader-in-Err.ensures
+returns-in-Err c = given_same c.args.self.now _ c.next_of_reader-in-Err.result c.next_of_reader-in-Err.new.self (refl, refl) c.next_of_reader-in-Err.ensures
 
 pub item_in_code-requires-then-bang_stands : goal.item_in_code-requires-then-bang_stands
 item_in_code-requires-then-bang_stands c =
@@ -115,7 +115,7 @@ item_in_code-requires-then-bang_stands c =
     }
 
 pub returns-then-bang_stands : goal.returns-then-bang_stands
-returns-then-bang_stands c = given_same c.args.self.now _ c.item_in_code-then-bang_stands.result c.item_in_code-then-bang_stands.new.self (refl, refl, refl) c.item_in_code-then-bang_stands.ensures
+returns-then-bang_stands c = given_same c.args.self.now _ c.item_in_code-then-bang_stands.result c.item_in_code-then-bang_stands.new.self (refl, refl) c.item_in_code-then-bang_stands.ensures
 
 pub item_in_code-requires-in-Some-comment_len : goal.item_in_code-requires-in-Some-comment_len
 item_in_code-requires-in-Some-comment_len c =
@@ -135,7 +135,7 @@ item_in_code-requires-in-Some-comment_len c =
     }
 
 pub returns-in-Some-comment_len : goal.returns-in-Some-comment_len
-returns-in-Some-comment_len c = given_same c.args.self.now _ c.item_in_code-in-Some-comment_len.result c.item_in_code-in-Some-comment_len.new.self (refl, refl, refl) c.item_in_code-in-Some-comment_len.ensures
+returns-in-Some-comment_len c = given_same c.args.self.now _ c.item_in_code-in-Some-comment_len.result c.item_in_code-in-Some-comment_len.new.self (refl, refl) c.item_in_code-in-Some-comment_len.ensures
 
 pub next_of_reader-requires-2-clause-lexing : goal.next_of_reader-requires-2-clause-lexing
 next_of_reader-requires-2-clause-lexing c =
@@ -147,7 +147,7 @@ next_of_reader-requires-2-clause-lexing c =
     (c.requires.lexing.0, (λ on. (inv.0, c.comment_len.ensures.ahead _ _ (c.front-front.ensures.ahead _ _ inv.1))), tt, (λ on. (paid.0 + 3 + 0, omega (arith, paid.1), read)), c.requires.lexing.4)
 
 pub returns : goal.returns
-returns c = given_same c.args.self.now _ c.next_of_reader-2.result c.next_of_reader-2.new.self (refl, refl, refl) c.next_of_reader-2.ensures
+returns c = given_same c.args.self.now _ c.next_of_reader-2.result c.next_of_reader-2.new.self (refl, refl) c.next_of_reader-2.ensures
 
 pub overflow_add-self-in-Err : goal.overflow_add-self-in-Err
 overflow_add-self-in-Err c =

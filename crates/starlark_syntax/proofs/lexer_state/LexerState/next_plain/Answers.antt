@@ -15,86 +15,86 @@ use Rattle.starlark_syntax.proofs.lexer_state.LexerState.next_plain.Goals as goa
 
 pub pass_name-requires : goal.pass_name-requires
 pass_name-requires c =
-    let quick = nothing_looked c.loop-self.self.text.now c.loop-self.self.reader c.loop-self.self.looked_to c.loop-self.self.has_ended c.loop-self.self.lookahead (sym c.is_nothing.ensures ∙ c.loop-self-test.true) c.loop-self.invariant.5 c.loop-self.invariant.6 in
-    rw c.in-Identifier.is at (at_word c.args.self.now c.loop-self.self c.common_word.new.self c.in-Some.field-0 c.requires c.loop-self.invariant (sym c.is_nothing.ensures ∙ c.loop-self-test.true) c.in-Some.ensures.lookahead (c.common_word.ensures.ahead _ _ (c.loop-self.invariant.4 quick.0)) c.in-Some.ensures.stands)
+    let quick = nothing_looked c.loop-self.self.text.now c.loop-self.self.reader c.loop-self.self.looked_to c.loop-self.self.has_ended c.loop-self.self.lookahead (sym c.is_nothing.ensures ∙ c.loop-self-test.true) c.loop-self.invariant.4 c.loop-self.invariant.5 in
+    rw c.in-Identifier.is at (at_word c.args.self.now c.loop-self.self c.common_word.new.self c.in-Some.field-0 c.requires c.loop-self.invariant (sym c.is_nothing.ensures ∙ c.loop-self-test.true) c.in-Some.ensures.lookahead (c.common_word.ensures.ahead _ _ (c.loop-self.invariant.3 quick.0)) c.in-Some.ensures.stands)
 
 pub returns-in-Identifier : goal.returns-in-Identifier
 returns-in-Identifier c =
-    let quick = nothing_looked c.loop-self.self.text.now c.loop-self.self.reader c.loop-self.self.looked_to c.loop-self.self.has_ended c.loop-self.self.lookahead (sym c.is_nothing.ensures ∙ c.loop-self-test.true) c.loop-self.invariant.5 c.loop-self.invariant.6 in
-    let same = same_text c.args.self.now c.loop-self.self c.loop-self.self c.loop-self.invariant refl refl refl in
-    let since = passed_since c.args.self.now _ c.pass_name.result c.pass_name.new.self same (sym c.loop-self.invariant.3 ∙ quick.0) c.pass_name.ensures in
+    let quick = nothing_looked c.loop-self.self.text.now c.loop-self.self.reader c.loop-self.self.looked_to c.loop-self.self.has_ended c.loop-self.self.lookahead (sym c.is_nothing.ensures ∙ c.loop-self-test.true) c.loop-self.invariant.4 c.loop-self.invariant.5 in
+    let same = same_text c.args.self.now c.loop-self.self c.loop-self.self c.loop-self.invariant refl refl in
+    let since = passed_since c.args.self.now _ c.pass_name.result c.pass_name.new.self same (sym c.loop-self.invariant.2 ∙ quick.0) c.pass_name.ensures in
     record { ended = since.ended; passed = since.passed; lexing = since.lexing; after = since.after }
 
 pub pass_symbol-requires : goal.pass_symbol-requires
 pass_symbol-requires c =
-    let quick = nothing_looked c.loop-self.self.text.now c.loop-self.self.reader c.loop-self.self.looked_to c.loop-self.self.has_ended c.loop-self.self.lookahead (sym c.is_nothing.ensures ∙ c.loop-self-test.true) c.loop-self.invariant.5 c.loop-self.invariant.6 in
-    rw c.in-Fixed.is at (at_word c.args.self.now c.loop-self.self c.common_word.new.self c.in-Some.field-0 c.requires c.loop-self.invariant (sym c.is_nothing.ensures ∙ c.loop-self-test.true) c.in-Some.ensures.lookahead (c.common_word.ensures.ahead _ _ (c.loop-self.invariant.4 quick.0)) c.in-Some.ensures.stands)
+    let quick = nothing_looked c.loop-self.self.text.now c.loop-self.self.reader c.loop-self.self.looked_to c.loop-self.self.has_ended c.loop-self.self.lookahead (sym c.is_nothing.ensures ∙ c.loop-self-test.true) c.loop-self.invariant.4 c.loop-self.invariant.5 in
+    rw c.in-Fixed.is at (at_word c.args.self.now c.loop-self.self c.common_word.new.self c.in-Some.field-0 c.requires c.loop-self.invariant (sym c.is_nothing.ensures ∙ c.loop-self-test.true) c.in-Some.ensures.lookahead (c.common_word.ensures.ahead _ _ (c.loop-self.invariant.3 quick.0)) c.in-Some.ensures.stands)
 
 pub returns-in-Fixed : goal.returns-in-Fixed
 returns-in-Fixed c =
-    let quick = nothing_looked c.loop-self.self.text.now c.loop-self.self.reader c.loop-self.self.looked_to c.loop-self.self.has_ended c.loop-self.self.lookahead (sym c.is_nothing.ensures ∙ c.loop-self-test.true) c.loop-self.invariant.5 c.loop-self.invariant.6 in
-    let same = same_text c.args.self.now c.loop-self.self c.loop-self.self c.loop-self.invariant refl refl refl in
-    let since = passed_since c.args.self.now _ c.pass_symbol.result c.pass_symbol.new.self same (sym c.loop-self.invariant.3 ∙ quick.0) c.pass_symbol.ensures in
+    let quick = nothing_looked c.loop-self.self.text.now c.loop-self.self.reader c.loop-self.self.looked_to c.loop-self.self.has_ended c.loop-self.self.lookahead (sym c.is_nothing.ensures ∙ c.loop-self-test.true) c.loop-self.invariant.4 c.loop-self.invariant.5 in
+    let same = same_text c.args.self.now c.loop-self.self c.loop-self.self c.loop-self.invariant refl refl in
+    let since = passed_since c.args.self.now _ c.pass_symbol.result c.pass_symbol.new.self same (sym c.loop-self.invariant.2 ∙ quick.0) c.pass_symbol.ensures in
     record { ended = since.ended; passed = since.passed; lexing = since.lexing; after = since.after }
 
 pub returns-in_default-clause-lexing : goal.returns-in_default-clause-lexing
 returns-in_default-clause-lexing c =
-    let quick = (nothing_looked c.loop-self.self.text.now c.loop-self.self.reader c.loop-self.self.looked_to c.loop-self.self.has_ended c.loop-self.self.lookahead (sym c.is_nothing.ensures ∙ c.loop-self-test.true) c.loop-self.invariant.5 c.loop-self.invariant.6) in
+    let quick = (nothing_looked c.loop-self.self.text.now c.loop-self.self.reader c.loop-self.self.looked_to c.loop-self.self.has_ended c.loop-self.self.lookahead (sym c.is_nothing.ensures ∙ c.loop-self-test.true) c.loop-self.invariant.4 c.loop-self.invariant.5) in
     let paid = quick.3 in
-    let ahead = c.common_word.ensures.ahead _ _ (c.loop-self.invariant.4 quick.0) in
-    let inv = c.requires.1 (sym c.loop-self.invariant.3 ∙ quick.0) in
+    let ahead = c.common_word.ensures.ahead _ _ (c.loop-self.invariant.3 quick.0) in
+    let inv = c.requires.1 (sym c.loop-self.invariant.2 ∙ quick.0) in
     let inside = (left_onward c.loop-self.self.text.now c.common_word.new.self _ _ c.common_word.ensures.code.stage ahead).is_left.1.inside in
     let lookahead : HasLooked 0 3 c.loop-self.self.reader c.common_word.new.self = rw c.in_default.is at c.common_word.ensures.lookahead in
     let read = looked_reads c.loop-self.self.text.now paid.0 0 3 c.loop-self.self.reader c.common_word.new.self quick.1.stage paid.2 lookahead in
-    (rw c.loop-self.invariant.0 c.requires.0, (λ on. (rw (c.loop-self.invariant.0, c.loop-self.invariant.2) inv.0, ahead)), quick.0, (λ on. (c.common_word.ensures.code, omega (arith, inside, c.at.ensures), (λ class len front two text. omega (arith, two, c.at.ensures)), (paid.0 + 3, omega (arith, paid.1, quick.2, lookahead.0, c.at.ensures), read))), reached c.loop-self.self.text.now c.common_word.new.self _ c.common_word.new.self.at _ c.common_word.ensures.code.stage ahead refl (omega (arith, next_line_after c.loop-self.self.text.now c.common_word.new.self.at inside, c.at.ensures)))
+    (rw c.loop-self.invariant.0 c.requires.0, (λ on. (rw (c.loop-self.invariant.0, c.loop-self.invariant.1) inv.0, ahead)), quick.0, (λ on. (c.common_word.ensures.code, omega (arith, inside, c.at.ensures), (λ class len front two text. omega (arith, two, c.at.ensures)), (paid.0 + 3, omega (arith, paid.1, quick.2, lookahead.0, c.at.ensures), read))), reached c.loop-self.self.text.now c.common_word.new.self _ c.common_word.new.self.at _ c.common_word.ensures.code.stage ahead refl (omega (arith, next_line_after c.loop-self.self.text.now c.common_word.new.self.at inside, c.at.ensures)))
 
 pub pass_literal-requires : goal.pass_literal-requires
 pass_literal-requires c =
-    let quick = nothing_looked c.loop-self.self.text.now c.loop-self.self.reader c.loop-self.self.looked_to c.loop-self.self.has_ended c.loop-self.self.lookahead (sym c.is_nothing.ensures ∙ c.loop-self-test.true) c.loop-self.invariant.5 c.loop-self.invariant.6 in
-    (c.in-Some.field-0.class, sym c.is_text_opener.ensures, at_word c.args.self.now c.loop-self.self c.common_word.new.self c.in-Some.field-0 c.requires c.loop-self.invariant (sym c.is_nothing.ensures ∙ c.loop-self-test.true) c.in-Some.ensures.lookahead (c.common_word.ensures.ahead _ _ (c.loop-self.invariant.4 quick.0)) c.in-Some.ensures.stands)
+    let quick = nothing_looked c.loop-self.self.text.now c.loop-self.self.reader c.loop-self.self.looked_to c.loop-self.self.has_ended c.loop-self.self.lookahead (sym c.is_nothing.ensures ∙ c.loop-self-test.true) c.loop-self.invariant.4 c.loop-self.invariant.5 in
+    (c.in-Some.field-0.class, sym c.is_text_opener.ensures, at_word c.args.self.now c.loop-self.self c.common_word.new.self c.in-Some.field-0 c.requires c.loop-self.invariant (sym c.is_nothing.ensures ∙ c.loop-self-test.true) c.in-Some.ensures.lookahead (c.common_word.ensures.ahead _ _ (c.loop-self.invariant.3 quick.0)) c.in-Some.ensures.stands)
 
 pub returns-in_default-class : goal.returns-in_default-class
 returns-in_default-class c =
-    let quick = nothing_looked c.loop-self.self.text.now c.loop-self.self.reader c.loop-self.self.looked_to c.loop-self.self.has_ended c.loop-self.self.lookahead (sym c.is_nothing.ensures ∙ c.loop-self-test.true) c.loop-self.invariant.5 c.loop-self.invariant.6 in
-    let same = same_text c.args.self.now c.loop-self.self c.loop-self.self c.loop-self.invariant refl refl refl in
-    let since = passed_since c.args.self.now _ c.pass_literal.result c.pass_literal.new.self same (sym c.loop-self.invariant.3 ∙ quick.0) c.pass_literal.ensures in
+    let quick = nothing_looked c.loop-self.self.text.now c.loop-self.self.reader c.loop-self.self.looked_to c.loop-self.self.has_ended c.loop-self.self.lookahead (sym c.is_nothing.ensures ∙ c.loop-self-test.true) c.loop-self.invariant.4 c.loop-self.invariant.5 in
+    let same = same_text c.args.self.now c.loop-self.self c.loop-self.self c.loop-self.invariant refl refl in
+    let since = passed_since c.args.self.now _ c.pass_literal.result c.pass_literal.new.self same (sym c.loop-self.invariant.2 ∙ quick.0) c.pass_literal.ensures in
     record { ended = since.ended; passed = since.passed; lexing = since.lexing; after = since.after }
 
 pub loop-self-preserved : goal.loop-self-preserved
 loop-self-preserved c =
-    let quick = nothing_looked c.loop-self.self.text.now c.loop-self.self.reader c.loop-self.self.looked_to c.loop-self.self.has_ended c.loop-self.self.lookahead (sym c.is_nothing.ensures ∙ c.loop-self-test.true) c.loop-self.invariant.5 c.loop-self.invariant.6 in
-    let at = rw c.in-LineEnd.is at (at_word c.args.self.now c.loop-self.self c.common_word.new.self c.in-Some.field-0 c.requires c.loop-self.invariant (sym c.is_nothing.ensures ∙ c.loop-self-test.true) c.in-Some.ensures.lookahead (c.common_word.ensures.ahead _ _ (c.loop-self.invariant.4 quick.0)) c.in-Some.ensures.stands) in
+    let quick = nothing_looked c.loop-self.self.text.now c.loop-self.self.reader c.loop-self.self.looked_to c.loop-self.self.has_ended c.loop-self.self.lookahead (sym c.is_nothing.ensures ∙ c.loop-self-test.true) c.loop-self.invariant.4 c.loop-self.invariant.5 in
+    let at = rw c.in-LineEnd.is at (at_word c.args.self.now c.loop-self.self c.common_word.new.self c.in-Some.field-0 c.requires c.loop-self.invariant (sym c.is_nothing.ensures ∙ c.loop-self-test.true) c.in-Some.ensures.lookahead (c.common_word.ensures.ahead _ _ (c.loop-self.invariant.3 quick.0)) c.in-Some.ensures.stands) in
     line_end_passed c.args.self.now c.loop-self.self c.common_word.new.self c.take_line_end.new.self c.in-Some.field-0.len c.loop-self.invariant (sym c.is_nothing.ensures ∙ c.loop-self-test.true) at (rw c.in-Passed.is at (c.in-Ok.ensures.ahead _ _ at.ahead)) (c.in-Ok.ensures.code c.in-Passed.is) (c.in-Ok.ensures.taken c.in-Passed.is)
 
 pub returns-in-Fault : goal.returns-in-Fault
 returns-in-Fault c =
-    let quick = nothing_looked c.loop-self.self.text.now c.loop-self.self.reader c.loop-self.self.looked_to c.loop-self.self.has_ended c.loop-self.self.lookahead (sym c.is_nothing.ensures ∙ c.loop-self-test.true) c.loop-self.invariant.5 c.loop-self.invariant.6 in
-    let at = rw c.in-LineEnd.is at (at_word c.args.self.now c.loop-self.self c.common_word.new.self c.in-Some.field-0 c.requires c.loop-self.invariant (sym c.is_nothing.ensures ∙ c.loop-self-test.true) c.in-Some.ensures.lookahead (c.common_word.ensures.ahead _ _ (c.loop-self.invariant.4 quick.0)) c.in-Some.ensures.stands) in
-    let same = same_text c.args.self.now c.loop-self.self c.loop-self.self c.loop-self.invariant refl refl refl in
+    let quick = nothing_looked c.loop-self.self.text.now c.loop-self.self.reader c.loop-self.self.looked_to c.loop-self.self.has_ended c.loop-self.self.lookahead (sym c.is_nothing.ensures ∙ c.loop-self-test.true) c.loop-self.invariant.4 c.loop-self.invariant.5 in
+    let at = rw c.in-LineEnd.is at (at_word c.args.self.now c.loop-self.self c.common_word.new.self c.in-Some.field-0 c.requires c.loop-self.invariant (sym c.is_nothing.ensures ∙ c.loop-self-test.true) c.in-Some.ensures.lookahead (c.common_word.ensures.ahead _ _ (c.loop-self.invariant.3 quick.0)) c.in-Some.ensures.stands) in
+    let same = same_text c.args.self.now c.loop-self.self c.loop-self.self c.loop-self.invariant refl refl in
     let passed = faulty_margin (record c.loop-self.self { reader = c.common_word.new.self }) c.in-Some.field-0.len c.take_line_end.new.self at (c.in-Ok.ensures.reads (fault_counts c.in-Ok.line_end c.in-Fault.is)) (rw c.in-Fault.is at (c.in-Ok.ensures.ahead _ _ at.ahead)) in
-    let since = passed_since c.args.self.now _ _ _ same (sym c.loop-self.invariant.3 ∙ quick.0) passed in
+    let since = passed_since c.args.self.now _ _ _ same (sym c.loop-self.invariant.2 ∙ quick.0) passed in
     record { ended = since.ended; passed = since.passed; lexing = since.lexing; after = since.after }
 
 pub overflow_add-self-in-LineEnd : goal.overflow_add-self-in-LineEnd
 overflow_add-self-in-LineEnd c =
-    let quick = nothing_looked c.loop-self.self.text.now c.loop-self.self.reader c.loop-self.self.looked_to c.loop-self.self.has_ended c.loop-self.self.lookahead (sym c.is_nothing.ensures ∙ c.loop-self-test.true) c.loop-self.invariant.5 c.loop-self.invariant.6 in
-    let inv = c.requires.1 (sym c.loop-self.invariant.3 ∙ quick.0) in
+    let quick = nothing_looked c.loop-self.self.text.now c.loop-self.self.reader c.loop-self.self.looked_to c.loop-self.self.has_ended c.loop-self.self.lookahead (sym c.is_nothing.ensures ∙ c.loop-self-test.true) c.loop-self.invariant.4 c.loop-self.invariant.5 in
+    let inv = c.requires.1 (sym c.loop-self.invariant.2 ∙ quick.0) in
     let few = lexemes_few c.args.self.now.text.now c.requires.0 in
     let count : c.match-line_end.self.yielded_count ≡ c.args.self.now.yielded_count = elim c.match-line_end.branch [
-      | in-Pending w ↦ ap (λ (state : LexerState). state.yielded_count) w.self-is ∙ c.loop-self.invariant.2
-      | in-Newline w ↦ ap (λ (state : LexerState). state.yielded_count) w.self-is ∙ c.loop-self.invariant.2
+      | in-Pending w ↦ ap (λ (state : LexerState). state.yielded_count) w.self-is ∙ c.loop-self.invariant.1
+      | in-Newline w ↦ ap (λ (state : LexerState). state.yielded_count) w.self-is ∙ c.loop-self.invariant.1
     ] in
     let small : c.match-line_end.self.yielded_count + 1 ≤ 2 ^ 34 = omega (arith, count, inv.0, few) in
     search (rules, small)
 
 pub returns-in-LineEnd : goal.returns-in-LineEnd
 returns-in-LineEnd c =
-    let quick = nothing_looked c.loop-self.self.text.now c.loop-self.self.reader c.loop-self.self.looked_to c.loop-self.self.has_ended c.loop-self.self.lookahead (sym c.is_nothing.ensures ∙ c.loop-self-test.true) c.loop-self.invariant.5 c.loop-self.invariant.6 in
-    let at = rw c.in-LineEnd.is at (at_word c.args.self.now c.loop-self.self c.common_word.new.self c.in-Some.field-0 c.requires c.loop-self.invariant (sym c.is_nothing.ensures ∙ c.loop-self-test.true) c.in-Some.ensures.lookahead (c.common_word.ensures.ahead _ _ (c.loop-self.invariant.4 quick.0)) c.in-Some.ensures.stands) in
+    let quick = nothing_looked c.loop-self.self.text.now c.loop-self.self.reader c.loop-self.self.looked_to c.loop-self.self.has_ended c.loop-self.self.lookahead (sym c.is_nothing.ensures ∙ c.loop-self-test.true) c.loop-self.invariant.4 c.loop-self.invariant.5 in
+    let at = rw c.in-LineEnd.is at (at_word c.args.self.now c.loop-self.self c.common_word.new.self c.in-Some.field-0 c.requires c.loop-self.invariant (sym c.is_nothing.ensures ∙ c.loop-self-test.true) c.in-Some.ensures.lookahead (c.common_word.ensures.ahead _ _ (c.loop-self.invariant.3 quick.0)) c.in-Some.ensures.stands) in
     let state = record c.loop-self.self { reader = c.common_word.new.self } in
     let new = c.take_line_end.new.self in
-    let same = same_text c.args.self.now c.loop-self.self c.loop-self.self c.loop-self.invariant refl refl refl in
-    let going = sym c.loop-self.invariant.3 ∙ quick.0 in
+    let same = same_text c.args.self.now c.loop-self.self c.loop-self.self c.loop-self.invariant refl refl in
+    let going = sym c.loop-self.invariant.2 ∙ quick.0 in
     let since : HasPassedSince c.args.self.now (fast.Passed c.of_kind-newline.result) (record c.match-line_end.self { yielded_count = c.match-line_end.self.yielded_count + 1 }) = elim c.match-line_end.branch [
       | in-Pending w ↦
           let is = w.in-Pending.is in

@@ -3,11 +3,10 @@ use Rattle.starlark_grammar.specs.Reading.{outcome}
 use Rattle.starlark_grammar.specs.Tokens.{Spanned}
 use Rattle.starlark_reader.specs.Inner.Reader.{IsAheadPast}
 use Rattle.starlark_syntax.specs.Inner.LexerStates.{left_in}
-use Rattle.starlark_grammar.proofs.Order.Inside.{lexemes_few}
 use Rattle.starlark_reader.proofs.TakenPieces.PieceTaken.{left_onward}
 use Rattle.starlark_reader.proofs.TakenPieces.ReaderReads.{here_reads, here_taken_reads}
 use Rattle.starlark_reader.proofs.NextLines.{next_line_inside}
-use Rattle.starlark_syntax.proofs.FoundWords.{past_lexing}
+use Rattle.starlark_syntax.proofs.FoundWords.{one_more_fits, past_lexing}
 use Rattle.starlark_syntax.proofs.Reaches.{reached}
 use Rattle.starlark_syntax.proofs.LexerReads.{found_out, spared}
 use Rattle.starlark_syntax.proofs.PlainLexemes.{fstring_text_shown, mark_counted, mark_passed, plain_inside, waiting_in_memory}
@@ -54,9 +53,7 @@ returns-in-Err c =
 
 pub overflow_add-self-2 : goal.overflow_add-self-2
 overflow_add-self-2 c =
-    let inv = c.requires.lexing.1 c.requires.going in
-    let few = lexemes_few c.args.self.now.text.now c.requires.lexing.0 in
-    let small : c.args.self.now.yielded_count + 1 ≤ 2 ^ 34 = omega (arith, inv.0, few) in
+    let small : c.args.self.now.yielded_count + 1 ≤ 2 ^ 34 = one_more_fits c.args.self.now c.requires.lexing.0 (c.requires.lexing.1 c.requires.going).0 in
     search (rules, small)
 
 pub returns-then-found-eq0 : goal.returns-then-found-eq0

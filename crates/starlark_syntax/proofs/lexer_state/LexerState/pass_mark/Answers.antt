@@ -1,6 +1,5 @@
 use Rattle.std.proofs.Common.{◌+◌, ◌≤◌, ◌^◌, arith, refl, rules}
-use Rattle.starlark_grammar.proofs.Order.Inside.{lexemes_few}
-use Rattle.starlark_syntax.proofs.FoundWords.{past_lexing}
+use Rattle.starlark_syntax.proofs.FoundWords.{one_more_fits, past_lexing}
 use Rattle.starlark_syntax.proofs.LexerReads.{found_out, spared}
 use Rattle.starlark_syntax.proofs.PlainLexemes.{mark_counted, mark_passed, waiting_in_memory}
 use Rattle.starlark_token.specs.TokenViews.{token_view}
@@ -8,9 +7,7 @@ use Rattle.starlark_syntax.proofs.lexer_state.LexerState.pass_mark.Goals as goal
 
 pub overflow_add-self : goal.overflow_add-self
 overflow_add-self c =
-    let inv = c.requires.lexing.1 c.requires.going in
-    let few = lexemes_few c.args.self.now.text.now c.requires.lexing.0 in
-    let small : c.args.self.now.yielded_count + 1 ≤ 2 ^ 34 = omega (arith, inv.0, few) in
+    let small : c.args.self.now.yielded_count + 1 ≤ 2 ^ 34 = one_more_fits c.args.self.now c.requires.lexing.0 (c.requires.lexing.1 c.requires.going).0 in
     search (rules, small)
 
 pub returns-clause-passed : goal.returns-clause-passed

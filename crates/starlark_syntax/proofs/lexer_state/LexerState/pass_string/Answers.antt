@@ -7,11 +7,10 @@ use Rattle.starlark_syntax.specs.Inner.LexerStates.{left_in}
 use Rattle.starlark_syntax.specs.declared.plain_lexeme.PlainKind.TheVariants as kind
 use Rattle.starlark_syntax.proofs.PlainLexemes.{plain_inside, reader_boundary, string_shown}
 use Rattle.starlark_grammar.specs.Reading.{outcome}
-use Rattle.starlark_grammar.proofs.Order.Inside.{lexemes_few}
 use Rattle.starlark_reader.proofs.TakenPieces.ReaderReads.{here_reads}
 use Rattle.starlark_reader.proofs.NextLines.{next_line_inside}
 use Rattle.starlark_syntax.proofs.Reaches.{reached}
-use Rattle.starlark_syntax.proofs.FoundWords.{past_lexing}
+use Rattle.starlark_syntax.proofs.FoundWords.{one_more_fits, past_lexing}
 use Rattle.starlark_syntax.proofs.LexerReads.{front_is, plain_reads, text_opener_len}
 use Rattle.starlark_syntax.specs.declared.lexer_state.Lookahead.TheVariants as lookahead
 use Rattle.starlark_syntax.proofs.lexer_state.LexerState.pass_string.Goals as goal
@@ -28,9 +27,7 @@ pass_plain_text-requires-clause-ready c =
 
 pub overflow_add-self-2 : goal.overflow_add-self-2
 overflow_add-self-2 c =
-    let inv = c.requires.lexing.1 c.requires.going in
-    let few = lexemes_few c.args.self.now.text.now c.requires.lexing.0 in
-    let small : c.args.self.now.yielded_count + 1 ≤ 2 ^ 34 = omega (arith, inv.0, few) in
+    let small : c.args.self.now.yielded_count + 1 ≤ 2 ^ 34 = one_more_fits c.args.self.now c.requires.lexing.0 (c.requires.lexing.1 c.requires.going).0 in
     search (rules, small)
 
 pub returns-clause-lexing : goal.returns-clause-lexing

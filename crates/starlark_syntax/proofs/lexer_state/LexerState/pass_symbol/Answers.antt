@@ -1,14 +1,12 @@
 use Rattle.std.proofs.Common.{◌+◌, ◌-◌, ◌*◌, ◌≤◌, ◌^◌, arith, refl, rules}
-use Rattle.starlark_grammar.proofs.Order.Inside.{lexemes_few}
 use Rattle.starlark_reader.proofs.TakenPieces.ReaderReads.{taken_reads}
-use Rattle.starlark_syntax.proofs.FoundWords.{past_lexing}
+use Rattle.starlark_syntax.proofs.FoundWords.{one_more_fits, past_lexing}
 use Rattle.starlark_syntax.proofs.LexerReads.{found_in_code}
 use Rattle.starlark_syntax.proofs.lexer_state.LexerState.pass_symbol.Goals as goal
 
 pub overflow_add-self : goal.overflow_add-self
 overflow_add-self c =
-    let few = lexemes_few c.args.self.now.text.now c.requires.fits in
-    let small : c.args.self.now.yielded_count + 1 ≤ 2 ^ 34 = omega (arith, c.requires.few, few) in
+    let small : c.args.self.now.yielded_count + 1 ≤ 2 ^ 34 = one_more_fits c.args.self.now c.requires.fits c.requires.few in
     search (rules, small)
 
 pub returns : goal.returns

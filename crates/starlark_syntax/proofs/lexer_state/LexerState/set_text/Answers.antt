@@ -1,10 +1,10 @@
 use Rattle.std.proofs.Common.{◌≡◌, ap, arith}
-use Rattle.starlark_syntax.specs.Lexer.{LexerView}
+use Rattle.starlark_syntax.specs.Inner.LexerStates.{StateView}
 use Rattle.starlark_syntax.proofs.lexer_state.LexerState.set_text.Goals as goal
 
 pub returns-clause-lexing : goal.returns-clause-lexing
 returns-clause-lexing c =
-    let none : c.args.self.now.yielded_count ≡ 0 = ap (λ (v : LexerView). v.yielded_count) c.requires.unread.view in
+    let none : c.args.self.now.yielded_count ≡ 0 = ap (λ (v : StateView). v.yielded_count) c.requires.unread.view in
     let begun = c.requires.unread in (
       c.requires.fits,
       (λ on. (omega (arith, none), rw none (begun.ahead c.args.text.now))),

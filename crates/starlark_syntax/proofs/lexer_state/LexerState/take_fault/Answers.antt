@@ -1,0 +1,68 @@
+use Rattle.std.proofs.Common.{◌≡◌, ◌+◌, ◌≤◌, ◌^◌, arith, ap, Some, rules, sym, ◌∙◌}
+use Rattle.starlark_grammar.specs.AfterFaults.{restart}
+use Rattle.starlark_grammar.specs.Reading.{outcome}
+use Rattle.starlark_grammar.specs.Tokens.{Fault, Spanned}
+use Rattle.starlark_grammar.proofs.Order.Inside.{fault_within}
+use Rattle.starlark_reader.proofs.NextLines.{restart_inside}
+use Rattle.starlark_reader.specs.Searches.{search_reads}
+use Rattle.starlark_syntax.specs.Inner.LexerStates.{left_in}
+use Rattle.starlark_syntax.proofs.FoundWords.{one_more_fits}
+use Rattle.starlark_syntax.proofs.LexerReads.{spared}
+use Rattle.starlark_syntax.proofs.LexerStates.{raw_place}
+use Rattle.starlark_syntax.proofs.lexer_state.LexerState.take_fault.Goals as goal
+
+pub returns-in_err-fault-clause-last : goal.returns-in_err-fault-clause-last
+returns-in_err-fault-clause-last c = λ going.
+    let text = c.args.self.now.text.now in
+    let inv = c.requires.lexing.1 going in
+    let paid = spared text c.args.self.now.reader c.args.self.now.looked_to c.args.self.now.lookahead (c.requires.lexing.3 going) in
+    let is = c.in_err-fault.ensures.last text (left_in c.args.self.now) (outcome text).fault (c.requires.end going) inv.1 in
+    let read = c.in_err-fault.ensures.reads text paid.0 (c.requires.end going) paid.2 in
+    rw c.from_residual.ensures (is.0, is.1, is.3, read.1, omega (arith, paid.1, read.2, c.requires.lexing.4.inside))
+
+pub returns-in_err-fault-clause-lexing : goal.returns-in_err-fault-clause-lexing
+returns-in_err-fault-clause-lexing c = (
+  c.requires.lexing.0,
+  (λ on.
+      let inv = c.requires.lexing.1 on in
+      let is = c.in_err-fault.ensures.last c.args.self.now.text.now (left_in c.args.self.now) (outcome c.args.self.now.text.now).fault (c.requires.end on) inv.1 in
+      (inv.0, rw (is.0, is.1) is.2)),
+  tt,
+  (λ on.
+      let paid = spared c.args.self.now.text.now c.args.self.now.reader c.args.self.now.looked_to c.args.self.now.lookahead (c.requires.lexing.3 on) in
+      let read = c.in_err-fault.ensures.reads c.args.self.now.text.now paid.0 (c.requires.end on) paid.2 in
+      (paid.0, paid.1, read.0)),
+  c.requires.lexing.4,
+)
+
+pub overflow_add-self : goal.overflow_add-self
+overflow_add-self c =
+    let small : c.args.self.now.yielded_count + 1 ≤ 2 ^ 34 = one_more_fits c.args.self.now c.requires.lexing.0 (c.requires.lexing.1 c.if-self.false).0 in
+    search (rules, small)
+
+pub returns-clause-last : goal.returns-clause-last
+returns-clause-last c = λ going.
+    let text = c.args.self.now.text.now in
+    let inv = c.requires.lexing.1 going in
+    let paid = spared text c.args.self.now.reader c.args.self.now.looked_to c.args.self.now.lookahead (c.requires.lexing.3 going) in
+    let is = c.in_ok-fault.ensures.last text (left_in c.args.self.now) (outcome text).fault (c.requires.end going) inv.1 in
+    let read = c.in_ok-fault.ensures.reads text paid.0 (c.requires.end going) paid.2 in
+    let it : Spanned Fault = is.1.0 in
+    let raw = is.1.2 in
+    let few = read.1 it.node raw.1 in
+    let here = raw_place it c.in_ok-fault.fault raw in
+    let within = fault_within text it is.1.1 in
+    let reach = c.requires.lexing.4 in (
+      it,
+      record {
+        none = is.0;
+        has = is.1.1;
+        tab = is.2;
+        most = omega (arith, paid.1, few, reach.inside, restart_inside text it, ap (restart text) here, ap (search_reads text) here);
+        reads = λ fault has.
+            let both : Some it ≡ Some fault = sym is.1.1 ∙ has in
+            let same : it ≡ fault = cc in
+            (omega (arith, read.0, raw.0, within.0, within.1, c.requires.lexing.0, ap (λ (f : Spanned Fault). f.begin) same), omega (arith, paid.1, few, reach.fault fault has, ap (restart text) (here ∙ same), ap (search_reads text) (here ∙ same)));
+      },
+      raw,
+    )
