@@ -1,7 +1,7 @@
 -- What an outcome tells of a text is bounded by the text's length.
-use Rattle.std.proofs.Common.{◌≡◌, ℕ, ◌+◌, ◌*◌, ◌≤◌, ◌++◌, inl, inr, length, take, ap, subst, arith, append-nil, length-append, [], sym}
+use Rattle.std.proofs.Common.{◌≡◌, ℕ, ◌+◌, ◌*◌, ◌≤◌, inl, inr, length, take, ap, subst, arith, append-nil, length-append, []}
 use Rattle.std.proofs.lemmas.List.{length-map}
-use Rattle.starlark_c.specs.Endings.{AreFirst, Buffers, Ends, EndsFront, IsCut, all_values, capped, lexemes_of, named}
+use Rattle.starlark_c.specs.Endings.{AreFirst, Buffers, Ends, EndsFront, IsCut, lexemes_of, named}
 use Rattle.starlark_c.specs.Outcomes.{AreBounded, outcome_record}
 use Rattle.starlark_c.specs.Records.{values}
 use Rattle.starlark_c.specs.declared.endings.Ending.{Ending}

@@ -6,7 +6,7 @@ use Rattle.std.specs.Str.{byte}
 use Rattle.std.proofs.lemmas.Bool.{both_ways}
 use Rattle.std.proofs.lemmas.List.{drop-append-le, length-map, length-take, map-append, take-append-drop, take-append-le, take_at}
 use Rattle.starlark_c.specs.Endings.{IsPiece, lexemes_of}
-use Rattle.starlark_c.specs.Inner.Filling.{is_without_margin}
+use Rattle.starlark_c.specs.LastCuts.{is_without_margin}
 use Rattle.starlark_grammar.specs.Cuts.{is_clean_cut, is_kept_cut, without_closing}
 use Rattle.starlark_grammar.specs.Margins.{blanks_len, has_tab, is_blank, is_comment_only, is_lf, lines, margin_of}
 use Rattle.starlark_grammar.specs.Pieces.{Fails}

@@ -18,7 +18,7 @@ values_more xs x =
     flat_map-append (λ (lexeme : Spanned TokenView). value_bytes lexeme.node) xs (x ∷ [])
     ∙ ap (λ bytes. values xs ++ bytes) (append-nil (value_bytes x.node))
 
-values_cons : (x : Spanned TokenView) (xs : List (Spanned TokenView)) → length (values (x ∷ xs)) ≡ length (value_bytes x.node) + length (values xs)
+pub values_cons : (x : Spanned TokenView) (xs : List (Spanned TokenView)) → length (values (x ∷ xs)) ≡ length (value_bytes x.node) + length (values xs)
 unfolding values
 values_cons x xs = length-append (value_bytes x.node) (values xs)
 

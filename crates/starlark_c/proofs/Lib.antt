@@ -3,7 +3,9 @@
 -- Filled: records and values of one lexeme more.
 -- CutTexts: a piece of a text: what is before a kept cut. Also of one that begins with the text.
 -- Ends: how lexing ends after all lexemes of a text.
+-- LineEnds: only after a `Newline` or a comment may a text be cut.
 -- Stops: where a text may be cut, and how lexing ends.
+-- LastStops: after the last stop no cut has room.
 -- Wanted: how much is wanted for the first lexemes of a text.
 -- NextLexemes: the buffers after the next lexeme of a text, and the lexer after it.
 -- KindNames: the names of the grammar's tokens, found by their numbers.
@@ -26,7 +28,9 @@ pub mod YieldedItems
 pub mod Filled
 pub mod CutTexts
 pub mod Ends
+pub mod LineEnds
 pub mod Stops
+pub mod LastStops
 pub mod Wanted
 pub mod NextLexemes
 pub mod KindNames

@@ -1,14 +1,15 @@
 -- The buffers after the next lexeme of a text, and the lexer after it.
 use Rattle.std.proofs.Common.{◌≡◌, ℕ, ◌+◌, ◌≤◌, ◌||◌, false, refl, length, take, ap, ◌∙◌, arith, Ok, Err}
-use Rattle.std.specs.Prelude.{Bool, ⊤}
+use Rattle.std.specs.Prelude.{Bool, Option, ⊤}
 use Rattle.starlark_c.specs.Endings.{Buffers, Hold, IsText, lexemes_of}
-use Rattle.starlark_c.specs.Inner.Filling.{EndsWithCutPoint, IsOverflow, IsCutPoint, MayStop, PutsNext, filled_by, wanted_by}
+use Rattle.starlark_c.specs.Inner.Filling.{EndsWithCutPoint, IsCutPoint, IsLastStop, IsOverflow, MayStop, PutsNext, filled_by, wanted_by}
 use Rattle.starlark_c.specs.Records.{records, value_bytes, values}
 use Rattle.starlark_c.specs.declared.endings.Ending.{Ending}
 use Rattle.starlark_c.specs.declared.endings.Filled.{Filled}
 use Rattle.starlark_c.specs.declared.fill_state.FillState.{FillState}
 use Rattle.starlark_c.proofs.Filled.{put_next}
 use Rattle.starlark_c.proofs.YieldedItems.{IsNext}
+use Rattle.starlark_c.proofs.LastStops.{lacks_next, last_with_room, overflow_last}
 use Rattle.starlark_c.proofs.Stops.{all_but, overflow_filled, overflows, stop_stays}
 use Rattle.starlark_grammar.specs.Tokens.{Spanned}
 use Rattle.starlark_grammar.specs.Words.{Text}
@@ -29,8 +30,8 @@ has_filled_more text n x old new before now after done had next puts =
     let more = put_next (lexemes_of text) n x before now after old.filled new.filled next.more had.hold had.filled puts.0 in
     record { few = next.few; hold = more.hold; filled = more.counts; stop = rw puts.1 (stop_stays text n old.stop had.stop) }
 
-pub may_stop : (text : Text) (n : ℕ) (progress : FillState) (before now : Buffers) → HasFilled text (n + 1) progress before now → MayStop text (n + 1) progress
-may_stop text n progress before now had = record { some = omega arith; few = had.few; filled = had.filled; stop = had.stop }
+pub may_stop : (text : Text) (n : ℕ) (progress : FillState) (before now : Buffers) → HasFilled text (n + 1) progress before now → IsLastStop text n progress.stop → MayStop text (n + 1) progress
+may_stop text n progress before now had last = record { some = omega arith; last = λ more at later few is. last more at later (omega (arith, few)) is; few = had.few; filled = had.filled; stop = had.stop }
 
 -- and then with a stop
 pub has_stopped : (text : Text) (n : ℕ) (old new : FillState) (before now : Buffers) → HasFilled text n old before now → new.filled ≡ old.filled → IsCutPoint text n new.stop → HasFilled text n new before now
@@ -44,15 +45,16 @@ wanted_with_next text n x old new before now after wanted had next puts =
     puts.2 ∙ ap (λ k. wanted_by k (old.filled.values + length (value_bytes x.node))) both.0 ∙ ap (wanted_by (n + 1)) both.1
 
 -- how lexing ends then
-pub ends_without_room : (text : Text) (n : ℕ) (x : Spanned TokenView) (old new : FillState) (before now after : Buffers) (wanted : Filled) (end : Ending) (is_front : Bool) → IsText text → old.stop.is_front ≡ is_front → HasFilled text n old before now → IsNext text n x → PutsNext x old new now after (Err wanted)
+pub ends_without_room : (text : Text) (n : ℕ) (x : Spanned TokenView) (old new : FillState) (before now after : Buffers) (wanted : Filled) (end : Ending) (is_front : Bool) → IsText text → old.stop.is_front ≡ is_front → HasFilled text n old before now → IsLastStop text n old.stop → IsNext text n x → PutsNext x old new now after (Err wanted)
     → IsOverflow text (n + 1) new end → EndsWithCutPoint text is_front before after (end, new.stop)
-ends_without_room text n x old new before now after wanted end is_front is kind had next puts over = (
+ends_without_room text n x old new before now after wanted end is_front is kind had last next puts over = (
   overflows text before now after n x old end is next had.few had.hold had.filled had.stop puts.0 (rw puts.1 at over),
   n,
   had.few,
   rw puts.1 had.stop,
   rw puts.1 kind,
   overflow_filled text (n + 1) new end over,
+  rw puts.1 (overflow_last is_front text before (n + 1) old end (last_with_room is_front text before n old.stop kind (lacks_next text before now after n x old.filled next had.few had.hold had.filled puts.0) last) (rw puts.1 at over)),
 )
 
 -- a lexer that goes on in a text, with so many lexemes yielded
@@ -61,18 +63,18 @@ pub record IsGoing (text : Text) (n : ℕ) (lexer : LexerView) : Type 0 where
   pub text_is : lexer.text ≡ text
   pub count : lexer.yielded_count ≡ n
 
-pub goes_on : (text : Text) (n more reads : ℕ) (old new : LexerView) → IsGoing text n old → new ≡ record old { yielded_count = old.yielded_count + more; reads = reads } → IsGoing text (n + more) new
-goes_on text n more reads old new is after = record {
+pub goes_on : (text : Text) (n more reads : ℕ) (cut : Option ℕ) (old new : LexerView) → IsGoing text n old → new ≡ record old { yielded_count = old.yielded_count + more; reads = reads; cut = cut } → IsGoing text (n + more) new
+goes_on text n more reads cut old new is after = record {
   going = ap (λ (l : LexerView). l.has_ended) after ∙ is.going;
   text_is = ap (λ (l : LexerView). l.text) after ∙ is.text_is;
   count = ap (λ (l : LexerView). l.yielded_count) after ∙ ap (λ k. k + more) is.count;
 }
 
-pub stays : (text : Text) (n reads : ℕ) (old new : LexerView) → IsGoing text n old → new ≡ record old { yielded_count = old.yielded_count + 0; reads = reads } → IsGoing text n new
-stays text n reads old new is after = let same : n + 0 ≡ n = omega arith in rw same at (goes_on text n 0 reads old new is after)
+pub stays : (text : Text) (n reads : ℕ) (cut : Option ℕ) (old new : LexerView) → IsGoing text n old → new ≡ record old { yielded_count = old.yielded_count + 0; reads = reads; cut = cut } → IsGoing text n new
+stays text n reads cut old new is after = let same : n + 0 ≡ n = omega arith in rw same at (goes_on text n 0 reads cut old new is after)
 
-pub goes_on_with : (text : Text) (n reads : ℕ) (old new : LexerView) → IsGoing text n old → new ≡ record old { yielded_count = old.yielded_count + 1; has_ended = old.has_ended || false; reads = reads } → IsGoing text (n + 1) new
-goes_on_with text n reads old new is after = record {
+pub goes_on_with : (text : Text) (n reads : ℕ) (cut : Option ℕ) (old new : LexerView) → IsGoing text n old → new ≡ record old { yielded_count = old.yielded_count + 1; has_ended = old.has_ended || false; reads = reads; cut = cut } → IsGoing text (n + 1) new
+goes_on_with text n reads cut old new is after = record {
   going = ap (λ (l : LexerView). l.has_ended) after ∙ rw is.going refl;
   text_is = ap (λ (l : LexerView). l.text) after ∙ is.text_is;
   count = ap (λ (l : LexerView). l.yielded_count) after ∙ ap (λ k. k + 1) is.count;

@@ -2,7 +2,8 @@
 use Rattle.std.proofs.Common.{◌≡◌, ℕ, ◌+◌, ◌≤◌, ◌<◌, length, take, drop, refl, ap, sym, ◌∙◌, arith, Some, true, inl, inr, subst, ◌++◌, ◌⊎◌, length-append}
 use Rattle.std.proofs.lemmas.List.{length-take, length-take-le, take-take}
 use Rattle.starlark_c.specs.Endings.{Buffers, Ends, EndsFront, Hold, IsCut, IsText, all_values, lexemes_of, named}
-use Rattle.starlark_c.specs.Inner.Filling.{EndsAtFault, EndsWithCutPoint, HasNoRoom, IsCutIn, IsFilledTo, IsOverflow, IsCutPoint, IsCutPointIn, IsStopped, MayStop, filled_by, has_stop}
+use Rattle.starlark_c.specs.Inner.Filling.{EndsAtFault, EndsWithCutPoint, HasNoRoom, IsFilledTo, IsOverflow, IsCutPoint, IsCutPointIn, IsStopped, MayStop, filled_by, has_stop}
+use Rattle.starlark_c.specs.LastCuts.{IsCutIn}
 use Rattle.starlark_c.specs.Records.{records, value_bytes, values}
 use Rattle.starlark_c.specs.declared.endings.Ending.{Ending}
 use Rattle.starlark_c.specs.declared.endings.Ending.TheVariants as ending
@@ -75,11 +76,11 @@ pub overflows : (text : Text) (before now after : Buffers) (n : ℕ) (x : Spanne
     → Hold (records (take n (lexemes_of text))) (values (take n (lexemes_of text))) before now → progress.filled ≡ filled_by (take n (lexemes_of text)) → IsCutPoint text n progress.stop
     → HasNoRoom x progress.filled now after → IsOverflow text (n + 1) progress end → Ends text before after end
 overflows text before now after n x progress (ending.Full wanted) is one few held counted stop none over =
-    (is, record { lexemes = over.all_lexemes; bytes = over.all_bytes; first = over.first; lacks = lacking none.lacks; needs = over.needs; count = n; few = few; hold = rw (none.lexemes, none.values) held })
+    (is, record { lexemes = over.0.all_lexemes; bytes = over.0.all_bytes; first = over.0.first; lacks = lacking none.lacks; needs = over.0.needs; count = n; few = few; hold = rw (none.lexemes, none.values) held })
   where
-    lacking : (length now.lexemes < progress.filled.lexemes + 1) ⊎ (length now.values < progress.filled.values + length (value_bytes x.node)) → (length before.lexemes < over.all_lexemes) ⊎ (length before.values < over.all_bytes)
-    lacking (inl short) = inl (omega (arith, short, (all_but text n x progress.filled one few counted).0, (same_sizes before now (take n (lexemes_of text)) held).0, over.more_lexemes))
-    lacking (inr short) = inr (omega (arith, short, (all_but text n x progress.filled one few counted).1, (same_sizes before now (take n (lexemes_of text)) held).1, over.more_bytes))
+    lacking : (length now.lexemes < progress.filled.lexemes + 1) ⊎ (length now.values < progress.filled.values + length (value_bytes x.node)) → (length before.lexemes < over.0.all_lexemes) ⊎ (length before.values < over.0.all_bytes)
+    lacking (inl short) = inl (omega (arith, short, (all_but text n x progress.filled one few counted).0, (same_sizes before now (take n (lexemes_of text)) held).0, over.0.more_lexemes))
+    lacking (inr short) = inr (omega (arith, short, (all_but text n x progress.filled one few counted).1, (same_sizes before now (take n (lexemes_of text)) held).1, over.0.more_bytes))
 overflows text before now after n x progress (ending.Piece filled next) is one few held counted stop none over = stopped text before now after n progress (ending.Piece filled next) is few held counted stop none.lexemes none.values over
 overflows text before now after n x progress (ending.Memory told) is one few held counted stop none over = stopped text before now after n progress (ending.Memory told) is few held counted stop none.lexemes none.values over
 overflows text before now after n x progress (ending.Whole filled) is one few held counted stop none over = absurd over
@@ -92,7 +93,7 @@ pub ends_at_fault : (text : Text) (before now : Buffers) (values_after : Text) (
     → Hold (records (take n (lexemes_of text))) (values (take n (lexemes_of text))) before now → progress.filled ≡ filled_by (take n (lexemes_of text)) → IsCutPoint text n progress.stop → EndsAtFault text fault progress now.values values_after end
     → Ends text before (record { lexemes = now.lexemes; values = values_after }) end
 ends_at_fault text before now values_after n fault progress (ending.Fault more told) is has all held counted stop ends = ends_fault text before now values_after n fault progress.filled (ending.Fault more told) is has all held counted ends
-ends_at_fault text before now values_after n fault progress (ending.Full wanted) is has all held counted stop ends = ends_fault text before now values_after n fault progress.filled (ending.Full wanted) is has all held counted ends
+ends_at_fault text before now values_after n fault progress (ending.Full wanted) is has all held counted stop ends = ends_fault text before now values_after n fault progress.filled (ending.Full wanted) is has all held counted ends.0
 ends_at_fault text before now values_after n fault progress (ending.Piece filled next) is has all held counted stop ends = stopped text before now _ n progress (ending.Piece filled next) is (omega (arith, all)) held counted stop refl ends.1 ends.0
 ends_at_fault text before now values_after n fault progress (ending.Memory told) is has all held counted stop ends = stopped text before now _ n progress (ending.Memory told) is (omega (arith, all)) held counted stop refl ends.1 ends.0
 ends_at_fault text before now values_after n fault progress (ending.Whole filled) is has all held counted stop ends = absurd ends.0

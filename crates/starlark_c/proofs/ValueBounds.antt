@@ -1,8 +1,7 @@
 -- A text's values, with the text that its fault names, have no more bytes than the text.
-use Rattle.std.proofs.Common.{◌≡◌, ℕ, zero, suc, ◌+◌, ◌*◌, ◌≤◌, Bool, true, false, not, List, [], ◌∷◌, ◌++◌, map, length, take, drop, take_while, replicate, sum_by, refl, ap, sym, subst, ◌∙◌, arith, Option, Some, None, nat_eq, length-append, length-drop}
-use Rattle.std.specs.Prelude.{⊤, ◌&&◌, ◌==◌, if◌then◌else◌, codes, nat_lt}
+use Rattle.std.proofs.Common.{◌≡◌, ℕ, zero, suc, ◌+◌, ◌≤◌, not, List, [], ◌∷◌, ◌++◌, map, length, take, drop, take_while, replicate, sum_by, refl, ap, subst, arith, Option, Some, None, nat_eq, length-append, length-drop}
+use Rattle.std.specs.Prelude.{⊤, ◌&&◌, ◌==◌, nat_lt}
 use Rattle.std.proofs.lemmas.List.{length-map, length-take}
-use Rattle.std.proofs.lemmas.List.Concat.{flat_map-cons}
 use Rattle.std.proofs.lemmas.List.Sums.{sum_by-cons}
 use Rattle.std.specs.Char.{to_ascii_lowercase}
 use Rattle.std.specs.List.{prefix_len}
@@ -11,11 +10,10 @@ use Rattle.std.specs.Str.Parse.{digits_value}
 use Rattle.starlark_c.specs.Endings.{all_values, lexemes_of, named}
 use Rattle.starlark_c.specs.Records.{fault_bytes, token_bytes, value_bytes, values}
 use Rattle.starlark_c.proofs.ItemBounds.{body_short}
-use Rattle.starlark_grammar.specs.FrontCharacter.{first_character}
 use Rattle.starlark_grammar.specs.Depths.{Mode, Outside, InText, AtTop, Deeper}
 use Rattle.starlark_grammar.specs.Front.{longest_front}
 use Rattle.starlark_grammar.specs.Items.{Stop, Closing, Line, Ended, OpeningBrace, ClosingBrace, BadEscape, Body, body_at, body_from, body_len, body_value, closing_quotes}
-use Rattle.starlark_grammar.specs.Margins.{Margin, blanks_len, comment_lines, comment_of, comment_part, comments_from, fits, has_tab, indentation, is_content, is_lf, is_widest, margin_of, open_widths, width_of, without_return}
+use Rattle.starlark_grammar.specs.Margins.{Margin, blanks_len, comment_lines, comment_part, comments_from, fits, has_tab, indentation, is_content, is_lf, is_widest, margin_of, open_widths, width_of, without_return}
 use Rattle.starlark_grammar.specs.Numbers.{Big, Integer, Small, integer_of, is_negative, is_small, plain_digits, signed}
 use Rattle.starlark_grammar.specs.Pieces.{Before, Nothing, Layout, Gap, Other, Piece, Step, Stands, Fails, Ends, Situation, by_before, by_mode, chunk, chunk_by, chunk_text, counts, escape_fault, front_step, in_code, is_bang, is_plain, literal, literal_by, literal_token, margin_step, more_quotes, opener, opening_of, starts_zero, step_at, takes_bang, terminal_token, token, unfinished, word_step}
 use Rattle.starlark_grammar.specs.Longest.{IsLongestReading, IsReading}

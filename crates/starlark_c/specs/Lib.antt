@@ -1,6 +1,7 @@
 pub mod Kinds
 pub mod Records
 pub mod Endings
+pub mod LastCuts
 pub mod Outcomes
 pub mod Written
 pub mod Messages

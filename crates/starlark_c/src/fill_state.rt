@@ -1,7 +1,8 @@
 //! How far a text is lexed into buffers, and where it may be cut.
 
 ghost use Rattle.std.specs.Prelude.{◌≡◌};
-ghost use Rattle.starlark_c.specs.Inner.Filling.{wanted_with};
+ghost use Rattle.starlark_c.specs.Inner.Filling.{ends_line, wanted_with};
+ghost use Rattle.starlark_grammar.specs.Words.{Text};
 ghost use Rattle.starlark_syntax.specs.PlainLexemes.{IsPlainIn, plain_view};
 ghost use Rattle.starlark_token.specs.TokenViews.{token_view};
 
@@ -54,7 +55,9 @@ pub fn want_lexeme(filled: Filled, lexeme: (usize, Token, usize)) -> Filled
 /// Whether a plain lexeme is the last of its line, and so can be the last before a cut: a `Newline`,
 /// or the comment of a comment-only line.
 #[inline(always)]
-pub fn is_last_of_line(plain: PlainLexeme) -> bool {
+pub fn is_last_of_line(plain: PlainLexeme) -> bool
+    ensures { (text : Text) → result ≡ ends_line (plain_view text plain).node }
+{
     matches!(plain.kind, PlainKind::Newline | PlainKind::Comment)
 }
 

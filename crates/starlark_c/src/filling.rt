@@ -1,13 +1,15 @@
 //! Fills the caller's buffers with the lexemes of a text, as the lexer yields them.
 
-ghost use Rattle.std.specs.Prelude.{◌≡◌, ◌<◌, ◌≤◌, ◌+◌, ◌^◌, ℕ, Some, IfSome, IfNone, false, length, take};
+ghost use Rattle.std.specs.Prelude.{◌≡◌, ◌<◌, ◌≤◌, ◌+◌, ◌^◌, ℕ, None, Some, IfSome, IfNone, false, length, take};
 ghost use Rattle.starlark_base.specs.Sources.{SourceFile};
 ghost use Rattle.starlark_c.specs.Endings.{IsText, lexemes_of};
-ghost use Rattle.starlark_c.specs.Inner.Filling.{EndsAtFault, EndsByFault, EndsWithCutPoint, IsCutIn, IsOverflow, IsCutPoint, IsStopped, IsWanted, MayStop, Puts, PutsNext, is_without_margin, put, wanted_by};
+ghost use Rattle.starlark_c.specs.Inner.Filling.{EndsAtFault, EndsByFault, EndsWithCutPoint, IsCutPoint, IsLastStop, IsOverflow, IsStopped, IsWanted, MayStop, Puts, PutsNext, put, wanted_by};
+ghost use Rattle.starlark_c.specs.LastCuts.{IsCutIn, is_without_margin};
 ghost use Rattle.starlark_c.specs.Kinds.{token_number};
 ghost use Rattle.starlark_c.specs.Records.{fault_bytes, value_bytes, values};
 ghost use Rattle.starlark_grammar.specs.Reading.{outcome};
 ghost use Rattle.starlark_grammar.specs.Tokens.{Fault as GrammarFault, Spanned};
+ghost use Rattle.starlark_syntax.specs.CutAfter.{IsCutAfter, KnowsCut};
 ghost use Rattle.starlark_syntax.specs.Exceptions.{IsException, IsFaultIn};
 ghost use Rattle.starlark_grammar.specs.Words.{Text};
 ghost use Rattle.starlark_syntax.specs.PlainLexemes.{IsPlainIn, plain_view, token_of};
@@ -242,7 +244,7 @@ fn named_len(exception: EvalException) -> usize
 }
 
 /// Whether a line begins with neither a blank nor a comment.
-#[tactic(auto, unfolding(crate::specs::Inner::Filling::is_without_margin))]
+#[tactic(auto, unfolding(crate::specs::LastCuts::is_without_margin))]
 fn has_no_margin(line: &[u8]) -> bool
     ensures { result ≡ is_without_margin line.now }
 {
@@ -261,7 +263,8 @@ fn has_no_margin(line: &[u8]) -> bool
 #[inline(always)]
 fn cut_of(text: &str, is_front: bool, lexer: &Lexer<'_>) -> Option<usize>
     requires { lexer.now.text ≡ text.now }
-    ensures { IfSome result (IsCutIn text.now is_front lexer.now.yielded_count) }
+    ensures cut { IfSome result (IsCutIn text.now is_front lexer.now.yielded_count) }
+    ensures found { KnowsCut lexer.now.text lexer.now.yielded_count lexer.now.cut → (at : ℕ) → IsCutIn text.now is_front lexer.now.yielded_count at → result ≡ Some at }
 {
     let at = lexer.cut()?;
     if is_front && !has_no_margin(&text.as_bytes()[at..]) {
@@ -322,7 +325,8 @@ fn count_first_piece(
 /// there is no stop.
 fn end_at_stop(_text: &str, progress: FillState) -> Option<Ending>
     requires stop { (yielded : ℕ) × IsCutPoint _text.now yielded progress.stop }
-    ensures { IfSome result (IsStopped _text.now progress) }
+    ensures stop { IfSome result (IsStopped _text.now progress) }
+    ensures none { IfNone result (progress.stop.filled.lexemes ≡ 0) }
 {
     if progress.stop.filled.lexemes == 0 {
         return None;
@@ -378,9 +382,12 @@ fn end_at_fault(
 fn stop_after(progress: &mut FillState, may_stop: bool, text: &str, lexer: &Lexer<'_>)
     requires same { lexer.now.text ≡ text.now }
     requires may { MayStop text.now lexer.now.yielded_count progress.old }
+    requires known { KnowsCut lexer.now.text lexer.now.yielded_count lexer.now.cut }
+    requires none { may_stop ≡ false → (at : ℕ) → IsCutAfter text.now lexer.now.yielded_count at → ⊥ }
     ensures filled { progress.new.filled ≡ progress.old.filled }
     ensures stop { IsCutPoint text.now lexer.now.yielded_count progress.new.stop }
     ensures kind { progress.new.stop.is_front ≡ progress.old.stop.is_front }
+    ensures last { IsLastStop text.now lexer.now.yielded_count progress.new.stop }
 {
     if !may_stop {
         return;
@@ -401,7 +408,7 @@ pub fn fill(
     lexemes: &mut [LexemeRecord],
     values: &mut [u8],
 ) -> (Ending, CutPoint)
-    requires fresh { lexer.old ≡ record { text = text.now; code_map = lexer.old.code_map; yielded_count = 0; has_ended = false; reads = 0 } }
+    requires fresh { lexer.old ≡ record { text = text.now; code_map = lexer.old.code_map; yielded_count = 0; has_ended = false; reads = 0; cut = None } }
     requires text { IsText text.now }
     ensures { EndsWithCutPoint text.now is_front (record { lexemes = lexemes.old; values = values.old }) (record { lexemes = lexemes.new; values = values.new }) result }
 {

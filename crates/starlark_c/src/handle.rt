@@ -1,4 +1,4 @@
-//! A document on the heap behind a pointer that C keeps.
+//! A document on the heap, whose pointer C keeps.
 
 ghost use Rattle.std.specs.Prelude.{◌≡◌, ℕ, List, IsSome, IsNone};
 ghost use Rattle.std.specs.declared.option.Option.{Option};

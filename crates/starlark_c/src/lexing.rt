@@ -1,8 +1,9 @@
 //! Lexes bytes that may be no text into the caller's buffers.
 
-ghost use Rattle.std.specs.Prelude.{◌≡◌, ◌<◌, ◌^◌, [], IfOk, IfSome, false, length, true};
+ghost use Rattle.std.specs.Prelude.{◌≡◌, ◌<◌, ◌^◌, [], IfOk, IfSome, None, false, length, true};
 ghost use Rattle.starlark_c.specs.Endings.{Buffers, Ends, EndsFront};
 ghost use Rattle.starlark_c.specs.Inner.Filling.{EndsWithCutPoint, has_stop};
+ghost use Rattle.starlark_c.specs.LastCuts.{StopsAtLastCut};
 ghost use Rattle.starlark_grammar.specs.Words.{Text};
 
 use crate::endings::{Ending, Filled};
@@ -27,7 +28,7 @@ pub fn empty_file(alloc: Global) -> Result<CodeMap, AllocError>
 /// `None` where memory runs out.
 fn lexer_of(alloc: Global, text: &str) -> Option<Lexer<'_>>
     requires { length text.now < 2 ^ 32 }
-    ensures { IfSome result (λ lexer. lexer ≡ record { text = text.now; code_map = record { id = 0; filename = []; source = [] }; yielded_count = 0; has_ended = false; reads = 0 }) }
+    ensures { IfSome result (λ lexer. lexer ≡ record { text = text.now; code_map = record { id = 0; filename = []; source = [] }; yielded_count = 0; has_ended = false; reads = 0; cut = None }) }
 {
     let file = empty_file(alloc).ok()?;
     Lexer::new(alloc, text, &Dialect::Extended, file).ok()
@@ -69,7 +70,8 @@ pub fn lex_into(
     lexemes: &mut [LexemeRecord],
     values: &mut [u8],
 ) -> Ending
-    ensures { Ends bytes.now (record { lexemes = lexemes.old; values = values.old }) (record { lexemes = lexemes.new; values = values.new }) result }
+    ensures ends { Ends bytes.now (record { lexemes = lexemes.old; values = values.old }) (record { lexemes = lexemes.new; values = values.new }) result }
+    ensures last { StopsAtLastCut false bytes.now (record { lexemes = lexemes.old; values = values.old }) result }
 {
     lex_with_stop(alloc, bytes, false, lexemes, values).0
 }
@@ -87,7 +89,8 @@ fn is_past_stop(ending: Ending) -> bool
 /// How lexing the front of a longer text ends: at the last stop, if there is one, and else as lexing
 /// it as a text does.
 fn front_ending(ending: Ending, stop: CutPoint) -> Ending
-    ensures { (text : Text) (before after : Buffers) → EndsWithCutPoint text true before after (ending, stop) → EndsFront text before after result }
+    ensures ends { (text : Text) (before after : Buffers) → EndsWithCutPoint text true before after (ending, stop) → EndsFront text before after result }
+    ensures last { (text : Text) (before after : Buffers) → EndsWithCutPoint text true before after (ending, stop) → StopsAtLastCut true text before result }
 {
     if stop.filled.lexemes == 0 {
         return ending;
@@ -108,7 +111,8 @@ pub fn lex_front(
     lexemes: &mut [LexemeRecord],
     values: &mut [u8],
 ) -> Ending
-    ensures { EndsFront bytes.now (record { lexemes = lexemes.old; values = values.old }) (record { lexemes = lexemes.new; values = values.new }) result }
+    ensures ends { EndsFront bytes.now (record { lexemes = lexemes.old; values = values.old }) (record { lexemes = lexemes.new; values = values.new }) result }
+    ensures last { StopsAtLastCut true bytes.now (record { lexemes = lexemes.old; values = values.old }) result }
 {
     let (ending, stop) = lex_with_stop(alloc, bytes, true, lexemes, values);
     front_ending(ending, stop)

@@ -5,7 +5,7 @@
 //! `bindings/c/starlark_lex.h` declares all calls.
 #![tactic(auto)]
 
-ghost use Rattle.std.specs.Prelude.{◌≡◌, None, [], length};
+ghost use Rattle.std.specs.Prelude.{◌≡◌, None, [], false, length, true};
 ghost use Rattle.starlark_c.specs.DocumentItems.{FillsWith, faults_touching, filled_record, lexemes_touching};
 ghost use Rattle.starlark_c.specs.DocumentSlots.{Edits, GivesText, IsOffsetAt, Opens, TellsPlaceOf};
 ghost use Rattle.starlark_c.specs.Endings.{Ends, EndsFront};
@@ -13,6 +13,7 @@ ghost use Rattle.starlark_c.specs.NumberedCodes.{code_at};
 ghost use Rattle.starlark_c.specs.FinalFaults.{IsFinal};
 ghost use Rattle.starlark_c.specs.HeldDocuments.{held_len};
 ghost use Rattle.starlark_c.specs.Kinds.{NamesTokens, kind_name};
+ghost use Rattle.starlark_c.specs.LastCuts.{StopsAtLastCut};
 ghost use Rattle.starlark_c.specs.Messages.{TellsErrors, fault_message};
 ghost use Rattle.starlark_c.specs.Outcomes.{AreBounded, outcome_record};
 ghost use Rattle.starlark_c.specs.PlaceRecords.{MovesPlace, TellsPlace};
@@ -95,7 +96,7 @@ pub extern "C" fn starlark_lex(
     values: &mut [u8],
     outcome: &mut LexOutcome,
 ) -> u32
-    ensures lexed { (ending : Ending) × (outcome.new ≡ outcome_record (length text.now) ending) × Ends text.now (record { lexemes = lexemes.old; values = values.old }) (record { lexemes = lexemes.new; values = values.new }) ending }
+    ensures lexed { (ending : Ending) × (outcome.new ≡ outcome_record (length text.now) ending) × Ends text.now (record { lexemes = lexemes.old; values = values.old }) (record { lexemes = lexemes.new; values = values.new }) ending × StopsAtLastCut false text.now (record { lexemes = lexemes.old; values = values.old }) ending }
     ensures bounded { AreBounded (length text.now) outcome.new }
     ensures status { result ≡ outcome.new.status }
 {
@@ -117,7 +118,7 @@ pub extern "C" fn starlark_lex_front(
     values: &mut [u8],
     outcome: &mut LexOutcome,
 ) -> u32
-    ensures lexed { (ending : Ending) × (outcome.new ≡ outcome_record (length front.now) ending) × EndsFront front.now (record { lexemes = lexemes.old; values = values.old }) (record { lexemes = lexemes.new; values = values.new }) ending }
+    ensures lexed { (ending : Ending) × (outcome.new ≡ outcome_record (length front.now) ending) × EndsFront front.now (record { lexemes = lexemes.old; values = values.old }) (record { lexemes = lexemes.new; values = values.new }) ending × StopsAtLastCut true front.now (record { lexemes = lexemes.old; values = values.old }) ending }
     ensures bounded { AreBounded (length front.now) outcome.new }
     ensures status { result ≡ outcome.new.status }
 {

@@ -9,9 +9,11 @@ ghost use Rattle.starlark_c.specs.PlaceRecords.{AreCharacters, MovesPlace, Tells
 ghost use Rattle.starlark_c.specs.Inner.OneLinePlaces.{place_on_line};
 ghost use Rattle.starlark_grammar.specs.Words.{Text};
 
+use starlark_base::position::{newline_count, pair_count};
 use starlark_text::character_starts::count_characters;
 
 /// The line and columns of an offset in a text. Each counts from 0.
+// A type of its own, and not `Position`: the order and size of its numbers are part of the calls from C.
 #[repr(C)]
 #[derive(Clone, Copy)]
 pub struct PlaceRecord {
@@ -34,21 +36,6 @@ impl PlaceRecord {
             utf16_column: 0,
         }
     }
-}
-
-/// Number of LF in a text.
-fn newline_count(text: &str) -> usize
-    ensures { result ≡ count_by is_lf text.now }
-{
-    text.as_bytes().iter().filter(|b| **b == b'\n').count()
-}
-
-/// Number of characters in a text that take two units of UTF-16.
-fn pair_count(text: &str) -> usize
-    ensures value { result ≡ count_by starts_pair text.now }
-    ensures within { result ≤ length text.now }
-{
-    text.as_bytes().iter().filter(|b| 240 <= **b).count()
 }
 
 /// The place after a text that begins at a place, and that is of one line.

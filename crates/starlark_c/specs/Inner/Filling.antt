@@ -1,18 +1,16 @@
 -- One more lexeme or fault in the caller's buffers.
-use Rattle.std.specs.Prelude.{◌≡◌, ◌<◌, ◌≤◌, ◌+◌, ◌⊎◌, ◌||◌, ◌==◌, not, ℕ, Bool, true, false, List, [], ◌∷◌, ◌++◌, length, take, drop, Option, Some, None, Result, Ok, Err, ⊤}
-use Rattle.std.specs.Str.{byte}
+use Rattle.std.specs.Prelude.{◌≡◌, ◌<◌, ◌≤◌, ◌+◌, ◌-◌, ◌⊎◌, ℕ, Bool, true, false, List, [], ◌∷◌, ◌++◌, length, take, drop, Option, Some, None, Result, Ok, Err, ⊤}
 use Rattle.starlark_c.specs.Endings.{AreFirst, Buffers, Ends, capped, lexemes_of}
+use Rattle.starlark_c.specs.LastCuts.{IsCutIn, IsLastCut}
 use Rattle.starlark_c.specs.Records.{fault_bytes, fault_record, record_of, value_bytes, values}
 use Rattle.starlark_c.specs.declared.endings.Ending.{Ending}
 use Rattle.starlark_c.specs.declared.endings.Ending.TheVariants as ending
 use Rattle.starlark_c.specs.declared.endings.Filled.{Filled}
 use Rattle.starlark_c.specs.declared.fill_state.FillState.{FillState}
 use Rattle.starlark_c.specs.declared.fill_state.CutPoint.{CutPoint}
-use Rattle.starlark_grammar.specs.Margins.{is_blank}
 use Rattle.starlark_grammar.specs.Tokens as grammar
 use Rattle.starlark_grammar.specs.Words.{Text}
-use Rattle.starlark_syntax.specs.CutAfter.{IsCutAfter}
-use Rattle.starlark_token.specs.TokenViews.{TokenView}
+use Rattle.starlark_token.specs.TokenViews.{TokenView, Whole}
 
 -- a list with some items in place of those from `at` on
 abbrev pub put : {A : Type 0} → ℕ → List A → List A → List A
@@ -57,15 +55,11 @@ EndsByFault fault filled before after end = ⊥
 abbrev pub filled_by : List (grammar.Spanned TokenView) → Filled
 filled_by xs = record { lexemes = length xs; values = length (values xs) }
 
--- A text whose first line begins with neither a blank nor a comment. Its first margin is empty, whatever follows.
-unfoldable pub is_without_margin : Text → Bool
-is_without_margin [] = false
-is_without_margin (b ∷ bs) = not (is_blank b || b == byte "#")
-
--- the text may be cut after `at` bytes and `count` lexemes, and the front of one whatever follows it
-pub record IsCutIn (text : Text) (is_front : Bool) (count at : ℕ) : Type 0 where
-  pub cut : IsCutAfter text count at
-  pub stays : is_front ≡ true → is_without_margin (drop at text) ≡ true
+-- a `Newline` or a comment: only after one may a text be cut
+abbrev pub ends_line : TokenView → Bool
+ends_line (Whole grammar.Newline) = true
+ends_line (Whole (grammar.Comment text)) = true
+ends_line view = false
 
 -- the text may be cut at a stop, after some of the lexemes yielded so far
 pub record IsCutPointIn (text : Text) (yielded : ℕ) (stop : CutPoint) : Type 0 where
@@ -78,9 +72,14 @@ pub record IsCutPointIn (text : Text) (yielded : ℕ) (stop : CutPoint) : Type 0
 abbrev pub IsCutPoint : Text → (yielded : ℕ) → CutPoint → Type 0
 IsCutPoint text yielded stop = (stop.filled.lexemes ≡ 0) ⊎ IsCutPointIn text yielded stop
 
+-- no cut is after more lexemes than a stop, and after `yielded` of them at most
+abbrev pub IsLastStop : Text → (yielded : ℕ) → CutPoint → Type 0
+IsLastStop text yielded stop = (more at : ℕ) → stop.filled.lexemes < more → more ≤ yielded → IsCutIn text stop.is_front more at → ⊥
+
 -- the lexemes yielded so far fill the buffers, and there may be a stop after them
 pub record MayStop (text : Text) (yielded : ℕ) (progress : FillState) : Type 0 where
   pub some : 0 < yielded
+  pub last : IsLastStop text (yielded - 1) progress.stop
   pub few : yielded ≤ length (lexemes_of text)
   pub filled : progress.filled ≡ filled_by (take yielded (lexemes_of text))
   pub stop : IsCutPoint text yielded progress.stop
@@ -114,13 +113,13 @@ IsStopped text progress end = ⊥
 
 -- how lexing ends where the last of `count` lexemes has no room: at the stop, or with what is wanted
 abbrev pub IsOverflow : Text → (count : ℕ) → FillState → Ending → Type 0
-IsOverflow text count progress (ending.Full wanted) = IsWanted text count wanted
+IsOverflow text count progress (ending.Full wanted) = IsWanted text count wanted × (progress.stop.filled.lexemes ≡ 0)
 IsOverflow text count progress end = IsStopped text progress end
 
 -- how lexing ends at a fault: with it, or where the text that it names has no room at the stop, or with what is wanted
 abbrev pub EndsAtFault : Text → grammar.Spanned grammar.Fault → FillState → Text → Text → Ending → Type 0
 EndsAtFault text fault progress before after (ending.Fault more told) = EndsByFault fault progress.filled before after (ending.Fault more told)
-EndsAtFault text fault progress before after (ending.Full wanted) = EndsByFault fault progress.filled before after (ending.Full wanted)
+EndsAtFault text fault progress before after (ending.Full wanted) = EndsByFault fault progress.filled before after (ending.Full wanted) × (progress.stop.filled.lexemes ≡ 0)
 EndsAtFault text fault progress before after end = IsStopped text progress end × (after ≡ before)
 
 -- whether the buffers have lexemes up to the last stop or further
@@ -135,8 +134,16 @@ abbrev pub IsFilledTo : CutPoint → Ending → Type 0
 IsFilledTo stop (ending.Piece filled next) = (filled ≡ stop.filled) × (0 < stop.filled.lexemes)
 IsFilledTo stop end = ⊤
 
+-- the buffers have no room up to any cut after the stop, and full ones have no stop
+abbrev pub IsStopAtLastCut : (is_front : Bool) → Text → Buffers → CutPoint → Ending → Type 0
+IsStopAtLastCut is_front text before stop (ending.Memory filled) = ⊤
+IsStopAtLastCut is_front text before stop (ending.NotUtf8 valid) = ⊤
+IsStopAtLastCut is_front text before stop ending.TooLong = ⊤
+IsStopAtLastCut is_front text before stop (ending.Full wanted) = (stop.filled.lexemes ≡ 0) × IsLastCut is_front text before 0
+IsStopAtLastCut is_front text before stop end = IsLastCut is_front text before stop.filled.lexemes
+
 -- how lexing some bytes into buffers ends, and the last stop in them
 abbrev pub EndsWithCutPoint : Text → (is_front : Bool) → Buffers → Buffers → Ending × CutPoint → Type 0
 EndsWithCutPoint text is_front before after found =
     Ends text before after found.0 × (yielded : ℕ) × (yielded ≤ length (lexemes_of text)) × IsCutPoint text yielded found.1
-    × (found.1.is_front ≡ is_front) × IsFilledTo found.1 found.0
+    × (found.1.is_front ≡ is_front) × IsFilledTo found.1 found.0 × IsStopAtLastCut is_front text before found.1 found.0

@@ -1,10 +1,13 @@
-use Rattle.std.proofs.Common.{◌≡◌, ◌+◌, ◌∙◌, refl, ap, arith, inl}
+use Rattle.std.proofs.Common.{◌≡◌, ◌+◌, ◌∙◌, refl, ap, arith, inl, subst, sym}
+use Rattle.starlark_c.specs.Inner.Filling.{IsLastStop}
 use Rattle.starlark_c.specs.declared.fill_state.FillState.{FillState}
 use Rattle.starlark_c.specs.declared.fill_state.CutPoint.{CutPoint}
 use Rattle.starlark_c.proofs.Ends.{ends_whole}
 use Rattle.starlark_c.proofs.Filled.{hold_none, values_nil}
 use Rattle.starlark_c.proofs.YieldedItems.{given_next, next_fault, next_lexeme, next_none}
 use Rattle.starlark_c.proofs.NextLexemes.{HasFilled, ends_without_room, goes_on, goes_on_with, has_filled_more, has_stopped, may_stop, stays, wanted_with_next}
+use Rattle.starlark_c.proofs.LastStops.{fault_last, last_of_all}
+use Rattle.starlark_c.proofs.LineEnds.{none_after}
 use Rattle.starlark_c.proofs.Stops.{ends_at_fault, fault_filled}
 use Rattle.starlark_syntax.specs.Lexer.{LexerView}
 use Rattle.starlark_syntax.specs.PlainLexemes.{plain_view}
@@ -23,6 +26,7 @@ loop-plain-init c =
       filled = ap (λ (p : FillState). p.filled) c.new-progress.ensures ∙ rw values_nil refl;
       stop = inl (ap (λ (p : FillState). p.stop.filled.lexemes) c.new-progress.ensures);
       kind = ap (λ (p : FillState). p.stop.is_front) c.new-progress.ensures;
+      last = λ more at later few is. omega (arith, later, few);
     })
 
 pub loop-plain-smaller-in-Some : goal.loop-plain-smaller-in-Some
@@ -33,7 +37,7 @@ loop-plain-smaller-in-Some c =
     let x = plain_view text c.in-Some.plain in
     let next = given_next text n x (rw inv.text at c.in-Some.ensures.item) in
     let had : HasFilled text n c.loop-plain.progress _ _ = record { few = inv.few; hold = inv.hold; filled = inv.filled; stop = inv.stop } in
-    let on = goes_on text n 1 _ c.loop-plain.lexer c.next_plain.new.self (record { going = inv.going; text_is = inv.text; count = refl }) c.in-Some.ensures.after in
+    let on = goes_on text n 1 _ _ c.loop-plain.lexer c.next_plain.new.self (record { going = inv.going; text_is = inv.text; count = refl }) c.in-Some.ensures.after in
     omega (arith, on.count, next.some)
 
 pub stop_after-requires-clause-may : goal.stop_after-requires-clause-may
@@ -44,9 +48,19 @@ stop_after-requires-clause-may c =
     let x = plain_view text c.in-Some.plain in
     let next = given_next text n x (rw inv.text at c.in-Some.ensures.item) in
     let had : HasFilled text n c.loop-plain.progress _ _ = record { few = inv.few; hold = inv.hold; filled = inv.filled; stop = inv.stop } in
-    let on = goes_on text n 1 _ c.loop-plain.lexer c.next_plain.new.self (record { going = inv.going; text_is = inv.text; count = refl }) c.in-Some.ensures.after in
+    let on = goes_on text n 1 _ _ c.loop-plain.lexer c.next_plain.new.self (record { going = inv.going; text_is = inv.text; count = refl }) c.in-Some.ensures.after in
     let put = has_filled_more text n x c.loop-plain.progress c.take_plain.new.progress _ _ _ _ had next c.in_default-take_plain.ensures in
-    rw on.count (may_stop text n c.take_plain.new.progress _ _ put)
+    rw on.count (may_stop text n c.take_plain.new.progress _ _ put (subst (IsLastStop text n) (sym c.in_default-take_plain.ensures.1) inv.last))
+
+pub stop_after-requires-clause-none : goal.stop_after-requires-clause-none
+stop_after-requires-clause-none c = λ other at is.
+    let inv = c.loop-plain.invariant in
+    let text = c.args.text.now in
+    let n = c.loop-plain.lexer.yielded_count in
+    let x = plain_view text c.in-Some.plain in
+    let next = given_next text n x (rw inv.text at c.in-Some.ensures.item) in
+    let on = goes_on text n 1 _ _ c.loop-plain.lexer c.next_plain.new.self (record { going = inv.going; text_is = inv.text; count = refl }) c.in-Some.ensures.after in
+    none_after text n at x next (sym (c.is_last_of_line.ensures text) ∙ other) (rw on.count at is)
 
 pub loop-plain-preserved-in-Some : goal.loop-plain-preserved-in-Some
 loop-plain-preserved-in-Some c =
@@ -56,11 +70,11 @@ loop-plain-preserved-in-Some c =
     let x = plain_view text c.in-Some.plain in
     let next = given_next text n x (rw inv.text at c.in-Some.ensures.item) in
     let had : HasFilled text n c.loop-plain.progress _ _ = record { few = inv.few; hold = inv.hold; filled = inv.filled; stop = inv.stop } in
-    let on = goes_on text n 1 _ c.loop-plain.lexer c.next_plain.new.self (record { going = inv.going; text_is = inv.text; count = refl }) c.in-Some.ensures.after in
+    let on = goes_on text n 1 _ _ c.loop-plain.lexer c.next_plain.new.self (record { going = inv.going; text_is = inv.text; count = refl }) c.in-Some.ensures.after in
     let put = has_filled_more text n x c.loop-plain.progress c.take_plain.new.progress _ _ _ _ had next c.in_default-take_plain.ensures in
     let more = has_stopped text (n + 1) c.take_plain.new.progress c.stop_after.new.progress _ _ put c.stop_after.ensures.filled (rw on.count at c.stop_after.ensures.stop) in
     let kind = c.stop_after.ensures.kind ∙ ap (λ (t : CutPoint). t.is_front) c.in_default-take_plain.ensures.1 ∙ inv.kind in
-    rw on.count (record { going = on.going; text = on.text_is; few = more.few; hold = more.hold; filled = more.filled; stop = more.stop; kind = kind })
+    rw on.count (record { going = on.going; text = on.text_is; few = more.few; hold = more.hold; filled = more.filled; stop = more.stop; kind = kind; last = rw on.count at c.stop_after.ensures.last })
 
 pub overflow-requires-clause-few : goal.overflow-requires-clause-few
 overflow-requires-clause-few c =
@@ -70,7 +84,7 @@ overflow-requires-clause-few c =
     let x = plain_view text c.in-Some.plain in
     let next = given_next text n x (rw inv.text at c.in-Some.ensures.item) in
     let had : HasFilled text n c.loop-plain.progress _ _ = record { few = inv.few; hold = inv.hold; filled = inv.filled; stop = inv.stop } in
-    let on = goes_on text n 1 _ c.loop-plain.lexer c.next_plain.new.self (record { going = inv.going; text_is = inv.text; count = refl }) c.in-Some.ensures.after in
+    let on = goes_on text n 1 _ _ c.loop-plain.lexer c.next_plain.new.self (record { going = inv.going; text_is = inv.text; count = refl }) c.in-Some.ensures.after in
     rw on.count next.few
 
 pub overflow-requires-clause-counted : goal.overflow-requires-clause-counted
@@ -81,7 +95,7 @@ overflow-requires-clause-counted c =
     let x = plain_view text c.in-Some.plain in
     let next = given_next text n x (rw inv.text at c.in-Some.ensures.item) in
     let had : HasFilled text n c.loop-plain.progress _ _ = record { few = inv.few; hold = inv.hold; filled = inv.filled; stop = inv.stop } in
-    let on = goes_on text n 1 _ c.loop-plain.lexer c.next_plain.new.self (record { going = inv.going; text_is = inv.text; count = refl }) c.in-Some.ensures.after in
+    let on = goes_on text n 1 _ _ c.loop-plain.lexer c.next_plain.new.self (record { going = inv.going; text_is = inv.text; count = refl }) c.in-Some.ensures.after in
     rw on.count (wanted_with_next text n x c.loop-plain.progress c.take_plain.new.progress _ _ _ c.in-Err.passed had next c.in-Err.ensures)
 
 pub returns-in-Err : goal.returns-in-Err
@@ -92,8 +106,8 @@ returns-in-Err c =
     let x = plain_view text c.in-Some.plain in
     let next = given_next text n x (rw inv.text at c.in-Some.ensures.item) in
     let had : HasFilled text n c.loop-plain.progress _ _ = record { few = inv.few; hold = inv.hold; filled = inv.filled; stop = inv.stop } in
-    let on = goes_on text n 1 _ c.loop-plain.lexer c.next_plain.new.self (record { going = inv.going; text_is = inv.text; count = refl }) c.in-Some.ensures.after in
-    ends_without_room text n x c.loop-plain.progress c.take_plain.new.progress _ _ _ c.in-Err.passed c.overflow.result _ c.requires.text inv.kind had next c.in-Err.ensures (rw on.count at c.overflow.ensures)
+    let on = goes_on text n 1 _ _ c.loop-plain.lexer c.next_plain.new.self (record { going = inv.going; text_is = inv.text; count = refl }) c.in-Some.ensures.after in
+    ends_without_room text n x c.loop-plain.progress c.take_plain.new.progress _ _ _ c.in-Err.passed c.overflow.result _ c.requires.text inv.kind had inv.last next c.in-Err.ensures (rw on.count at c.overflow.ensures)
 
 pub loop-plain-smaller : goal.loop-plain-smaller
 loop-plain-smaller c =
@@ -102,10 +116,10 @@ loop-plain-smaller c =
     let n = c.loop-plain.lexer.yielded_count in
     let lexer = c.next_plain.new.self in
     let had : HasFilled text n c.loop-plain.progress _ _ = record { few = inv.few; hold = inv.hold; filled = inv.filled; stop = inv.stop } in
-    let was = stays text n _ c.loop-plain.lexer lexer (record { going = inv.going; text_is = inv.text; count = refl }) c.in_default.ensures.after in
+    let was = stays text n _ _ c.loop-plain.lexer lexer (record { going = inv.going; text_is = inv.text; count = refl }) c.in_default.ensures.after in
     let found = c.in-Some-Ok.lexeme in
     let next = next_lexeme lexer.code_map text n found (rw (c.in-Some-Ok.field-0-is, was.text_is, was.count) at (c.in-Some-Ok.ensures.item was.going)) in
-    let on = goes_on_with text n _ lexer c.next.new.self was (rw c.in-Some-Ok.field-0-is at c.in-Some-Ok.ensures.after) in
+    let on = goes_on_with text n _ _ lexer c.next.new.self was (rw c.in-Some-Ok.field-0-is at c.in-Some-Ok.ensures.after) in
     omega (arith, on.count, next.some)
 
 pub stop_after-requires-in-Some-Ok-clause-may : goal.stop_after-requires-in-Some-Ok-clause-may
@@ -115,12 +129,12 @@ stop_after-requires-in-Some-Ok-clause-may c =
     let n = c.loop-plain.lexer.yielded_count in
     let lexer = c.next_plain.new.self in
     let had : HasFilled text n c.loop-plain.progress _ _ = record { few = inv.few; hold = inv.hold; filled = inv.filled; stop = inv.stop } in
-    let was = stays text n _ c.loop-plain.lexer lexer (record { going = inv.going; text_is = inv.text; count = refl }) c.in_default.ensures.after in
+    let was = stays text n _ _ c.loop-plain.lexer lexer (record { going = inv.going; text_is = inv.text; count = refl }) c.in_default.ensures.after in
     let found = c.in-Some-Ok.lexeme in
     let next = next_lexeme lexer.code_map text n found (rw (c.in-Some-Ok.field-0-is, was.text_is, was.count) at (c.in-Some-Ok.ensures.item was.going)) in
-    let on = goes_on_with text n _ lexer c.next.new.self was (rw c.in-Some-Ok.field-0-is at c.in-Some-Ok.ensures.after) in
+    let on = goes_on_with text n _ _ lexer c.next.new.self was (rw c.in-Some-Ok.field-0-is at c.in-Some-Ok.ensures.after) in
     let put = has_filled_more text n (lexeme_view found) c.loop-plain.progress c.take_next.new.progress _ _ _ _ had next c.in_default-take_next.ensures in
-    rw on.count (may_stop text n c.take_next.new.progress _ _ put)
+    rw on.count (may_stop text n c.take_next.new.progress _ _ put (subst (IsLastStop text n) (sym c.in_default-take_next.ensures.1) inv.last))
 
 pub loop-plain-preserved : goal.loop-plain-preserved
 loop-plain-preserved c =
@@ -129,14 +143,14 @@ loop-plain-preserved c =
     let n = c.loop-plain.lexer.yielded_count in
     let lexer = c.next_plain.new.self in
     let had : HasFilled text n c.loop-plain.progress _ _ = record { few = inv.few; hold = inv.hold; filled = inv.filled; stop = inv.stop } in
-    let was = stays text n _ c.loop-plain.lexer lexer (record { going = inv.going; text_is = inv.text; count = refl }) c.in_default.ensures.after in
+    let was = stays text n _ _ c.loop-plain.lexer lexer (record { going = inv.going; text_is = inv.text; count = refl }) c.in_default.ensures.after in
     let found = c.in-Some-Ok.lexeme in
     let next = next_lexeme lexer.code_map text n found (rw (c.in-Some-Ok.field-0-is, was.text_is, was.count) at (c.in-Some-Ok.ensures.item was.going)) in
-    let on = goes_on_with text n _ lexer c.next.new.self was (rw c.in-Some-Ok.field-0-is at c.in-Some-Ok.ensures.after) in
+    let on = goes_on_with text n _ _ lexer c.next.new.self was (rw c.in-Some-Ok.field-0-is at c.in-Some-Ok.ensures.after) in
     let put = has_filled_more text n (lexeme_view found) c.loop-plain.progress c.take_next.new.progress _ _ _ _ had next c.in_default-take_next.ensures in
     let more = has_stopped text (n + 1) c.take_next.new.progress c.stop_after-in-Some-Ok.new.progress _ _ put c.stop_after-in-Some-Ok.ensures.filled (rw on.count at c.stop_after-in-Some-Ok.ensures.stop) in
     let kind = c.stop_after-in-Some-Ok.ensures.kind ∙ ap (λ (t : CutPoint). t.is_front) c.in_default-take_next.ensures.1 ∙ inv.kind in
-    rw on.count (record { going = on.going; text = on.text_is; few = more.few; hold = more.hold; filled = more.filled; stop = more.stop; kind = kind })
+    rw on.count (record { going = on.going; text = on.text_is; few = more.few; hold = more.hold; filled = more.filled; stop = more.stop; kind = kind; last = rw on.count at c.stop_after-in-Some-Ok.ensures.last })
 
 pub overflow-requires-in-Err-take_next-clause-few : goal.overflow-requires-in-Err-take_next-clause-few
 overflow-requires-in-Err-take_next-clause-few c =
@@ -145,10 +159,10 @@ overflow-requires-in-Err-take_next-clause-few c =
     let n = c.loop-plain.lexer.yielded_count in
     let lexer = c.next_plain.new.self in
     let had : HasFilled text n c.loop-plain.progress _ _ = record { few = inv.few; hold = inv.hold; filled = inv.filled; stop = inv.stop } in
-    let was = stays text n _ c.loop-plain.lexer lexer (record { going = inv.going; text_is = inv.text; count = refl }) c.in_default.ensures.after in
+    let was = stays text n _ _ c.loop-plain.lexer lexer (record { going = inv.going; text_is = inv.text; count = refl }) c.in_default.ensures.after in
     let found = c.in-Some-Ok.lexeme in
     let next = next_lexeme lexer.code_map text n found (rw (c.in-Some-Ok.field-0-is, was.text_is, was.count) at (c.in-Some-Ok.ensures.item was.going)) in
-    let on = goes_on_with text n _ lexer c.next.new.self was (rw c.in-Some-Ok.field-0-is at c.in-Some-Ok.ensures.after) in
+    let on = goes_on_with text n _ _ lexer c.next.new.self was (rw c.in-Some-Ok.field-0-is at c.in-Some-Ok.ensures.after) in
     rw on.count next.few
 
 pub overflow-requires-in-Err-take_next-clause-counted : goal.overflow-requires-in-Err-take_next-clause-counted
@@ -158,10 +172,10 @@ overflow-requires-in-Err-take_next-clause-counted c =
     let n = c.loop-plain.lexer.yielded_count in
     let lexer = c.next_plain.new.self in
     let had : HasFilled text n c.loop-plain.progress _ _ = record { few = inv.few; hold = inv.hold; filled = inv.filled; stop = inv.stop } in
-    let was = stays text n _ c.loop-plain.lexer lexer (record { going = inv.going; text_is = inv.text; count = refl }) c.in_default.ensures.after in
+    let was = stays text n _ _ c.loop-plain.lexer lexer (record { going = inv.going; text_is = inv.text; count = refl }) c.in_default.ensures.after in
     let found = c.in-Some-Ok.lexeme in
     let next = next_lexeme lexer.code_map text n found (rw (c.in-Some-Ok.field-0-is, was.text_is, was.count) at (c.in-Some-Ok.ensures.item was.going)) in
-    let on = goes_on_with text n _ lexer c.next.new.self was (rw c.in-Some-Ok.field-0-is at c.in-Some-Ok.ensures.after) in
+    let on = goes_on_with text n _ _ lexer c.next.new.self was (rw c.in-Some-Ok.field-0-is at c.in-Some-Ok.ensures.after) in
     rw on.count (wanted_with_next text n (lexeme_view found) c.loop-plain.progress c.take_next.new.progress _ _ _ c.in-Err-take_next.passed had next c.in-Err-take_next.ensures)
 
 pub returns-in-Err-take_next : goal.returns-in-Err-take_next
@@ -171,11 +185,11 @@ returns-in-Err-take_next c =
     let n = c.loop-plain.lexer.yielded_count in
     let lexer = c.next_plain.new.self in
     let had : HasFilled text n c.loop-plain.progress _ _ = record { few = inv.few; hold = inv.hold; filled = inv.filled; stop = inv.stop } in
-    let was = stays text n _ c.loop-plain.lexer lexer (record { going = inv.going; text_is = inv.text; count = refl }) c.in_default.ensures.after in
+    let was = stays text n _ _ c.loop-plain.lexer lexer (record { going = inv.going; text_is = inv.text; count = refl }) c.in_default.ensures.after in
     let found = c.in-Some-Ok.lexeme in
     let next = next_lexeme lexer.code_map text n found (rw (c.in-Some-Ok.field-0-is, was.text_is, was.count) at (c.in-Some-Ok.ensures.item was.going)) in
-    let on = goes_on_with text n _ lexer c.next.new.self was (rw c.in-Some-Ok.field-0-is at c.in-Some-Ok.ensures.after) in
-    ends_without_room text n (lexeme_view found) c.loop-plain.progress c.take_next.new.progress _ _ _ c.in-Err-take_next.passed c.overflow-in-Err-take_next.result _ c.requires.text inv.kind had next c.in-Err-take_next.ensures (rw on.count at c.overflow-in-Err-take_next.ensures)
+    let on = goes_on_with text n _ _ lexer c.next.new.self was (rw c.in-Some-Ok.field-0-is at c.in-Some-Ok.ensures.after) in
+    ends_without_room text n (lexeme_view found) c.loop-plain.progress c.take_next.new.progress _ _ _ c.in-Err-take_next.passed c.overflow-in-Err-take_next.result _ c.requires.text inv.kind had inv.last next c.in-Err-take_next.ensures (rw on.count at c.overflow-in-Err-take_next.ensures)
 
 pub returns-in-Some-Err-Error : goal.returns-in-Some-Err-Error
 returns-in-Some-Err-Error c =
@@ -184,9 +198,9 @@ returns-in-Some-Err-Error c =
     let n = c.loop-plain.lexer.yielded_count in
     let lexer = c.next_plain.new.self in
     let had : HasFilled text n c.loop-plain.progress _ _ = record { few = inv.few; hold = inv.hold; filled = inv.filled; stop = inv.stop } in
-    let was = stays text n _ c.loop-plain.lexer lexer (record { going = inv.going; text_is = inv.text; count = refl }) c.in_default.ensures.after in
+    let was = stays text n _ _ c.loop-plain.lexer lexer (record { going = inv.going; text_is = inv.text; count = refl }) c.in_default.ensures.after in
     let last = next_fault lexer.code_map text n c.in-Some-Err-Error.exception (rw (c.in-Some-Err-Error.field-0-is, c.in-Some-Err-Error.field-0-0-is, was.text_is, was.count) at (c.in-Some-Err-Error.ensures.item was.going)) in
-    (ends_at_fault text _ _ _ n last.fault c.loop-plain.progress c.end_at_fault-ending.result c.requires.text last.is last.all had.hold had.filled had.stop (c.end_at_fault-ending.ensures last.fault last.is), n, had.few, had.stop, inv.kind, fault_filled text last.fault c.loop-plain.progress _ _ c.end_at_fault-ending.result (c.end_at_fault-ending.ensures last.fault last.is))
+    (ends_at_fault text _ _ _ n last.fault c.loop-plain.progress c.end_at_fault-ending.result c.requires.text last.is last.all had.hold had.filled had.stop (c.end_at_fault-ending.ensures last.fault last.is), n, had.few, had.stop, inv.kind, fault_filled text last.fault c.loop-plain.progress _ _ c.end_at_fault-ending.result (c.end_at_fault-ending.ensures last.fault last.is), fault_last c.args.is_front text _ last.fault c.loop-plain.progress _ _ c.end_at_fault-ending.result (last_of_all c.args.is_front text _ n c.loop-plain.progress.stop inv.kind last.all inv.last) (c.end_at_fault-ending.ensures last.fault last.is))
 
 pub returns-in-None : goal.returns-in-None
 returns-in-None c =
@@ -195,9 +209,9 @@ returns-in-None c =
     let n = c.loop-plain.lexer.yielded_count in
     let lexer = c.next_plain.new.self in
     let had : HasFilled text n c.loop-plain.progress _ _ = record { few = inv.few; hold = inv.hold; filled = inv.filled; stop = inv.stop } in
-    let was = stays text n _ c.loop-plain.lexer lexer (record { going = inv.going; text_is = inv.text; count = refl }) c.in_default.ensures.after in
+    let was = stays text n _ _ c.loop-plain.lexer lexer (record { going = inv.going; text_is = inv.text; count = refl }) c.in_default.ensures.after in
     let none = next_none lexer.code_map text n (rw (was.text_is, was.count) at (c.in-None.ensures.item was.going)) had.few in
-    (ends_whole text _ _ n c.loop-plain.progress.filled c.requires.text none.0 none.1 had.hold had.filled, n, had.few, had.stop, inv.kind, tt)
+    (ends_whole text _ _ n c.loop-plain.progress.filled c.requires.text none.0 none.1 had.hold had.filled, n, had.few, had.stop, inv.kind, tt, last_of_all c.args.is_front text _ n c.loop-plain.progress.stop inv.kind none.1 inv.last)
 
 pub end_at_fault-ending-requires-clause-thrown : goal.end_at_fault-ending-requires-clause-thrown
 end_at_fault-ending-requires-clause-thrown c =
@@ -206,6 +220,6 @@ end_at_fault-ending-requires-clause-thrown c =
     let n = c.loop-plain.lexer.yielded_count in
     let lexer = c.next_plain.new.self in
     let had : HasFilled text n c.loop-plain.progress _ _ = record { few = inv.few; hold = inv.hold; filled = inv.filled; stop = inv.stop } in
-    let was = stays text n _ c.loop-plain.lexer lexer (record { going = inv.going; text_is = inv.text; count = refl }) c.in_default.ensures.after in
+    let was = stays text n _ _ c.loop-plain.lexer lexer (record { going = inv.going; text_is = inv.text; count = refl }) c.in_default.ensures.after in
     let last = next_fault lexer.code_map text n c.in-Some-Err-Error.exception (rw (c.in-Some-Err-Error.field-0-is, c.in-Some-Err-Error.field-0-0-is, was.text_is, was.count) at (c.in-Some-Err-Error.ensures.item was.going)) in
     (lexer.code_map, last.within)

@@ -1,6 +1,6 @@
 use Rattle.std.proofs.Common.{◌≡◌, ◌-◌, ◌≤◌, false, length, take}
 use Rattle.starlark_c.specs.Endings.{Hold, lexemes_of}
-use Rattle.starlark_c.specs.Inner.Filling.{IsCutPoint, filled_by}
+use Rattle.starlark_c.specs.Inner.Filling.{IsCutPoint, IsLastStop, filled_by}
 use Rattle.starlark_c.specs.Records.{records, values}
 use Rattle.starlark_c.proofs.filling.fill.Given as goal
 use Rattle.starlark_token.specs.TextItems.{items}
@@ -15,6 +15,7 @@ invariant-loop-plain l = record {
   filled : l.progress.filled ≡ filled_by (take l.lexer.yielded_count (lexemes_of l.text));
   stop : IsCutPoint l.text l.lexer.yielded_count l.progress.stop;
   kind : l.progress.stop.is_front ≡ l.is_front;
+  last : IsLastStop l.text l.lexer.yielded_count l.progress.stop;
 }
 
 abbrev pub decreases-loop-plain : goal.decreases-loop-plain

@@ -16,6 +16,7 @@ returns-in_default c =
       inl (ap (λ (t : CutPoint). t.filled.lexemes) c.none-none.ensures),
       ap (λ (t : CutPoint). t.is_front) c.none-none.ensures,
       tt,
+      tt,
     )
 
 pub returns : goal.returns

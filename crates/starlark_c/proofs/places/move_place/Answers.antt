@@ -1,4 +1,4 @@
-use Rattle.std.proofs.Common.{ap, arith, length, sym, take, ◌++◌, ◌∙◌}
+use Rattle.std.proofs.Common.{ap, arith, take, ◌++◌, ◌∙◌}
 use Rattle.starlark_c.specs.PlaceRecords.{place_record}
 use Rattle.starlark_c.proofs.MovedPlaces.{moved_place, short_on}
 use Rattle.starlark_c.proofs.places.move_place.Goals as goal

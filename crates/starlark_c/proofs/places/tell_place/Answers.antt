@@ -1,4 +1,4 @@
-use Rattle.starlark_c.proofs.MovedPlaces.{no_place, start_of}
+use Rattle.starlark_c.proofs.MovedPlaces.{start_of}
 use Rattle.starlark_c.proofs.places.tell_place.Goals as goal
 
 pub returns-then-is_told : goal.returns-then-is_told

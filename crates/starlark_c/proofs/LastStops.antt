@@ -1,0 +1,132 @@
+-- After the last stop no cut has room.
+use Rattle.std.proofs.Common.{◌≡◌, ℕ, zero, suc, ◌+◌, ◌-◌, ◌≤◌, ◌<◌, Bool, true, false, List, [], ◌∷◌, length, take, refl, ap, subst, sym, arith, ◌⊎◌, inl, inr}
+use Rattle.std.proofs.lemmas.Bool.{cases_lt}
+use Rattle.std.proofs.lemmas.List.{length-map, length-take}
+use Rattle.starlark_c.specs.Endings.{Buffers, Hold, lexemes_of}
+use Rattle.starlark_c.specs.Inner.Filling.{EndsAtFault, EndsWithCutPoint, HasNoRoom, IsFilledTo, IsLastStop, IsOverflow, IsStopAtLastCut, filled_by, has_stop}
+use Rattle.starlark_c.specs.LastCuts.{IsCutIn, IsLastCut, LackRoom, StopsAtLastCut}
+use Rattle.starlark_c.specs.Records.{records, value_bytes, values}
+use Rattle.starlark_c.specs.declared.endings.Ending.{Ending}
+use Rattle.starlark_c.specs.declared.endings.Ending.TheVariants as ending
+use Rattle.starlark_c.specs.declared.endings.Filled.{Filled}
+use Rattle.starlark_c.specs.declared.fill_state.CutPoint.{CutPoint}
+use Rattle.starlark_c.specs.declared.fill_state.FillState.{FillState}
+use Rattle.starlark_c.proofs.CutTexts.{piece_at}
+use Rattle.starlark_c.proofs.Filled.{same_sizes, values_cons, values_nil}
+use Rattle.starlark_c.proofs.Stops.{all_but}
+use Rattle.starlark_c.proofs.YieldedItems.{IsNext}
+use Rattle.starlark_grammar.specs.Cuts.{without_closing}
+use Rattle.starlark_grammar.specs.Reading.{outcome}
+use Rattle.starlark_grammar.specs.Tokens.{Fault, Spanned}
+use Rattle.starlark_grammar.specs.Words.{Text}
+use Rattle.starlark_token.specs.Lexemes.{shown_lexeme}
+use Rattle.starlark_token.specs.TokenViews.{TokenView}
+
+-- The last stop of the lexemes so far
+
+-- a stop after all of them is the last
+pub last_here : (text : Text) (n : ℕ) (stop : CutPoint) → stop.filled.lexemes ≡ n → IsLastStop text n stop
+last_here text n stop all more at later few is = absurd (omega (arith, all, later, few))
+
+-- it stays the last where no cut is right after them
+pub last_stays : (text : Text) (n : ℕ) (stop : CutPoint) → 0 < n → IsLastStop text (n - 1) stop → ((at : ℕ) → IsCutIn text stop.is_front n at → ⊥) → IsLastStop text n stop
+last_stays text n stop some last none more at later few is = by (cases_lt more n)
+  where
+    by : (more < n) ⊎ (n ≤ more) → ⊥
+    by (inl less) = last more at later (omega (arith, less)) is
+    by (inr least) = let same : more ≡ n = omega (arith, least, few) in none at (subst (λ k. IsCutIn text stop.is_front k at) same is)
+
+-- Where lexing ends
+
+-- fewer lexemes have no more values
+values_less : (a b : ℕ) (xs : List (Spanned TokenView)) → a ≤ b → length (values (take a xs)) ≤ length (values (take b xs))
+values_less zero b xs less = omega (arith, ap length values_nil)
+values_less (suc a) zero xs less = absurd (omega (arith, less))
+values_less (suc a) (suc b) [] less = omega (arith)
+values_less (suc a) (suc b) (x ∷ xs) less = omega (arith, values_cons x (take a xs), values_cons x (take b xs), values_less a b xs (omega (arith, less)))
+
+lacks_more : (buffers : Buffers) (text : Text) (n more : ℕ) → n ≤ more → LackRoom buffers text n → LackRoom buffers text more
+lacks_more buffers text n more less (inl short) = inl (omega (arith, less, short))
+lacks_more buffers text n more less (inr short) = inr (omega (arith, short, values_less n more (lexemes_of text) less))
+
+-- no lexeme is after the last
+pub last_of_all : (is_front : Bool) (text : Text) (before : Buffers) (n : ℕ) (stop : CutPoint) → stop.is_front ≡ is_front → n ≡ length (lexemes_of text) → IsLastStop text n stop → IsLastCut is_front text before stop.filled.lexemes
+last_of_all is_front text before n stop kind all last more at later is =
+    let front : IsCutIn text stop.is_front more at = rw kind is in
+    let piece = (piece_at text at more is.cut).lexemes in
+    let few : more ≤ n = omega (arith, all, ap length piece, length-map (without_closing (outcome (take at text)).lexemes) shown_lexeme, is.cut.lexemes, length-take more (lexemes_of text)) in
+    absurd (last more at later few front)
+
+-- no lexeme more has room
+pub last_with_room : (is_front : Bool) (text : Text) (before : Buffers) (n : ℕ) (stop : CutPoint) → stop.is_front ≡ is_front → LackRoom before text (n + 1) → IsLastStop text n stop → IsLastCut is_front text before stop.filled.lexemes
+last_with_room is_front text before n stop kind lack last more at later is = by (cases_lt n more)
+  where
+    by : (n < more) ⊎ (more ≤ n) → LackRoom before text more
+    by (inl less) = lacks_more before text (n + 1) more (omega (arith, less)) lack
+    by (inr few) = absurd (last more at later few (rw kind is))
+
+pub lacks_next : (text : Text) (before now after : Buffers) (n : ℕ) (x : Spanned TokenView) (filled : Filled) → IsNext text n x → n ≤ length (lexemes_of text)
+    → Hold (records (take n (lexemes_of text))) (values (take n (lexemes_of text))) before now → filled ≡ filled_by (take n (lexemes_of text)) → HasNoRoom x filled now after → LackRoom before text (n + 1)
+lacks_next text before now after n x filled one few held counted none = by none.lacks
+  where
+    by : (length now.lexemes < filled.lexemes + 1) ⊎ (length now.values < filled.values + length (value_bytes x.node)) → LackRoom before text (n + 1)
+    by (inl short) = inl (omega (arith, short, (all_but text n x filled one few counted).0, (same_sizes before now (take n (lexemes_of text)) held).0))
+    by (inr short) = inr (omega (arith, short, (all_but text n x filled one few counted).1, (same_sizes before now (take n (lexemes_of text)) held).1))
+
+pub overflow_last : (is_front : Bool) (text : Text) (before : Buffers) (count : ℕ) (progress : FillState) (end : Ending) → IsLastCut is_front text before progress.stop.filled.lexemes → IsOverflow text count progress end → IsStopAtLastCut is_front text before progress.stop end
+overflow_last is_front text before count progress (ending.Piece filled next) last over = last
+overflow_last is_front text before count progress (ending.Full wanted) last over = (over.1, subst (IsLastCut is_front text before) over.1 last)
+overflow_last is_front text before count progress (ending.Whole filled) last over = last
+overflow_last is_front text before count progress (ending.Fault filled fault) last over = last
+overflow_last is_front text before count progress (ending.NotUtf8 valid) last over = tt
+overflow_last is_front text before count progress (ending.Memory filled) last over = tt
+overflow_last is_front text before count progress ending.TooLong last over = tt
+
+pub fault_last : (is_front : Bool) (text : Text) (before : Buffers) (fault : Spanned Fault) (progress : FillState) (old new : Text) (end : Ending) → IsLastCut is_front text before progress.stop.filled.lexemes → EndsAtFault text fault progress old new end
+    → IsStopAtLastCut is_front text before progress.stop end
+fault_last is_front text before fault progress old new (ending.Piece filled next) last ends = last
+fault_last is_front text before fault progress old new (ending.Full wanted) last ends = (ends.1, subst (IsLastCut is_front text before) ends.1 last)
+fault_last is_front text before fault progress old new (ending.Whole filled) last ends = last
+fault_last is_front text before fault progress old new (ending.Fault filled told) last ends = last
+fault_last is_front text before fault progress old new (ending.NotUtf8 valid) last ends = tt
+fault_last is_front text before fault progress old new (ending.Memory filled) last ends = tt
+fault_last is_front text before fault progress old new ending.TooLong last ends = tt
+
+-- What a call ends with
+
+pub stops_last : (text : Text) (before after : Buffers) (end : Ending) (stop : CutPoint) → EndsWithCutPoint text false before after (end, stop) → StopsAtLastCut false text before end
+stops_last text before after (ending.Piece filled next) stop ends = subst (λ (f : Filled). IsLastCut false text before f.lexemes) (sym ends.5.0) ends.6
+stops_last text before after (ending.Full wanted) stop ends = ends.6.1
+stops_last text before after (ending.Whole filled) stop ends = tt
+stops_last text before after (ending.Fault filled fault) stop ends = tt
+stops_last text before after (ending.NotUtf8 valid) stop ends = tt
+stops_last text before after (ending.Memory filled) stop ends = tt
+stops_last text before after ending.TooLong stop ends = tt
+
+-- at the last stop
+pub front_stops : (text : Text) (before after : Buffers) (end : Ending) (stop : CutPoint) → EndsWithCutPoint text true before after (end, stop) → has_stop end ≡ true → StopsAtLastCut true text before (ending.Piece stop.filled stop.at)
+front_stops text before after (ending.Piece filled next) stop ends over = ends.6
+front_stops text before after (ending.Whole filled) stop ends over = ends.6
+front_stops text before after (ending.Fault filled fault) stop ends over = ends.6
+front_stops text before after (ending.Full wanted) stop ends over = cc
+front_stops text before after (ending.NotUtf8 valid) stop ends over = cc
+front_stops text before after (ending.Memory filled) stop ends over = cc
+front_stops text before after ending.TooLong stop ends over = cc
+
+-- or as a text ends, where there is none
+pub front_ends : (text : Text) (before after : Buffers) (end : Ending) (stop : CutPoint) → EndsWithCutPoint text true before after (end, stop) → (0 < stop.filled.lexemes → has_stop end ≡ true → ⊥) → StopsAtLastCut true text before end
+front_ends text before after end stop ends none = by end ends.5 ends.6 none (cases_lt 0 stop.filled.lexemes)
+  where
+    at_none : stop.filled.lexemes ≤ 0 → IsLastCut true text before stop.filled.lexemes → IsLastCut true text before 0
+    at_none few last = let same : stop.filled.lexemes ≡ 0 = omega (arith, few) in subst (IsLastCut true text before) same last
+
+    by : (end : Ending) → IsFilledTo stop end → IsStopAtLastCut true text before stop end → (0 < stop.filled.lexemes → has_stop end ≡ true → ⊥) → (0 < stop.filled.lexemes) ⊎ (stop.filled.lexemes ≤ 0) → StopsAtLastCut true text before end
+    by (ending.Piece filled next) filling last none some = subst (λ (f : Filled). IsLastCut true text before f.lexemes) (sym filling.0) last
+    by (ending.Full wanted) filling last none some = last.1
+    by (ending.Whole filled) filling last none (inl some) = absurd (none some refl)
+    by (ending.Whole filled) filling last none (inr few) = at_none few last
+    by (ending.Fault filled fault) filling last none (inl some) = absurd (none some refl)
+    by (ending.Fault filled fault) filling last none (inr few) = at_none few last
+    by (ending.NotUtf8 valid) filling last none some = tt
+    by (ending.Memory filled) filling last none some = tt
+    by ending.TooLong filling last none some = tt

@@ -1,0 +1,37 @@
+-- The last offset where a text, or the front of one, may be cut, of those that the caller's buffers have room for.
+use Rattle.std.specs.Prelude.{◌≡◌, ◌<◌, ◌||◌, ◌==◌, ◌⊎◌, not, ℕ, Bool, true, false, [], ◌∷◌, drop, length, take, ⊤}
+use Rattle.std.specs.Str.{byte}
+use Rattle.starlark_c.specs.Endings.{Buffers, lexemes_of}
+use Rattle.starlark_c.specs.Records.{values}
+use Rattle.starlark_c.specs.declared.endings.Ending.{Ending}
+use Rattle.starlark_c.specs.declared.endings.Ending.TheVariants as ending
+use Rattle.starlark_grammar.specs.Margins.{is_blank}
+use Rattle.starlark_grammar.specs.Words.{Text}
+use Rattle.starlark_syntax.specs.CutAfter.{IsCutAfter}
+
+-- A text whose first line begins with neither a blank nor a comment. Its first margin is empty, whatever follows.
+unfoldable pub is_without_margin : Text → Bool
+is_without_margin [] = false
+is_without_margin (b ∷ bs) = not (is_blank b || b == byte "#")
+
+-- the text may be cut after `at` bytes and `count` lexemes, and the front of one whatever follows it
+pub record IsCutIn (text : Text) (is_front : Bool) (count at : ℕ) : Type 0 where
+  pub cut : IsCutAfter text count at
+  pub stays : is_front ≡ true → is_without_margin (drop at text) ≡ true
+
+-- the buffers have no room for the first `count` lexemes of a text
+abbrev pub LackRoom : Buffers → Text → (count : ℕ) → Type 0
+LackRoom buffers text count = (length buffers.lexemes < count) ⊎ (length buffers.values < length (values (take count (lexemes_of text))))
+
+-- the buffers have no room up to any cut after more than `count` lexemes
+abbrev pub IsLastCut : (is_front : Bool) → Text → Buffers → (count : ℕ) → Type 0
+IsLastCut is_front text buffers count = (more at : ℕ) → count < more → IsCutIn text is_front more at → LackRoom buffers text more
+
+-- A piece ends at the last cut that the buffers have room for. There is none where the buffers are full, and none in a front
+-- that ends as a whole text does.
+abbrev pub StopsAtLastCut : (is_front : Bool) → Text → Buffers → Ending → Type 0
+StopsAtLastCut is_front text buffers (ending.Piece filled next) = IsLastCut is_front text buffers filled.lexemes
+StopsAtLastCut is_front text buffers (ending.Full wanted) = IsLastCut is_front text buffers 0
+StopsAtLastCut true text buffers (ending.Whole filled) = IsLastCut true text buffers 0
+StopsAtLastCut true text buffers (ending.Fault filled fault) = IsLastCut true text buffers 0
+StopsAtLastCut is_front text buffers end = ⊤
