@@ -25,21 +25,6 @@ use Rattle.starlark_token.specs.Lexemes.{lexeme_view, shown_lexeme}
 use Rattle.starlark_token.specs.TextItems.{LexerItem, Given, Refused}
 use Rattle.starlark_token.specs.declared.tokens.Token.{Token}
 
--- the item that was answered, and those after it
-pub record IsNext (file : SourceFile) (left : List LexerItem) (answer : Result (ℕ × Token × ℕ) (OrMemory (Diagnosed ErrorKind))) : Type 0 where
-  pub next : LexerItem
-  pub is : left ≡ next ∷ drop 1 left
-  pub answers : Answers file next answer
-
-pub next_item : (file : SourceFile) (left : List LexerItem) (answer : Result (ℕ × Token × ℕ) (OrMemory (Diagnosed ErrorKind))) → AnswersNext file (slice_get left 0) (Some answer) → IsNext file left answer
-next_item file [] answer answers = absurd answers
-next_item file (item ∷ more) answer answers = record { next = item; is = refl; answers = answers }
-
--- where nothing is answered nothing is left
-pub next_none : (file : SourceFile) (left : List LexerItem) → AnswersNext file (slice_get left 0) None → left ≡ []
-next_none file [] answers = refl
-next_none file (item ∷ more) answers = absurd answers
-
 -- a text that begins plainly isn't empty
 plain_some : (text : Text) → begins_plainly text ≡ true → 0 < length text
 unfolding begins_plainly

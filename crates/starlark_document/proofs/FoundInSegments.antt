@@ -3,6 +3,7 @@ use Rattle.std.proofs.Common.{◌≡◌, ℕ, ◌+◌, ◌≤◌, Bool, true, fa
 use Rattle.std.proofs.lemmas.List.{map-append}
 use Rattle.std.specs.List.{AllByRecursion}
 use Rattle.std.specs.Prelude.{◌<◌, ◌^◌}
+use Rattle.starlark_grammar.proofs.Recovery.ClosedTexts.{unmoved}
 use Rattle.starlark_document.proofs.SegmentLaws.{closed_texts}
 use Rattle.starlark_document.specs.Documents.{faults_of, lexemes_of}
 use Rattle.starlark_document.specs.Inner.Segments.{AreBounded, AreFaults, AreLaid, Follows, IsBounded, IsLexedAs, IsOpen, faults_along, lexemes_along, text_in, text_of}
@@ -82,18 +83,11 @@ faults_later is_first n (segment ∷ (next ∷ more)) laid =
     ∙ ap (λ k. map (moved n) own ++ map (moved (n + k)) (faults_of rest)) (sym is_open.lexed.len)
     ∙ ap (λ fs. map (moved n) own ++ fs) (faults_later false (n + segment.len) (next ∷ more) laid.2)
 
-map_unmoved : {A : Type 0} (xs : List (Spanned A)) → map (moved 0) xs ≡ xs
-map_unmoved [] = refl
-map_unmoved (x ∷ xs) =
-    let begin : 0 + x.begin ≡ x.begin = omega arith in
-    let end : 0 + x.end ≡ x.end = omega arith in
-    rw (begin, end, map_unmoved xs) refl
-
 pub lexemes_laid : (segments : List Segment) → AreLaid true segments → lexemes_of (text_of segments) ≡ lexemes_along 0 segments
-lexemes_laid segments laid = sym (map_unmoved (lexemes_of (text_of segments))) ∙ lexemes_later true 0 segments laid
+lexemes_laid segments laid = sym (unmoved (lexemes_of (text_of segments))) ∙ lexemes_later true 0 segments laid
 
 pub faults_laid : (segments : List Segment) → AreLaid true segments → faults_of (text_of segments) ≡ faults_along 0 segments
-faults_laid segments laid = sym (map_unmoved (faults_of (text_of segments))) ∙ faults_later true 0 segments laid
+faults_laid segments laid = sym (unmoved (faults_of (text_of segments))) ∙ faults_later true 0 segments laid
 
 -- What is found in a segment lies in it
 

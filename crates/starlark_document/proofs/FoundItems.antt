@@ -10,6 +10,7 @@ use Rattle.starlark_grammar.specs.Reading.{outcome, read}
 use Rattle.starlark_grammar.specs.Tokens as grammar
 use Rattle.starlark_grammar.specs.Tokens.{Fault, Lexeme, Outcome, Spanned, Token, moved}
 use Rattle.starlark_grammar.specs.Words.{Text, language}
+use Rattle.starlark_syntax.proofs.LexedTexts.LastNewlines.{same_newline}
 use Rattle.starlark_grammar.proofs.Lists.{drop-remainder, drop-sum}
 use Rattle.starlark_grammar.proofs.Joining.Laws.{ends_after}
 use Rattle.starlark_grammar.proofs.Order.Inside.{fault_within}
@@ -175,24 +176,6 @@ moved_at n found front newline tail e = go (parts_of n found front (Given newlin
 
 -- Shown tokens
 
-newline_shown : (token : Token) → is_newline_view (Whole (shown token)) ≡ is_newline token
-newline_shown (grammar.Comment text) = refl
-newline_shown grammar.Indent = refl
-newline_shown grammar.Dedent = refl
-newline_shown grammar.Newline = refl
-newline_shown (grammar.Identifier name) = refl
-newline_shown (grammar.Int value) = refl
-newline_shown (grammar.Float text) = refl
-newline_shown (grammar.String value) = refl
-newline_shown (grammar.Bytes value) = refl
-newline_shown (grammar.FStringStart opening) = refl
-newline_shown (grammar.FStringText value) = refl
-newline_shown grammar.FStringExprStart = refl
-newline_shown grammar.FStringExprEnd = refl
-newline_shown grammar.FStringBang = refl
-newline_shown grammar.FStringEnd = refl
-newline_shown (grammar.Word terminal) = refl
-
 dedent_shown : (token : Token) → is_dedent_view (Whole (shown token)) ≡ is_dedent token
 dedent_shown (grammar.Comment text) = refl
 dedent_shown grammar.Indent = refl
@@ -212,7 +195,7 @@ dedent_shown grammar.FStringEnd = refl
 dedent_shown (grammar.Word terminal) = refl
 
 line_newline : (line : Lexeme) (newline : Spanned TokenView) → shown_lexeme line ≡ newline → IsLineEnd newline → is_newline line.node ≡ true
-line_newline line newline same is = sym (newline_shown line.node) ∙ ap is_newline_view (ap (λ (l : Spanned TokenView). l.node) same ∙ is.0)
+line_newline line newline same is = sym (same_newline line.node) ∙ ap is_newline_view (ap (λ (l : Spanned TokenView). l.node) same ∙ is.0)
 
 line_dedent : (line : Lexeme) (item : LexerItem) → given line ≡ item → is_dedent_item item ≡ true → is_dedent line.node ≡ true
 line_dedent line item same is = sym (dedent_shown line.node) ∙ ap is_dedent_item same ∙ is
@@ -516,17 +499,18 @@ cut_empty front newline dedents more e is all undented plain = absurd (none_left
 rest_is : (b : ℕ) (bs : Text) (fault : Spanned Fault) → drop (restart (b ∷ bs) fault - 1) bs ≡ drop (restart (b ∷ bs) fault) (b ∷ bs)
 rest_is b bs fault = sym (drop-remainder (restart (b ∷ bs) fault) b bs (restart_later (b ∷ bs) fault (omega arith)))
 
-cut_from : (passed : ℕ) (text : Text) → CutsText (drop passed text)
-cut_from zero [] = cut_empty
-cut_from (suc passed) [] = cut_empty
-cut_from (suc passed) (b ∷ bs) = cut_from passed bs
-cut_from zero (b ∷ bs) = go (λ n. cut_from n bs)
+-- what holds of a text where it holds of the rest after its fault holds of each text
+by_faults : (P : Text → Type 0) → P [] → ((text : Text) → ((fault : Spanned Fault) → P (drop (restart text fault) text)) → P text) → (passed : ℕ) (text : Text) → P (drop passed text)
+by_faults P empty step zero [] = empty
+by_faults P empty step (suc passed) [] = empty
+by_faults P empty step (suc passed) (b ∷ bs) = by_faults P empty step passed bs
+by_faults P empty step zero (b ∷ bs) = go (λ n. by_faults P empty step n bs)
   where
-    go : ((n : ℕ) → CutsText (drop n bs)) → CutsText (b ∷ bs)
-    go more = cut_step (b ∷ bs) (λ fault. subst CutsText (rest_is b bs fault) (more (restart (b ∷ bs) fault - 1)))
+    go : ((n : ℕ) → P (drop n bs)) → P (b ∷ bs)
+    go more = step (b ∷ bs) (λ fault. subst P (rest_is b bs fault) (more (restart (b ∷ bs) fault - 1)))
 
 pub items_cut : ItemsCut
-items_cut text = cut_from 0 text
+items_cut text = by_faults CutsText cut_empty cut_step 0 text
 
 -- Closed texts
 
@@ -571,14 +555,5 @@ close_step text again front newline more e is end = by (outcome text).fault refl
 close_empty : ClosesText []
 close_empty front newline more e is end = let less = is.1 in absurd (omega (arith, less, end))
 
-close_from : (passed : ℕ) (text : Text) → ClosesText (drop passed text)
-close_from zero [] = close_empty
-close_from (suc passed) [] = close_empty
-close_from (suc passed) (b ∷ bs) = close_from passed bs
-close_from zero (b ∷ bs) = go (λ n. close_from n bs)
-  where
-    go : ((n : ℕ) → ClosesText (drop n bs)) → ClosesText (b ∷ bs)
-    go more = close_step (b ∷ bs) (λ fault. subst ClosesText (rest_is b bs fault) (more (restart (b ∷ bs) fault - 1)))
-
 pub items_close : ItemsClose
-items_close text = close_from 0 text
+items_close text = by_faults ClosesText close_empty close_step 0 text

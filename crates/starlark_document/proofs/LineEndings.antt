@@ -9,6 +9,7 @@ use Rattle.starlark_syntax.specs.Joining.{has_newline, without_last_newline}
 use Rattle.starlark_token.specs.Lexemes.{lexeme_view, shown, shown_lexeme}
 use Rattle.starlark_token.specs.TokenViews.{Whole, token_view}
 use Rattle.starlark_token.specs.declared.tokens.Token.{Token}
+use Rattle.starlark_syntax.proofs.LexedTexts.LastNewlines.{same_newline}
 
 or_false : (a b : Bool) → a || b ≡ false → (a ≡ false) × (b ≡ false)
 or_false false b e = (refl, e)
@@ -44,25 +45,6 @@ last_none [] none = refl
 last_none (x ∷ xs) none =
     let both = or_false (is_newline_view (token_view x.1)) (has_newline_view (map lexeme_view xs)) none in
     rw (both.0, both.1) (ap suc (last_none xs both.1))
-
--- a token as the code shows it is a `Newline` where it is one of the grammar
-same_newline : (node : grammar.Token) → is_newline_view (Whole (shown node)) ≡ is_newline node
-same_newline (grammar.Comment text) = refl
-same_newline grammar.Indent = refl
-same_newline grammar.Dedent = refl
-same_newline grammar.Newline = refl
-same_newline (grammar.Identifier name) = refl
-same_newline (grammar.Int value) = refl
-same_newline (grammar.Float text) = refl
-same_newline (grammar.String value) = refl
-same_newline (grammar.Bytes value) = refl
-same_newline (grammar.FStringStart opening) = refl
-same_newline (grammar.FStringText value) = refl
-same_newline grammar.FStringExprStart = refl
-same_newline grammar.FStringExprEnd = refl
-same_newline grammar.FStringBang = refl
-same_newline grammar.FStringEnd = refl
-same_newline (grammar.Word terminal) = refl
 
 has_shown : (ls : List grammar.Lexeme) → has_newline_view (map shown_lexeme ls) ≡ has_newline ls
 has_shown [] = refl

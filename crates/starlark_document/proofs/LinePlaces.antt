@@ -26,12 +26,9 @@ use Rattle.starlark_syntax.specs.Joining.{is_closed}
 use Rattle.starlark_grammar.proofs.Recovery.ClosedTexts.{closed_ends}
 use Rattle.starlark_base.specs.Positions.{pairs_before, pairs_in_line, position_at}
 use Rattle.starlark_base.specs.declared.position.Position.{Position}
+use Rattle.starlark_base.proofs.NewlineCounts.{lines-append}
 use Rattle.starlark_base.proofs.Pairs.{pairs_along, pairs_bound}
 use Rattle.starlark_base.proofs.PlacesAlong.{column_bound, is_one_line, line_bound, place_along}
-
--- the number of LF in two texts
-pub lines-append : (front more : Text) → count_by is_lf (front ++ more) ≡ count_by is_lf front + count_by is_lf more
-lines-append front more = sum_by-append (λ x. cond (is_lf x) 1 0) front more
 
 -- the stored numbers of lines are those of the texts
 pub HaveLines-open : (is_first : Bool) (segments : List Segment) → AreOpen is_first segments → HaveLines segments

@@ -7,6 +7,7 @@ use Rattle.starlark_document.specs.Documents.{AllInside, SameOutside, faults_of,
 use Rattle.starlark_document.specs.Inner.Segments.{AreLaid, IsBounded, faults_along, lexemes_along, text_in, text_of}
 use Rattle.starlark_document.specs.declared.segments.Segment.{Segment}
 use Rattle.starlark_grammar.specs.Tokens.{Fault, Spanned, moved}
+use Rattle.starlark_grammar.specs.Words.{Text}
 use Rattle.starlark_grammar.proofs.Recovery.Order.{faults_in_order}
 use Rattle.starlark_syntax.specs.Recovery.{recovered}
 use Rattle.starlark_token.specs.Lexemes.{lexeme_view}
@@ -149,22 +150,20 @@ outside found before mid fresh after old new = record {
   all_second = inner_inside found before fresh after new;
 }
 
+found_outside : {A : Type 0} (found : SpansIn A) (all_of : Text → List (Spanned A)) → ((segments : List Segment) → AreLaid true segments → all_of (text_of segments) ≡ along found 0 segments)
+    → ((segments : List Segment) → AreLaid true segments → AllByRecursion (EndsIn found) segments)
+    → (before mid fresh after : List Segment) → AreLaid true (before ++ (mid ++ after)) → AreLaid true (before ++ (fresh ++ after))
+    → SameOutside (length (text_of before)) (length (text_of (before ++ mid))) (length (text_of (before ++ fresh)))
+    (all_of (text_of (before ++ (mid ++ after)))) (all_of (text_of (before ++ (fresh ++ after))))
+found_outside found all_of is ends before mid fresh after old new =
+    rw (is (before ++ (mid ++ after)) old, is (before ++ (fresh ++ after)) new) (outside found before mid fresh after (ends (before ++ (mid ++ after)) old) (ends (before ++ (fresh ++ after)) new))
+
 pub lexemes_outside : (before mid fresh after : List Segment) → AreLaid true (before ++ (mid ++ after)) → AreLaid true (before ++ (fresh ++ after))
     → SameOutside (length (text_of before)) (length (text_of (before ++ mid))) (length (text_of (before ++ fresh)))
     (lexemes_of (text_of (before ++ (mid ++ after)))) (lexemes_of (text_of (before ++ (fresh ++ after))))
-lexemes_outside before mid fresh after old new =
-    let first : List Segment = before ++ (mid ++ after) in
-    let second : List Segment = before ++ (fresh ++ after) in
-    let one = lexemes_laid first old ∙ lexemes_are_along 0 first in
-    let other = lexemes_laid second new ∙ lexemes_are_along 0 second in
-    rw (one, other) (outside segment_lexemes before mid fresh after (lexemes_end_in first (all_bounded true first old)) (lexemes_end_in second (all_bounded true second new)))
+lexemes_outside = found_outside segment_lexemes lexemes_of (λ segments laid. lexemes_laid segments laid ∙ lexemes_are_along 0 segments) (λ segments laid. lexemes_end_in segments (all_bounded true segments laid))
 
 pub faults_outside : (before mid fresh after : List Segment) → AreLaid true (before ++ (mid ++ after)) → AreLaid true (before ++ (fresh ++ after))
     → SameOutside (length (text_of before)) (length (text_of (before ++ mid))) (length (text_of (before ++ fresh)))
     (faults_of (text_of (before ++ (mid ++ after)))) (faults_of (text_of (before ++ (fresh ++ after))))
-faults_outside before mid fresh after old new =
-    let first : List Segment = before ++ (mid ++ after) in
-    let second : List Segment = before ++ (fresh ++ after) in
-    let one = faults_laid first old ∙ faults_are_along 0 first in
-    let other = faults_laid second new ∙ faults_are_along 0 second in
-    rw (one, other) (outside segment_faults before mid fresh after (faults_end_in first (all_bounded true first old)) (faults_end_in second (all_bounded true second new)))
+faults_outside = found_outside segment_faults faults_of (λ segments laid. faults_laid segments laid ∙ faults_are_along 0 segments) (λ segments laid. faults_end_in segments (all_bounded true segments laid))

@@ -10,7 +10,7 @@ ghost use Rattle.starlark_document.specs.Inner.EditedParts.{IsLexedPart, IsEdite
 ghost use Rattle.starlark_document.specs.Inner.Segments.{AreLaid, text_of};
 ghost use Rattle.starlark_document.specs.Utf16Places.{StandsAt, place_of};
 ghost use Rattle.starlark_grammar.specs.Words.{Text};
-ghost use Rattle.starlark_run.specs.Calls.{WritesText};
+ghost use Rattle.starlark_devices.specs.Calls.{WritesText};
 
 use crate::edited_parts::{
     EditedPart, LexedPart, SegmentRange, append_texts, is_boundary_in, lex_part, part_of_edit,
@@ -18,7 +18,7 @@ use crate::edited_parts::{
 };
 use crate::line_places::{Place, newlines_in, offset_in_segments, place_in};
 use crate::segments::{Faults, Lexemes, Segment, SegmentPlace, passed_len, segment_at};
-use starlark_run::devices::WriteDevice;
+use starlark_devices::WriteDevice;
 use starlark_syntax::codemap::{CodeMap, CodeMapId, OrMemory, SourceTooLong};
 use std::alloc::{AllocError, Global};
 use std::marker::Model;

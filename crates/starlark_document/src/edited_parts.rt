@@ -7,12 +7,12 @@ ghost use Rattle.starlark_document.specs.Documents.{IsRange, edited};
 ghost use Rattle.starlark_document.specs.Inner.EditedParts.{IsLexedPart, IsEditedPart, IsPlaceIn, IsRangeIn, IsReplaced};
 ghost use Rattle.starlark_document.specs.Inner.Segments.{AreLaid, HaveLens, text_of};
 ghost use Rattle.starlark_grammar.specs.Words.{Text};
-ghost use Rattle.starlark_run.specs.Calls.{WritesText};
+ghost use Rattle.starlark_devices.specs.Calls.{WritesText};
 
 use crate::lexed_fronts::begins_plainly;
 use crate::segment_lexing::{LexingCost, lex_segment};
-use crate::segments::{Segment, SegmentPlace, segment_at};
-use starlark_run::devices::{WriteDevice, write_all};
+use crate::segments::{Segment, SegmentPlace, end_of, segment_at};
+use starlark_devices::{WriteDevice, write_all};
 use starlark_syntax::codemap::CodeMap;
 use std::alloc::{AllocError, Global};
 use std::io;
@@ -62,8 +62,8 @@ pub fn end_at(segments: &[Segment], from: SegmentPlace, to: usize) -> SegmentPla
     ensures reach { to ≤ length (text_of segments.now) → (segment : Segment) → slice_get segments.now result.index ≡ Some segment → to ≤ result.begin + segment.len }
 {
     let mut place = from;
-    while place.index + 1 < segments.len() && place.begin + segments[place.index].len < to {
-        place.begin += segments[place.index].len;
+    while place.index + 1 < segments.len() && end_of(segments, place) < to {
+        place.begin = end_of(segments, place);
         place.index += 1;
     }
     place

@@ -11,6 +11,7 @@ ghost use Rattle.starlark_token.specs.Lexemes.{lexeme_view};
 
 use crate::lexed_fronts::{LexedFront, SPARE_LEXEMES, is_newline};
 use crate::segments::{Content, PlacedToken, Segment};
+use starlark_base::position::newline_count;
 use starlark_syntax::codemap::CodeMap;
 use starlark_syntax::dialect::Dialect;
 use starlark_syntax::lexer::RecoveringLexer;
@@ -86,37 +87,6 @@ fn last_newline(lexemes: &[PlacedToken]) -> usize
         }
     }
     lexemes.len()
-}
-
-/// Number of bytes whose LFs are counted in a `u8`, which lets the compiler take 16 at a time.
-const COUNTED_AT_ONCE: usize = 128;
-
-/// Number of LF among fewer than 256 bytes.
-fn short_newline_count(bytes: &[u8]) -> u8
-    requires { length bytes.now < 2 ^ 8 }
-    ensures { result ≡ count_by is_lf bytes.now }
-{
-    let mut count = 0;
-    for byte in bytes {
-        if *byte == b'\n' {
-            count += 1;
-        }
-    }
-    count
-}
-
-/// Number of LF in a text.
-fn newline_count(text: &str) -> usize
-    ensures { result ≡ count_by is_lf text.now }
-{
-    let bytes = text.as_bytes();
-    let mut count = 0;
-    let mut at = 0;
-    while at + COUNTED_AT_ONCE <= bytes.len() {
-        count += short_newline_count(&bytes[at..at + COUNTED_AT_ONCE]) as usize;
-        at += COUNTED_AT_ONCE;
-    }
-    count + short_newline_count(&bytes[at..]) as usize
 }
 
 /// A segment of a text, with what was found in it.

@@ -1,6 +1,6 @@
 //! Segments: parts of a document's text that are lexed by themselves, and what is found in them.
 
-ghost use Rattle.std.specs.Prelude.{◌≡◌, ◌≤◌, ◌<◌, ◌+◌, ◌^◌, IfSome, None, Some, [], drop, length, nat_le};
+ghost use Rattle.std.specs.Prelude.{◌≡◌, ◌≤◌, ◌<◌, ◌+◌, ◌^◌, IfSome, None, Some, [], drop, length, nat_le, take};
 ghost use Rattle.std.specs.List.{prefix_len, slice_get};
 ghost use Rattle.starlark_document.specs.Documents.{IsKindOf};
 ghost use Rattle.starlark_document.specs.Inner.EditedParts.{IsPlaceIn};
@@ -101,6 +101,18 @@ fn step_before(segments: &[Segment], at: usize) -> SegmentPlace
     }
 }
 
+/// Where a segment ends in the whole text.
+#[inline(always)]
+pub fn end_of(segments: &[Segment], place: SegmentPlace) -> usize
+    requires lens { HaveLens segments.now }
+    requires fits { length (text_of segments.now) < 2 ^ 32 }
+    requires place { IsPlaceIn segments.now place }
+    ensures end { (segment : Segment) → slice_get segments.now place.index ≡ Some segment → result ≡ place.begin + segment.len }
+    ensures next { result ≡ length (text_of (take (place.index + 1) segments.now)) }
+{
+    place.begin + segments[place.index].len
+}
+
 /// The segment that holds byte `at`, or the last one.
 pub fn segment_at(segments: &[Segment], at: usize) -> SegmentPlace
     requires some { 0 < length segments.now }
@@ -112,8 +124,8 @@ pub fn segment_at(segments: &[Segment], at: usize) -> SegmentPlace
     ensures inner { result.index + 1 < length segments.now → (segment : Segment) → slice_get segments.now result.index ≡ Some segment → at < result.begin + segment.len }
 {
     let mut place = step_before(segments, at);
-    while place.index + 1 < segments.len() && place.begin + segments[place.index].len <= at {
-        place.begin += segments[place.index].len;
+    while place.index + 1 < segments.len() && end_of(segments, place) <= at {
+        place.begin = end_of(segments, place);
         place.index += 1;
     }
     place

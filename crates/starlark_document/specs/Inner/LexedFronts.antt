@@ -7,6 +7,7 @@ use Rattle.starlark_document.specs.declared.lexed_fronts.LexedFront.{LexedFront}
 use Rattle.starlark_document.specs.declared.segments.Segment.{Segment}
 use Rattle.starlark_grammar.specs.Tokens as grammar
 use Rattle.starlark_grammar.specs.Words.{Text}
+pub use Rattle.starlark_syntax.specs.Inner.LexedTexts.{is_newline_view}
 use Rattle.starlark_syntax.specs.Joining.{begins_plainly, is_closed, without_last_newline}
 use Rattle.starlark_syntax.specs.Recovery.{recovered}
 use Rattle.starlark_syntax.specs.RecoveringLexer.{all_items}
@@ -25,11 +26,6 @@ abbrev pub refused_of : List LexerItem → List (grammar.Spanned grammar.Fault)
 refused_of [] = []
 refused_of (Given lexeme ∷ more) = refused_of more
 refused_of (Refused fault ∷ more) = fault ∷ refused_of more
-
--- the lexeme is a `Newline`
-abbrev pub is_newline_view : TokenView → Bool
-is_newline_view (Whole grammar.Newline) = true
-is_newline_view view = false
 
 -- whether one of the lexemes is a `Newline`
 abbrev pub has_newline_view : List (grammar.Spanned TokenView) → Bool

@@ -7,8 +7,8 @@ use Rattle.starlark_document.specs.declared.segments.Content.{Content}
 use Rattle.starlark_document.specs.declared.segments.Segment.{Segment}
 use Rattle.starlark_document.proofs.LaidSegments.{text_at}
 use Rattle.starlark_document.proofs.SegmentOffsets.{text_of-more}
-use Rattle.starlark_run.proofs.Calls.{went_nil, went_trans}
-use Rattle.starlark_run.specs.Calls.{Broken, Going, Went, WritesText}
+use Rattle.starlark_devices.proofs.Calls.{went_nil, went_trans}
+use Rattle.starlark_devices.specs.Calls.{Broken, Going, Went, WritesText}
 use Rattle.starlark_document.proofs.edited_parts.write_texts.Goals as goal
 
 pub loop-segment-init : goal.loop-segment-init

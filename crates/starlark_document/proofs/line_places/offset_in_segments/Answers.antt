@@ -1,12 +1,12 @@
-use Rattle.std.proofs.Common.{◌≤◌, ◌+◌, ◌-◌, ◌∙◌, ℕ, List, ap, arith, length, refl, string_bytes, subst, sym}
+use Rattle.std.proofs.Common.{◌≤◌, ◌+◌, ◌-◌, ◌∙◌, ℕ, List, ap, arith, length, refl, string_bytes, subst, sym, take}
 use Rattle.std.proofs.lemmas.Option.{slice_get_read}
 use Rattle.starlark_document.proofs.LinePlaces.{HaveLines-laid, lines-more, lines-within, none_onward, stands_onward}
 use Rattle.starlark_document.proofs.SegmentOffsets.{HaveLens-laid, begin_after, end_within, len_at}
-use Rattle.starlark_document.specs.Inner.Segments.{text_in}
+use Rattle.starlark_document.specs.Inner.Segments.{text_in, text_of}
 use Rattle.starlark_document.specs.Utf16Places.{StandsAt}
 use Rattle.starlark_document.specs.declared.segments.Content.{Content}
 use Rattle.starlark_document.proofs.line_places.offset_in_segments.Goals as goal
-use Rattle.starlark_document.proofs.line_places.offset_in_segments.Goals.{then-lines-line+then-line-lines+in_default, else-lines-line, else-lines-line-via-then-lines-line+else-line-lines, else-lines-line-via-else-lines-line}
+use Rattle.starlark_document.proofs.line_places.offset_in_segments.Goals.{After-as_str-text, then-lines-line+then-line-lines+in_default, else-lines-line, else-lines-line-via-then-lines-line+else-line-lines, else-lines-line-via-else-lines-line}
 
 pub overflow_add-lines : goal.overflow_add-lines
 overflow_add-lines c =
@@ -15,23 +15,22 @@ overflow_add-lines c =
     let is = slice_get_read segments _ c.loop-segment.segment-index segment refl (omega arith) c.segment-item.is in
     omega (arith, c.loop-segment.invariant.lines, lines-within segments c.loop-segment.segment-index segment (HaveLines-laid _ segments c.requires.laid) is, c.requires.fits)
 
-pub offset_in-requires : goal.offset_in-requires
-offset_in-requires c =
+-- the segment's text is no longer than the whole text from there on
+fits : (c : After-as_str-text) → length (text_of (take c.loop-segment.segment-index c.args.segments.now)) + length c.as_str-text.result.now ≤ length (text_of c.args.segments.now)
+fits c =
     let segments = c.args.segments.now in
     let segment = c.segment-item.result in
     let is = slice_get_read segments _ c.loop-segment.segment-index segment refl (omega arith) c.segment-item.is in
     let lens = HaveLens-laid _ segments c.requires.laid in
     let same = ap length (c.as_str-text.ensures.value ∙ ap (λ (x : Content). string_bytes x.text) c.deref.ensures) in
-    omega (arith, same, len_at segments c.loop-segment.segment-index segment lens is, end_within segments c.loop-segment.segment-index segment lens is, c.requires.fits)
+    omega (arith, same, len_at segments c.loop-segment.segment-index segment lens is, end_within segments c.loop-segment.segment-index segment lens is)
+
+pub offset_in-requires : goal.offset_in-requires
+offset_in-requires c = omega (arith, fits (goal.at.offset_in-requires c).After-as_str-text, c.requires.fits)
 
 pub overflow_add-result : goal.overflow_add-result
 overflow_add-result c =
-    let segments = c.args.segments.now in
-    let segment = c.segment-item.result in
-    let is = slice_get_read segments _ c.loop-segment.segment-index segment refl (omega arith) c.segment-item.is in
-    let lens = HaveLens-laid _ segments c.requires.laid in
-    let same = ap length (c.as_str-text.ensures.value ∙ ap (λ (x : Content). string_bytes x.text) c.deref.ensures) in
-    omega (arith, same, c.loop-segment.invariant.begin, c.in-Some.ensures.some.boundary.0, len_at segments c.loop-segment.segment-index segment lens is, end_within segments c.loop-segment.segment-index segment lens is, c.requires.fits)
+    omega (arith, c.loop-segment.invariant.begin, c.in-Some.ensures.some.boundary.0, fits (goal.at.overflow_add-result c).After-as_str-text, c.requires.fits)
 
 pub returns-in-Some-clause-some : goal.returns-in-Some-clause-some
 returns-in-Some-clause-some c =

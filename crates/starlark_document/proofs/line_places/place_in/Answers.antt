@@ -1,4 +1,4 @@
-use Rattle.std.proofs.Common.{◌∙◌, ap, arith, length, length-append, drop, refl, string_bytes, sym, ◌-◌, take, true}
+use Rattle.std.proofs.Common.{◌∙◌, ap, arith, length, length-append, drop, refl, string_bytes, sym, ◌-◌, take, true, ◌+◌, ◌≤◌}
 use Rattle.std.proofs.lemmas.List.Sums.{count_by-le-length}
 use Rattle.std.proofs.lemmas.Option.{slice_get_read}
 use Rattle.starlark_base.specs.Places.{is_lf}
@@ -9,26 +9,36 @@ use Rattle.starlark_document.specs.Inner.Segments.{text_in, text_of}
 use Rattle.starlark_document.specs.declared.segments.Content.{Content}
 use Rattle.starlark_base.proofs.Pairs.{position_start}
 use Rattle.starlark_document.proofs.line_places.place_in.Goals as goal
+use Rattle.starlark_document.proofs.line_places.place_in.Goals.{After-as_str-text}
 
 pub segment_at-first-requires-clause-lens : goal.segment_at-first-requires-clause-lens
 segment_at-first-requires-clause-lens c = HaveLens-laid true c.args.segments.now c.requires.laid
 
+-- the segment that the offset lies in, …
+holds : (c : After-as_str-text) → Holds c.args.segments.now c.segment_at-first.result c.index-segments-first.result c.as_str-text.result.now c.args.at
+holds c = record {
+  laid = c.requires.laid;
+  is_place = c.segment_at-first.ensures.place;
+  is = slice_get_read c.args.segments.now _ c.segment_at-first.result.index c.index-segments-first.result refl c.segment_at-first.ensures.place.inside c.index-segments-first.is;
+  same = c.as_str-text.ensures.value ∙ ap (λ (x : Content). string_bytes x.text) c.deref.ensures ∙ ap text_in (sym c.index-segments-first.is);
+  before = c.segment_at-first.ensures.before;
+}
+
+-- … and the whole text, which is no shorter than what ends with it
+fits : (c : After-as_str-text) → length (text_of (take c.segment_at-first.result.index c.args.segments.now)) + length c.as_str-text.result.now ≤ length (text_of c.args.segments.now)
+fits c =
+    let segments = c.args.segments.now in
+    let lens = HaveLens-laid true segments c.requires.laid in
+    let len = len_at segments c.segment_at-first.result.index c.index-segments-first.result lens (holds c).is in
+    omega (arith, len, ap length (holds c).same, end_within segments c.segment_at-first.result.index c.index-segments-first.result lens (holds c).is)
+
 pub returns-then-not-is_char_boundary-clause-none : goal.returns-then-not-is_char_boundary-clause-none
 returns-then-not-is_char_boundary-clause-none c =
-    let segments = c.args.segments.now in
     let place = c.segment_at-first.result in
     let segment = c.index-segments-first.result in
-    let text = c.as_str-text.result.now in
-    let is = slice_get_read segments _ place.index segment refl c.segment_at-first.ensures.place.inside c.index-segments-first.is in
-    let holds : Holds segments place segment text c.args.at = record {
-      laid = c.requires.laid;
-      is_place = c.segment_at-first.ensures.place;
-      is = is;
-      same = c.as_str-text.ensures.value ∙ ap (λ (x : Content). string_bytes x.text) c.deref.ensures ∙ ap text_in (sym c.index-segments-first.is);
-      before = c.segment_at-first.ensures.before;
-    } in (
+    let held = holds (goal.at.returns-then-not-is_char_boundary-clause-none c).After-as_str-text in (
       λ e cut.
-          let yes = c.is_char_boundary.ensures.test.1 (boundary_in segments place segment text c.args.at holds (c.segment_at-first.ensures.reach cut.0 segment is) cut) in
+          let yes = c.is_char_boundary.ensures.test.1 (boundary_in c.args.segments.now place segment c.as_str-text.result.now c.args.at held (c.segment_at-first.ensures.reach cut.0 segment held.is) cut) in
           let no = c.if-not-is_char_boundary.true in
           cc,
       λ no. refl,
@@ -50,63 +60,29 @@ newlines_in-requires-clause-fits c =
 
 pub overflow_add-result : goal.overflow_add-result
 overflow_add-result c =
-    let segments = c.args.segments.now in
-    let place = c.segment_at-first.result in
-    let segment = c.index-segments-first.result in
-    let text = c.as_str-text.result.now in
-    let is = slice_get_read segments _ place.index segment refl c.segment_at-first.ensures.place.inside c.index-segments-first.is in
-    let lens = HaveLens-laid true segments c.requires.laid in
-    let same = ap length (c.as_str-text.ensures.value ∙ ap (λ (x : Content). string_bytes x.text) c.deref.ensures ∙ ap text_in (sym c.index-segments-first.is)) in
+    let within = fits (goal.at.overflow_add-result c).After-as_str-text in
     let cut = c.is_char_boundary.ensures.test.0 c.if-not-is_char_boundary.false in
-    let bounds = position_bounds text (c.args.at - place.begin) c.moved-position.result c.as_str-text.utf8 cut c.moved-position.ensures in
-    let lines = count_by-le-length is_lf (text_of (take place.index segments)) in
-    omega (arith, c.newlines_in.ensures, lines, bounds.0, same, len_at segments place.index segment lens is, end_within segments place.index segment lens is, c.requires.fits)
+    let bounds = position_bounds c.as_str-text.result.now (c.args.at - c.segment_at-first.result.begin) c.moved-position.result c.as_str-text.utf8 cut c.moved-position.ensures in
+    let lines = count_by-le-length is_lf (text_of (take c.segment_at-first.result.index c.args.segments.now)) in
+    omega (arith, c.newlines_in.ensures, lines, bounds.0, within, c.requires.fits)
 
 pub overflow_add-result-2 : goal.overflow_add-result-2
 overflow_add-result-2 c =
-    let segments = c.args.segments.now in
-    let place = c.segment_at-first.result in
-    let segment = c.index-segments-first.result in
-    let text = c.as_str-text.result.now in
-    let is = slice_get_read segments _ place.index segment refl c.segment_at-first.ensures.place.inside c.index-segments-first.is in
-    let lens = HaveLens-laid true segments c.requires.laid in
-    let same = ap length (c.as_str-text.ensures.value ∙ ap (λ (x : Content). string_bytes x.text) c.deref.ensures ∙ ap text_in (sym c.index-segments-first.is)) in
+    let within = fits (goal.at.overflow_add-result-2 c).After-as_str-text in
     let cut = c.is_char_boundary.ensures.test.0 c.if-not-is_char_boundary.false in
-    let bounds = position_bounds text (c.args.at - place.begin) c.moved-position.result c.as_str-text.utf8 cut c.moved-position.ensures in
-    omega (arith, bounds.1, bounds.2, same, len_at segments place.index segment lens is, end_within segments place.index segment lens is, c.requires.fits)
+    let bounds = position_bounds c.as_str-text.result.now (c.args.at - c.segment_at-first.result.begin) c.moved-position.result c.as_str-text.utf8 cut c.moved-position.ensures in
+    omega (arith, bounds.1, bounds.2, within, c.requires.fits)
 
 pub returns-clause-place : goal.returns-clause-place
 returns-clause-place c =
-    let segments = c.args.segments.now in
-    let place = c.segment_at-first.result in
-    let segment = c.index-segments-first.result in
-    let text = c.as_str-text.result.now in
-    let is = slice_get_read segments _ place.index segment refl c.segment_at-first.ensures.place.inside c.index-segments-first.is in
-    let holds : Holds segments place segment text c.args.at = record {
-      laid = c.requires.laid;
-      is_place = c.segment_at-first.ensures.place;
-      is = is;
-      same = c.as_str-text.ensures.value ∙ ap (λ (x : Content). string_bytes x.text) c.deref.ensures ∙ ap text_in (sym c.index-segments-first.is);
-      before = c.segment_at-first.ensures.before;
-    } in
     let cut = c.is_char_boundary.ensures.test.0 c.if-not-is_char_boundary.false in
-    place_held segments place segment text c.args.at c.newlines_in.result c.moved-position.result holds cut c.newlines_in.ensures c.moved-position.ensures
+    place_held c.args.segments.now c.segment_at-first.result c.index-segments-first.result c.as_str-text.result.now c.args.at c.newlines_in.result c.moved-position.result
+    (holds (goal.at.returns-clause-place c).After-as_str-text) cut c.newlines_in.ensures c.moved-position.ensures
 
 pub returns-clause-none : goal.returns-clause-none
 returns-clause-none c =
-    let segments = c.args.segments.now in
-    let place = c.segment_at-first.result in
-    let segment = c.index-segments-first.result in
-    let text = c.as_str-text.result.now in
-    let is = slice_get_read segments _ place.index segment refl c.segment_at-first.ensures.place.inside c.index-segments-first.is in
-    let holds : Holds segments place segment text c.args.at = record {
-      laid = c.requires.laid;
-      is_place = c.segment_at-first.ensures.place;
-      is = is;
-      same = c.as_str-text.ensures.value ∙ ap (λ (x : Content). string_bytes x.text) c.deref.ensures ∙ ap text_in (sym c.index-segments-first.is);
-      before = c.segment_at-first.ensures.before;
-    } in
+    let held = holds (goal.at.returns-clause-none c).After-as_str-text in
     let cut = c.is_char_boundary.ensures.test.0 c.if-not-is_char_boundary.false in (
       λ e. absurd (cc),
-      λ no. absurd (no (boundary_out segments place segment text c.args.at holds cut)),
+      λ no. absurd (no (boundary_out c.args.segments.now c.segment_at-first.result c.index-segments-first.result c.as_str-text.result.now c.args.at held cut)),
     )

@@ -2,7 +2,8 @@ use Rattle.std.proofs.Common.{◌≡◌, ◌≤◌, ◌∷◌, ◌++◌, ℕ, Li
 use Rattle.starlark_syntax.specs.RecoveringLexer.{AreReadsOn, HasReadOn, RecoveringView, all_items, is_memory}
 use Rattle.starlark_document.proofs.Costs.{goes_on, reads_on, some_anyhow}
 use Rattle.starlark_document.specs.Inner.Costs.{IsTextCost}
-use Rattle.starlark_document.proofs.FirstSegments.{cut_first, next_item, plain_below}
+use Rattle.starlark_document.proofs.FirstSegments.{cut_first, plain_below}
+use Rattle.starlark_syntax.proofs.NextItems.{next_item}
 use Rattle.starlark_document.specs.declared.segment_lexing.LexingCost.{LexingCost}
 use Rattle.starlark_document.specs.declared.segments.Segment.{Segment}
 use Rattle.starlark_document.proofs.segment_lexing.lex_segment.Goals as goal
