@@ -63,42 +63,51 @@ def twice_command(begin, end, text):
     return f"twice {begin} {end} {len(text)}\n".encode() + text + b"\n"
 
 
-# Lines of one length, in a document with segments of at least the length that `Document::new` gives them.
+# Lines of one length, in documents with segments of at least the length that `Document::new` gives them, and of few bytes.
 LINE, LINES, SEGMENT_LEN = b"x = 1\n", 1000, 1280
+FEW_LINES, FEW_BYTES = 8, 12
 
 
-def line_segments():
+def line_segments(lines, least_len):
     """The range of each segment of a document of lines: as few lines as have the least length, where as much is left."""
-    begin, end = 0, LINES * len(LINE)
-    least = -(-SEGMENT_LEN // len(LINE)) * len(LINE)
-    while end - begin >= least + SEGMENT_LEN:
+    begin, end = 0, lines * len(LINE)
+    least = -(-least_len // len(LINE)) * len(LINE)
+    while end - begin >= least + least_len:
         yield begin, begin + least
         begin += least
     yield begin, end
 
 
-def line_edits():
-    """The lines, put into an empty document, and a byte typed into each segment and deleted again, with what each edit returns."""
-    text = LINE * LINES
-    lexed = sum(len(text) - begin for begin, _ in line_segments())
+def line_edits(lines, least_len, typed):
+    """A text typed into each segment of a document of lines and deleted again, with what each edit returns."""
+    text = LINE * lines
+    for begin, end in line_segments(lines, least_len):
+        at, later = begin + len(LINE), end + len(typed)
+        yield edit_command(at, at, typed), text[:at] + typed + text[at:], f"{begin} {end} {later} {later - begin} same".encode()
+        yield edit_command(at, at + len(typed), b""), text, f"{begin} {later} {end} {end - begin} same".encode()
+
+
+def line_documents():
+    """Lines put into an empty document, and few lines in a new one, with edits of each, and what each command returns."""
+    text, few = LINE * LINES, LINE * FEW_LINES
+    lexed = sum(len(text) - begin for begin, _ in line_segments(LINES, SEGMENT_LEN))
     yield edit_command(0, 0, text), text, f"0 0 {len(text)} {lexed} same".encode()
-    for begin, end in line_segments():
-        at, count = begin + len(LINE), end - begin
-        yield edit_command(at, at, b"y"), text[:at] + b"y" + text[at:], f"{begin} {end} {end + 1} {count + 1} same".encode()
-        yield edit_command(at, at + 1, b""), text, f"{begin} {end + 1} {end} {count} same".encode()
+    yield from line_edits(LINES, SEGMENT_LEN, b"y")
+    yield new_command(FEW_BYTES, few), few, b"same"
+    yield from line_edits(FEW_LINES, FEW_BYTES, b"zz")
 
 
 # What some stored commands return: that each edit lexes a segment, and of one edit made twice how many were made, or which is refused.
 WANTED = {
     b"twice 0 1 2\n<<\n": b"2 same",
     b"twice 0 60 0\n\n": b"1 bad range same",
-    **{command: output for command, _, output in line_edits()},
+    **{command: output for command, _, output in line_documents()},
 }
 
 
 def stored_commands():
-    """Edits of lines, and then a document of many kinds of lines, into which each of a list of texts is typed at each line's start and deleted again."""
-    yield from ((command, text) for command, text, _ in line_edits())
+    """Documents of lines, and then one of many kinds of lines, into which each of a list of texts is typed at each line's start and deleted again."""
+    yield from ((command, text) for command, text, _ in line_documents())
     yield new_command(1, STORED), STORED
     text = STORED
     for at in [match.start() for match in re.finditer(rb"(?m)^", STORED)]:
