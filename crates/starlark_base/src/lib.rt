@@ -7,6 +7,7 @@
 pub mod call_stack;
 pub mod codemap;
 pub mod diagnostic;
+pub mod edit;
 pub mod laws;
 pub mod position;
 
