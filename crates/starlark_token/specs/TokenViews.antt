@@ -1,5 +1,5 @@
 -- Tokens of the code, as the grammar sees them.
-use Rattle.std.specs.Prelude.{true, false, string_bytes}
+use Rattle.std.specs.Prelude.{Bool, true, false, string_bytes}
 use Rattle.starlark_grammar.specs.declared.class.Terminal.TheVariants as terminal
 use Rattle.starlark_grammar.specs.declared.class.Quote.{Quote}
 use Rattle.starlark_grammar.specs.declared.class.Quote.TheVariants.{Single as SingleQuote, Double as DoubleQuote}
@@ -118,3 +118,8 @@ token_view token.OpeningRound = Whole (grammar.Word terminal.OpeningRound)
 token_view token.ClosingSquare = Whole (grammar.Word terminal.ClosingSquare)
 token_view token.ClosingCurly = Whole (grammar.Word terminal.ClosingCurly)
 token_view token.ClosingRound = Whole (grammar.Word terminal.ClosingRound)
+
+-- the token is `Newline`
+abbrev pub is_newline_view : TokenView → Bool
+is_newline_view (Whole grammar.Newline) = true
+is_newline_view view = false

@@ -2,7 +2,7 @@
 
 ghost use Rattle.std.specs.Prelude.{◌≡◌, IfOk, OnErr};
 ghost use Rattle.starlark_token.specs.TokenTexts.{kind_of, fixed_text};
-ghost use Rattle.starlark_token.specs.TokenViews.{token_view};
+ghost use Rattle.starlark_token.specs.TokenViews.{is_newline_view, token_view};
 ghost use Rattle.starlark_token.specs.OwnedValues.{OwnsMemory};
 
 use crate::fstring_style::FStringQuote;
@@ -207,6 +207,14 @@ pub enum Token {
 }
 
 impl Token {
+    /// Whether it is `Newline`.
+    #[tactic(auto, unfolding(crate::specs::TokenViews::token_view))]
+    pub fn is_newline(&self) -> bool
+        ensures { result ≡ is_newline_view (token_view self.now) }
+    {
+        matches!(self, Token::Newline)
+    }
+
     /// The name of the variant, such as `Identifier` or `OpeningRound`.
     #[tactic(auto, unfolding(crate::specs::TokenViews::token_view, crate::specs::TokenTexts::kind_of, crate::specs::TokenTexts::whole_kind, crate::specs::TokenTexts::terminal_kind))]
     pub fn kind(&self) -> &'static str
