@@ -1,9 +1,8 @@
 //! Replaces the end of a list of lexemes.
 
 ghost use Rattle.std.specs.Prelude.{◌≡◌, ◌<◌, ◌≤◌, ◌+◌, ◌++◌, ◌^◌, [], ℕ, None, IfSome, OnErr, OnOk, Some, if◌then◌else◌, drop, false, length, map, take, true, vec_capacity, vec_len};
-ghost use Rattle.starlark_syntax.specs.Inner.LexedTexts.{AllAfter, AllNear, IsTakenBack, is_newline_view, last_newline_of, later, moved_lexeme};
+ghost use Rattle.starlark_syntax.specs.Inner.LexedTexts.{AllAfter, AllNear, IsTakenBack, last_newline_of, later, moved_lexeme};
 ghost use Rattle.starlark_token.specs.Lexemes.{lexeme_view};
-ghost use Rattle.starlark_token.specs.TokenViews.{token_view};
 
 use crate::cuts::{Begin, Cut, cuts_up_to};
 use starlark_token::tokens::Token;
@@ -91,14 +90,6 @@ pub(crate) fn replace_lexemes(
     Ok(())
 }
 
-/// Whether a token is `Newline`.
-#[tactic(auto, unfolding(starlark_token::specs::TokenViews::token_view))]
-fn is_newline(token: &Token) -> bool
-    ensures { result ≡ is_newline_view (token_view token.now) }
-{
-    matches!(token, Token::Newline)
-}
-
 /// Index of the last `Newline` in a list of lexemes.
 pub(crate) fn last_newline(lexemes: &[(usize, Token, usize)]) -> Option<usize>
     ensures value { result ≡ last_newline_of (map lexeme_view lexemes.now) }
@@ -107,7 +98,7 @@ pub(crate) fn last_newline(lexemes: &[(usize, Token, usize)]) -> Option<usize>
     let mut at = lexemes.len();
     while at > 0 {
         at -= 1;
-        if is_newline(&lexemes[at].1) {
+        if lexemes[at].1.is_newline() {
             return Some(at);
         }
     }

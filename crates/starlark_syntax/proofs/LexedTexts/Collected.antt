@@ -19,7 +19,7 @@ use Rattle.starlark_reader.specs.Inner.MarginCuts.{IsCutBefore, lexemes_before}
 use Rattle.starlark_syntax.specs.declared.cuts.Cut.{Cut}
 use Rattle.starlark_syntax.proofs.LexedTexts.CleanEnds.{faultless_cut, faulty_cut}
 use Rattle.starlark_syntax.proofs.LexedTexts.KeptCuts.{in_order, some_lexemes, take_all, whole_kept}
-use Rattle.starlark_syntax.proofs.LexedTexts.HeldCuts.{held_left, held_one, held_right, kept_inside}
+use Rattle.starlark_syntax.proofs.LexedTexts.HeldCuts.{held_left, held_one, held_right, kept_inside, kept_some}
 use Rattle.starlark_syntax.proofs.LexedTexts.RelexedOutcomes.{all_both}
 use Rattle.starlark_syntax.proofs.LexedTexts.JoinedLists.{begun}
 use Rattle.starlark_reader.proofs.TakenPieces.Onward.{margin_first}
@@ -247,6 +247,30 @@ all_given text state new part cuts is answer no_fault so same is_cut no_tabs =
 -- how many are found and how many are left
 pub all_counted : (text : Text) (state : LexerState) (found : List (ℕ × Token × ℕ)) → IsCollected text state found → length found + length (left_in state) ≡ length (outcome text).lexemes
 all_counted text state found is = omega (arith, ap length is.all, length-append (map lexeme_view found) (left_in state), length-map found lexeme_view, length-map (outcome text).lexemes shown_lexeme)
+
+-- The lexeme that was handed out last is in the list, and the cuts up to it are in theirs.
+pub record HasPushed (text : Text) (state : LexerState) (lexemes pushed : List (ℕ × Token × ℕ)) (found : List Cut) : Type 0 where
+  pub more : length lexemes < length (outcome text).lexemes
+  pub collected : IsCollected text state pushed
+  pub cuts : AreCutsSoFar text (length pushed) found
+
+pub pushed_one : (text : Text) (old new : LexerState) (lexemes pushed : List (ℕ × Token × ℕ)) (lexeme : ℕ × Token × ℕ) (cuts found : List Cut) (place : Option ℕ) (len : ℕ) → IsCollected text old lexemes → AreCutsSoFar text (length lexemes) cuts
+    → HasAnswered old (Some (Ok lexeme)) new → IsLexing new → view_of new ≡ record (view_of old) { yielded_count = old.yielded_count + 1; has_ended = false; reads = new.reader.reads }
+    → pushed ≡ lexemes ++ lexeme ∷ [] → IfSome place (λ at. IsCutBefore new.text.now at (length (left_in new))) → ((at : ℕ) → IsReached new.reader at → 0 < at → at < length new.text.now → place ≡ Some at)
+    → len ≡ length pushed → found ≡ cuts ++ cuts_at place len → HasPushed text new lexemes pushed found
+pushed_one text old new lexemes pushed lexeme cuts found place len is so answer lexing after push kept reached counted all =
+    let more = one_more text old new lexemes lexeme is answer lexing after in
+    let collected : IsCollected text new pushed = subst (IsCollected text new) (sym push) more.0 in
+    let one : length pushed ≡ length lexemes + 1 = ap length push ∙ length-append lexemes (lexeme ∷ []) in
+    let same = text_is text new pushed collected in
+    let later = cuts_more text (length lexemes) (left_in new) cuts place so (omega (arith, one, all_counted text new pushed collected))
+    (subst (λ (t : Text). IfSome place (λ at. IsCutBefore t at (length (left_in new)))) same kept)
+    (λ at cut. reached at (more.2 at cut) (kept_some text at cut.is_kept) (subst (λ (t : Text). at < length t) (sym same) cut.inside)) in
+    record {
+      more = more.1;
+      collected = collected;
+      cuts = subst (λ n. AreCutsSoFar text n found) (sym one) (subst (AreCutsSoFar text (length lexemes + 1)) (sym (all ∙ ap (λ n. cuts ++ cuts_at place n) (counted ∙ one))) later);
+    }
 
 -- Nothing is left of a text without fault only where it has a lexeme at least.
 pub some_given : (text : Text) (state new : LexerState) (found : List (ℕ × Token × ℕ)) → IsCollected text state found → HasTakenLast state None new → 0 < length found

@@ -5,8 +5,8 @@ use Rattle.starlark_grammar.specs.Tokens as grammar
 use Rattle.starlark_grammar.specs.Tokens.{Lexeme, Spanned}
 use Rattle.starlark_grammar.specs.Cuts.{before_newline, is_newline}
 use Rattle.starlark_token.specs.Lexemes.{lexeme_view, shown, shown_lexeme}
-use Rattle.starlark_syntax.specs.Inner.LexedTexts.{is_newline_view, last_newline_of}
-use Rattle.starlark_token.specs.TokenViews.{Whole, token_view}
+use Rattle.starlark_syntax.specs.Inner.LexedTexts.{last_newline_of}
+use Rattle.starlark_token.specs.TokenViews.{Whole, is_newline_view, token_view}
 use Rattle.starlark_token.specs.declared.tokens.Token.{Token}
 
 -- with one lexeme more, by whether that is one
@@ -22,22 +22,8 @@ one_more_not (x ∷ xs) (suc at) d inside is = rw (one_more_not xs at d (omega (
 
 -- the same token tells it
 pub same_newline : (node : grammar.Token) → is_newline_view (Whole (shown node)) ≡ is_newline node
-same_newline (grammar.Comment text) = refl
-same_newline grammar.Indent = refl
-same_newline grammar.Dedent = refl
 same_newline grammar.Newline = refl
-same_newline (grammar.Identifier name) = refl
-same_newline (grammar.Int value) = refl
-same_newline (grammar.Float text) = refl
-same_newline (grammar.String value) = refl
-same_newline (grammar.Bytes value) = refl
-same_newline (grammar.FStringStart opening) = refl
-same_newline (grammar.FStringText value) = refl
-same_newline grammar.FStringExprStart = refl
-same_newline grammar.FStringExprEnd = refl
-same_newline grammar.FStringBang = refl
-same_newline grammar.FStringEnd = refl
-same_newline (grammar.Word terminal) = refl
+same_newline node = refl
 
 -- What is found among the lexemes as they are shown is found among those of the grammar.
 pub none_shown : (ls : List Lexeme) → last_newline_of (map shown_lexeme ls) ≡ None → before_newline ls ≡ None

@@ -5,7 +5,7 @@ use Rattle.starlark_grammar.specs.Words.{Text}
 use Rattle.starlark_grammar.specs.Tokens as grammar
 use Rattle.starlark_grammar.specs.Reading.{outcome}
 use Rattle.starlark_grammar.specs.Cuts.{is_clean_cut, is_kept_cut, without_closing}
-use Rattle.starlark_token.specs.TokenViews.{TokenView, Whole}
+use Rattle.starlark_token.specs.TokenViews.{TokenView, Whole, is_newline_view}
 use Rattle.starlark_token.specs.declared.tokens.Token.{Token}
 use Rattle.starlark_syntax.specs.Inner.RawItems.{IsRawIn}
 use Rattle.starlark_token.specs.declared.lexeme_error.LexemeError.{LexemeError}
@@ -160,11 +160,6 @@ pub record IsPutIn (known text : Text) (lexemes : List (ℕ × Token × ℕ)) (c
   pub to : IsReadPartTo text meeting.at part
   pub known_short : length known < 2 ^ 32
   pub short : begin.at + length text < 2 ^ 32
-
--- the token is `Newline`
-abbrev pub is_newline_view : TokenView → Bool
-is_newline_view (Whole grammar.Newline) = true
-is_newline_view view = false
 
 -- the index of the last `Newline` in a list
 abbrev pub last_newline_of : List (grammar.Spanned TokenView) → Option ℕ

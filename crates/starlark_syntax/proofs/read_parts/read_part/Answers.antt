@@ -10,8 +10,7 @@ use Rattle.starlark_reader.specs.Inner.Reader.{IsStateAfter}
 use Rattle.starlark_syntax.specs.Inner.LexedTexts.{IsMet, cuts_at, end_cuts}
 use Rattle.starlark_syntax.specs.Inner.LexerStates.{HasAnswered, StateView, left_in, view_of}
 use Rattle.starlark_token.specs.declared.tokens.Token.{Token}
-use Rattle.starlark_syntax.proofs.LexedTexts.Collected.{AreCutsSoFar, IsCollected, all_counted, all_given, collected_none, cuts_more, fault_given, goes_on, less_left, no_cuts_yet, none_collected, one_more, same_collected, settled_is, some_given, text_is}
-use Rattle.starlark_syntax.proofs.LexedTexts.HeldCuts.{kept_some}
+use Rattle.starlark_syntax.proofs.LexedTexts.Collected.{AreCutsSoFar, IsCollected, all_given, collected_none, fault_given, goes_on, less_left, no_cuts_yet, none_collected, pushed_one, same_collected, settled_is, some_given, text_is}
 use Rattle.starlark_syntax.proofs.LexedTexts.Meetings.{met_front}
 use Rattle.starlark_syntax.proofs.read_parts.read_part.Goals as goal
 
@@ -23,55 +22,35 @@ loop-item-init c = record {
 
 pub loop-item-preserved : goal.loop-item-preserved
 loop-item-preserved c =
-    let text = c.args.state.now.text.now in
-    let is = c.loop-item.invariant.collected in
-    let going : c.loop-item.state.has_ended ≡ false = goes_on _ c.loop-item.state c.loop-item.lexemes.items is in
-    let answer : HasAnswered c.loop-item.state (Some (Ok c.in-Ok.lexeme)) c.next.new.self = rw c.in-Ok.is at (c.in-Some.ensures.answer going) in
-    let after : view_of c.next.new.self ≡ record (view_of c.loop-item.state) { yielded_count = c.loop-item.state.yielded_count + 1; has_ended = false; reads = c.next.new.self.reader.reads } = rw (c.in-Ok.is, going) at c.in-Some.ensures.after in
-    let more = one_more text c.loop-item.state c.next.new.self c.loop-item.lexemes.items c.in-Ok.lexeme is answer c.in-Some.ensures.lexing after in
-    let collected : IsCollected text c.next.new.self c.push.new.self.items = subst (IsCollected text c.next.new.self) (sym c.in_ok-push.ensures.items) more.0 in
-    let one : length c.push.new.self.items ≡ length c.loop-item.lexemes.items + 1 = ap length c.in_ok-push.ensures.items ∙ length-append c.loop-item.lexemes.items (c.in-Ok.lexeme ∷ []) in
-    let same = text_is text c.next.new.self c.push.new.self.items collected in
-    let cuts = cuts_more text (length c.loop-item.lexemes.items) (left_in c.next.new.self) c.loop-item.cuts.items c.cut-place.result c.loop-item.invariant.cuts (omega (arith, one, all_counted text c.next.new.self c.push.new.self.items collected))
-    (subst (λ (t : Text). IfSome c.cut-place.result (λ at. IsCutBefore t at (length (left_in c.next.new.self)))) same c.cut-place.ensures.kept)
-    (λ at cut. c.cut-place.ensures.reached at (more.2 at cut) (kept_some text at cut.is_kept) (subst (λ (t : Text). at < length t) (sym same) cut.inside)) in
-    let counted : c.len.result ≡ length c.loop-item.lexemes.items + 1 = omega (arith, c.len.ensures, c.push.new.self.ok, one) in
+    let going = goes_on _ c.loop-item.state c.loop-item.lexemes.items c.loop-item.invariant.collected in
+    let pushed = pushed_one c.args.state.now.text.now c.loop-item.state c.next.new.self c.loop-item.lexemes.items c.push.new.self.items c.in-Ok.lexeme c.loop-item.cuts.items c.push_cut.new.cuts.items c.cut-place.result c.len.result c.loop-item.invariant.collected c.loop-item.invariant.cuts
+    (rw c.in-Ok.is at (c.in-Some.ensures.answer going)) c.in-Some.ensures.lexing (rw (c.in-Ok.is, going) at c.in-Some.ensures.after) c.in_ok-push.ensures.items c.cut-place.ensures.kept c.cut-place.ensures.reached (omega (arith, c.len.ensures, c.push.new.self.ok)) c.in_ok-push_cut.ensures in
     record {
-      collected = same_collected text c.next.new.self c.meeting_at.new.state c.push.new.self.items collected c.meeting_at.ensures.lexing c.meeting_at.ensures.after;
-      cuts = subst (λ n. AreCutsSoFar text n c.push_cut.new.cuts.items) (sym one) (subst (AreCutsSoFar text (length c.loop-item.lexemes.items + 1)) (sym (c.in_ok-push_cut.ensures ∙ ap (λ n. c.loop-item.cuts.items ++ cuts_at c.cut-place.result n) counted)) cuts);
+      collected = same_collected c.args.state.now.text.now c.next.new.self c.meeting_at.new.state c.push.new.self.items pushed.collected c.meeting_at.ensures.lexing c.meeting_at.ensures.after;
+      cuts = pushed.cuts;
     }
 
 pub returns-in-Some-meeting_at-clause-met : goal.returns-in-Some-meeting_at-clause-met
 returns-in-Some-meeting_at-clause-met c =
+    let going = goes_on _ c.loop-item.state c.loop-item.lexemes.items c.loop-item.invariant.collected in
+    let pushed = pushed_one c.args.state.now.text.now c.loop-item.state c.next.new.self c.loop-item.lexemes.items c.push.new.self.items c.in-Ok.lexeme c.loop-item.cuts.items c.push_cut.new.cuts.items c.cut-place.result c.len.result c.loop-item.invariant.collected c.loop-item.invariant.cuts
+    (rw c.in-Ok.is at (c.in-Some.ensures.answer going)) c.in-Some.ensures.lexing (rw (c.in-Ok.is, going) at c.in-Some.ensures.after) c.in_ok-push.ensures.items c.cut-place.ensures.kept c.cut-place.ensures.reached (omega (arith, c.len.ensures, c.push.new.self.ok)) c.in_ok-push_cut.ensures in
     let text = c.args.state.now.text.now in
-    let is = c.loop-item.invariant.collected in
-    let going : c.loop-item.state.has_ended ≡ false = goes_on _ c.loop-item.state c.loop-item.lexemes.items is in
-    let answer : HasAnswered c.loop-item.state (Some (Ok c.in-Ok.lexeme)) c.next.new.self = rw c.in-Ok.is at (c.in-Some.ensures.answer going) in
-    let after : view_of c.next.new.self ≡ record (view_of c.loop-item.state) { yielded_count = c.loop-item.state.yielded_count + 1; has_ended = false; reads = c.next.new.self.reader.reads } = rw (c.in-Ok.is, going) at c.in-Some.ensures.after in
-    let more = one_more text c.loop-item.state c.next.new.self c.loop-item.lexemes.items c.in-Ok.lexeme is answer c.in-Some.ensures.lexing after in
-    let collected : IsCollected text c.next.new.self c.push.new.self.items = subst (IsCollected text c.next.new.self) (sym c.in_ok-push.ensures.items) more.0 in
-    let one : length c.push.new.self.items ≡ length c.loop-item.lexemes.items + 1 = ap length c.in_ok-push.ensures.items ∙ length-append c.loop-item.lexemes.items (c.in-Ok.lexeme ∷ []) in
-    let same = text_is text c.next.new.self c.push.new.self.items collected in
-    let cuts = cuts_more text (length c.loop-item.lexemes.items) (left_in c.next.new.self) c.loop-item.cuts.items c.cut-place.result c.loop-item.invariant.cuts (omega (arith, one, all_counted text c.next.new.self c.push.new.self.items collected))
-    (subst (λ (t : Text). IfSome c.cut-place.result (λ at. IsCutBefore t at (length (left_in c.next.new.self)))) same c.cut-place.ensures.kept)
-    (λ at cut. c.cut-place.ensures.reached at (more.2 at cut) (kept_some text at cut.is_kept) (subst (λ (t : Text). at < length t) (sym same) cut.inside)) in
-    let counted : c.len.result ≡ length c.loop-item.lexemes.items + 1 = omega (arith, c.len.ensures, c.push.new.self.ok, one) in
-    let so : AreCutsSoFar text (length c.push.new.self.items) c.push_cut.new.cuts.items = subst (λ n. AreCutsSoFar text n c.push_cut.new.cuts.items) (sym one) (subst (AreCutsSoFar text (length c.loop-item.lexemes.items + 1)) (sym (c.in_ok-push_cut.ensures ∙ ap (λ n. c.loop-item.cuts.items ++ cuts_at c.cut-place.result n) counted)) cuts) in
+    let same = text_is text c.next.new.self c.push.new.self.items pushed.collected in
+    let counted : c.len.result ≡ length c.push.new.self.items = omega (arith, c.len.ensures, c.push.new.self.ok) in
     let reached : c.cut-place.result ≡ Some c.in-Some-meeting_at.meeting.at = c.in-Some-meeting_at.ensures.place in
     let before : IsCutBefore text c.in-Some-meeting_at.meeting.at (length (left_in c.next.new.self)) = subst (λ (t : Text). IsCutBefore t c.in-Some-meeting_at.meeting.at (length (left_in c.next.new.self))) same (subst (λ (found : Option ℕ). IfSome found (λ at. IsCutBefore c.next.new.self.text.now at (length (left_in c.next.new.self)))) reached c.cut-place.ensures.kept) in
-    let last : c.push_cut.new.cuts.items ≡ c.loop-item.cuts.items ++ cuts_at (Some c.in-Some-meeting_at.meeting.at) (length c.push.new.self.items) = c.in_ok-push_cut.ensures ∙ ap (λ n. c.loop-item.cuts.items ++ cuts_at c.cut-place.result n) (counted ∙ sym one) ∙ ap (λ (found : Option ℕ). c.loop-item.cuts.items ++ cuts_at found (length c.push.new.self.items)) reached in (
+    let last : c.push_cut.new.cuts.items ≡ c.loop-item.cuts.items ++ cuts_at (Some c.in-Some-meeting_at.meeting.at) (length c.push.new.self.items) = c.in_ok-push_cut.ensures ∙ ap (λ n. c.loop-item.cuts.items ++ cuts_at c.cut-place.result n) counted ∙ ap (λ (found : Option ℕ). c.loop-item.cuts.items ++ cuts_at found (length c.push.new.self.items)) reached in (
       subst (λ (t : Text). IsMet t c.args.known.text.now c.args.known.cuts.now c.in-Some-meeting_at.meeting) same c.in-Some-meeting_at.ensures.met,
-      met_front text c.next.new.self c.loop-item.cuts.items c.in-Some-meeting_at.meeting.at _ collected before so last,
+      met_front text c.next.new.self c.loop-item.cuts.items c.in-Some-meeting_at.meeting.at _ pushed.collected before pushed.cuts last,
     )
 
 pub loop-item-smaller : goal.loop-item-smaller
 loop-item-smaller c =
-    let is = c.loop-item.invariant.collected in
-    let going : c.loop-item.state.has_ended ≡ false = goes_on _ c.loop-item.state c.loop-item.lexemes.items is in
-    let answer : HasAnswered c.loop-item.state (Some (Ok c.in-Ok.lexeme)) c.next.new.self = rw c.in-Ok.is at (c.in-Some.ensures.answer going) in
-    let after : view_of c.next.new.self ≡ record (view_of c.loop-item.state) { yielded_count = c.loop-item.state.yielded_count + 1; has_ended = false; reads = c.next.new.self.reader.reads } = rw (c.in-Ok.is, going) at c.in-Some.ensures.after in
-    let more = one_more c.args.state.now.text.now c.loop-item.state c.next.new.self c.loop-item.lexemes.items c.in-Ok.lexeme is answer c.in-Some.ensures.lexing after in
-    less_left (length (outcome c.args.state.now.text.now).lexemes) c.loop-item.lexemes.items c.push.new.self.items c.in-Ok.lexeme c.in_ok-push.ensures.items more.1
+    let going = goes_on _ c.loop-item.state c.loop-item.lexemes.items c.loop-item.invariant.collected in
+    let pushed = pushed_one c.args.state.now.text.now c.loop-item.state c.next.new.self c.loop-item.lexemes.items c.push.new.self.items c.in-Ok.lexeme c.loop-item.cuts.items c.push_cut.new.cuts.items c.cut-place.result c.len.result c.loop-item.invariant.collected c.loop-item.invariant.cuts
+    (rw c.in-Ok.is at (c.in-Some.ensures.answer going)) c.in-Some.ensures.lexing (rw (c.in-Ok.is, going) at c.in-Some.ensures.after) c.in_ok-push.ensures.items c.cut-place.ensures.kept c.cut-place.ensures.reached (omega (arith, c.len.ensures, c.push.new.self.ok)) c.in_ok-push_cut.ensures in
+    less_left (length (outcome c.args.state.now.text.now).lexemes) c.loop-item.lexemes.items c.push.new.self.items c.in-Ok.lexeme c.in_ok-push.ensures.items pushed.more
 
 pub returns-in-Some-take_fault-clause-part : goal.returns-in-Some-take_fault-clause-part
 returns-in-Some-take_fault-clause-part c = λ none.

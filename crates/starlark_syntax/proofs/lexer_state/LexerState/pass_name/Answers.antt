@@ -7,9 +7,7 @@ use Rattle.starlark_syntax.specs.Inner.Looked.{is_nothing}
 use Rattle.starlark_syntax.proofs.lexer_state.LexerState.pass_name.Goals as goal
 
 pub overflow_add-self : goal.overflow_add-self
-overflow_add-self c =
-    let small : c.args.self.now.yielded_count + 1 ≤ 2 ^ 34 = one_more_fits c.args.self.now c.requires.fits c.requires.few in
-    search (rules, small)
+overflow_add-self c = let small : c.args.self.now.yielded_count + 1 ≤ 2 ^ 34 = one_more_fits c.args.self.now c.requires.fits c.requires.few in search (rules, small)
 
 pub returns : goal.returns
 returns c =
