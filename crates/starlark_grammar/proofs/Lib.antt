@@ -44,7 +44,7 @@
 -- Repairs/Fronts, Bodies, Margins, Pieces: repairs: what stands before a repair stays.
 -- Repairs/Semicolons, States, Faults, Readings: repairs: each `;` is a lexeme, and leaves what is open; where a fault
 --   that keeps its line is; the outcome of a repaired text.
--- Repairs/Mended, GoesOn, Parts: mended texts: one repair after another; what is found in the whole text.
+-- Repairs/Mended, GoesOn, RepairedParts: mended texts: one repair after another; what is found in the whole text.
 -- Rows: worked texts, by computing: outcomes, bodies, cuts, joins and fronts; Rows/Shapes: how a row is written.
 pub mod Lists
 pub mod Choices

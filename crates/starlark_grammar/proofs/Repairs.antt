@@ -9,4 +9,4 @@ pub mod Faults
 pub mod Readings
 pub mod Mended
 pub mod GoesOn
-pub mod Parts
+pub mod RepairedParts

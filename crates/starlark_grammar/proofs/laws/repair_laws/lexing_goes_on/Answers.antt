@@ -1,6 +1,6 @@
 use Rattle.starlark_grammar.proofs.Repairs.GoesOn.{goes_on}
 use Rattle.starlark_grammar.proofs.Repairs.Mended.{keeps_outcome}
-use Rattle.starlark_grammar.proofs.Repairs.Parts.{one_part, parts_after_faults}
+use Rattle.starlark_grammar.proofs.Repairs.RepairedParts.{one_part, parts_after_faults}
 use Rattle.starlark_grammar.proofs.laws.repair_laws.lexing_goes_on.Goals as goal
 
 pub returns-clause-outcome : goal.returns-clause-outcome
