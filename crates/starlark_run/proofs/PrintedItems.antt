@@ -2,7 +2,7 @@
 use Rattle.std.proofs.Common.{◌≡◌, ℕ, zero, suc, ◌+◌, ◌<◌, ◌≤◌, List, [], ◌∷◌, ◌++◌, map, length, drop, refl, ap, sym, subst, ◌∙◌, arith, None, Some, slice_get, slice_index_or, option_to_list, length-append, length-drop, append-nil}
 use Rattle.std.specs.Prelude.{Option, IfSome}
 use Rattle.std.specs.List.{AllByRecursion}
-use Rattle.std.proofs.lemmas.List.{length-map}
+use Rattle.std.proofs.lemmas.List.{drop_all, length-map}
 use Rattle.std.proofs.lemmas.List.Concat.{flat_map-cons}
 use Rattle.std.specs.Prelude.{string_bytes}
 use Rattle.std.specs.Str.{IsUtf8, IsCharBoundary}
@@ -27,6 +27,7 @@ use Rattle.starlark_token.specs.TokenViews.{TokenView}
 use Rattle.starlark_syntax.specs.Exceptions.{IsFaultIn}
 use Rattle.starlark_token.specs.Lexemes.{fault_view, lexeme_view, shown_lexeme}
 use Rattle.starlark_token.specs.TextItems.{Given, LexerItem, Refused, items}
+use Rattle.starlark_token.proofs.NumberedItems.{fault_at, given, only_faults}
 use Rattle.starlark_syntax.specs.Exceptions.{IsException}
 use Rattle.starlark_token.specs.declared.tokens.Token.{Token}
 use Rattle.starlark_grammar.proofs.Order.WholeTexts.{outcome_edges, fault_edges}
@@ -38,9 +39,6 @@ use Rattle.starlark_run.specs.Output as output
 use Rattle.starlark_run.specs.Output.{item_line, lines_of, message_of, place_text}
 use Rattle.starlark_run.specs.Runs.{status_of}
 use Rattle.starlark_run.specs.declared.ends.RunStatus.TheVariants as status
-
-abbrev given : Lexeme → LexerItem
-given lexeme = Given (shown_lexeme lexeme)
 
 -- A list's element, and what is left from it on.
 pub left_at : {A : Type 0} (xs : List A) (k : ℕ) (x : A) → slice_get xs k ≡ Some x → drop k xs ≡ x ∷ drop (k + 1) xs
@@ -57,31 +55,11 @@ nothing_left [] (suc k) e = (omega arith, refl)
 nothing_left (x ∷ xs) zero e = cc
 nothing_left (x ∷ xs) (suc k) e = let rest = nothing_left xs k e in (omega (arith, rest.0), rest.1)
 
--- no fault is a lexeme
-only_faults : (fs : List (Spanned Fault)) (h : ℕ) (x : Spanned TokenView) → slice_get (map Refused fs) h ≡ Some (Given x) → ⊥
-only_faults [] zero x e = cc
-only_faults [] (suc h) x e = cc
-only_faults (f ∷ fs) zero x e = cc
-only_faults (f ∷ fs) (suc h) x e = only_faults fs h x e
-
 -- the lexeme of the grammar that an item is
 lexeme_at : (ls : List Lexeme) (fs : List (Spanned Fault)) (h : ℕ) (x : Spanned TokenView) → slice_get (map given ls ++ map Refused fs) h ≡ Some (Given x) → (lexeme : Lexeme) × (more : List Lexeme) × (drop h ls ≡ lexeme ∷ more) × (shown_lexeme lexeme ≡ x)
 lexeme_at [] fs h x e = absurd (only_faults fs h x e)
 lexeme_at (l ∷ ls) fs zero x e = let same : shown_lexeme l ≡ x = cc in (l, ls, refl, same)
 lexeme_at (l ∷ ls) fs (suc h) x e = lexeme_at ls fs h x e
-
--- the fault that an item is, which is the last
-fault_at : (ls : List Lexeme) (o : Option (Spanned Fault)) (h : ℕ) (f : Spanned Fault) → slice_get (map given ls ++ map Refused (option_to_list o)) h ≡ Some (Refused f) → (o ≡ Some f) × (drop (h + 1) (map given ls ++ map Refused (option_to_list o)) ≡ [])
-fault_at [] None zero f e = cc
-fault_at [] None (suc h) f e = cc
-fault_at [] (Some g) zero f e = let same : g ≡ f = cc in (ap Some same, refl)
-fault_at [] (Some g) (suc zero) f e = cc
-fault_at [] (Some g) (suc (suc h)) f e = cc
-fault_at (l ∷ ls) o zero f e = cc
-fault_at (l ∷ ls) o (suc h) f e =
-    let rest = fault_at ls o h f e in
-    let next : suc h + 1 ≡ suc (h + 1) = omega arith in
-    (rest.0, ap (λ n. drop n (given l ∷ (map given ls ++ map Refused (option_to_list o)))) next ∙ rest.1)
 
 -- a list with another element after a place
 one_more : {A : Type 0} (xs : List A) (h : ℕ) (x : A) (more : List A) → drop h xs ≡ x ∷ more → (h + 1 ≤ length xs) × (drop (h + 1) xs ≡ more)
@@ -112,7 +90,10 @@ pub next_refused : (text : Text) (h : ℕ) (fault : Spanned Fault) → slice_get
 unfolding items
 next_refused text h fault is =
     let at = fault_at (outcome text).lexemes (outcome text).fault h fault is in
-    (at.0, left_at (items text) h (Refused fault) is ∙ ap (λ more. Refused fault ∷ more) at.1 ∙ ap (λ f. map Refused (option_to_list f)) (sym at.0))
+    let found = (outcome text).fault in
+    let one : length (map Refused (option_to_list found)) ≡ 1 = ap (λ f. length (map Refused (option_to_list f))) at.0 in
+    let last : length (items text) ≤ h + 1 = omega (arith, at.1, one, length-map (outcome text).lexemes given, length-append (map given (outcome text).lexemes) (map Refused (option_to_list found))) in
+    (at.0, left_at (items text) h (Refused fault) is ∙ ap (λ more. Refused fault ∷ more) (drop_all (h + 1) (items text) last) ∙ ap (λ f. map Refused (option_to_list f)) (sym at.0))
 
 -- Where no item is left, after lexemes alone, the text has no fault.
 pub none_left : (text : Text) (h : ℕ) → slice_get (items text) h ≡ None → h ≤ length (outcome text).lexemes → (drop h (items text) ≡ []) × ((outcome text).fault ≡ None)

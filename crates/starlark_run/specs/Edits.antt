@@ -3,7 +3,7 @@ use Rattle.std.specs.Prelude.{ℕ, ◌+◌, Bool, ◌&&◌, nat_le, List, [], �
 use Rattle.starlark_base.specs.Places.{Text}
 use Rattle.starlark_base.specs.Sources.{holds}
 use Rattle.starlark_base.specs.Spans.{ByteSpan}
-use Rattle.starlark_run.specs.declared.edits.Edit.{Edit}
+use Rattle.starlark_base.specs.declared.edit.Edit.{Edit}
 use Rattle.starlark_run.specs.declared.ends.TheConstants.{GREATEST_LEN}
 use Rattle.starlark_run.specs.declared.ends.RunFault.{RunFault}
 use Rattle.starlark_run.specs.declared.ends.RunFault.TheVariants.{TooLong, BadEdit}

@@ -12,9 +12,13 @@ use Rattle.starlark_token.specs.TokenTexts.{kind_of}
 use Rattle.starlark_token.specs.TokenViews.{TokenView, Whole}
 use Rattle.starlark_token.specs.TextItems.{LexerItem, Given, Refused, items}
 
+-- a number below 256 as two hexadecimal digits
+abbrev pub hex_pair : ℕ → Text
+hex_pair byte = digit_char (byte / 16) ∷ digit_char (byte % 16) ∷ []
+
 -- each byte as two hexadecimal digits
 abbrev pub hex : Text → Text
-hex bytes = flat_map (λ byte. digit_char (byte / 16) ∷ digit_char (byte % 16) ∷ []) bytes
+hex bytes = flat_map hex_pair bytes
 
 -- the printed name of an f-string's quotes
 abbrev pub quotes_by : Quote → (is_triple : Bool) → Text

@@ -4,7 +4,7 @@ use Rattle.starlark_base.specs.Places.{Text}
 use Rattle.starlark_grammar.specs.Cuts.{is_kept_cut}
 use Rattle.starlark_grammar.specs.Reading.{outcome}
 use Rattle.starlark_run.specs.Edits.{edited_text}
-use Rattle.starlark_run.specs.declared.edits.Edit.{Edit}
+use Rattle.starlark_base.specs.declared.edit.Edit.{Edit}
 
 -- byte `at` is the last kept cut of a text at or before byte `from`, or 0 if there is none
 pub record IsCutBefore (text : Text) (from at : ℕ) : Type 0 where

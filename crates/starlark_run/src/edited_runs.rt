@@ -8,11 +8,11 @@ ghost use Rattle.starlark_run.specs.Edits.{text_after};
 ghost use Rattle.starlark_run.specs.Relexed.{AreLexed};
 
 use crate::edited_texts::{relexed, versions_of};
-use crate::edits::Edit;
 use crate::ends::{RunFault, RunStatus};
 use crate::input::read_text;
 use crate::lexed_printing::print_lexed;
 use crate::watched::Watched;
+use starlark_base::edit::Edit;
 use starlark_devices::{ReadDevice, WriteDevice};
 use std::alloc::Global;
 

@@ -9,10 +9,11 @@ ghost use Rattle.starlark_run.specs.declared.ends.RunFault.TheVariants.{Memory};
 ghost use Rattle.starlark_run.specs.declared.ends.TheConstants.{GREATEST_LEN};
 ghost use Rattle.starlark_syntax.specs.LexedTexts.{IsLexed};
 
-use crate::edits::{Edit, edited, fits, kept_len};
+use crate::edits::{edited, fits, kept_len};
 use crate::ends::{GREATEST_LEN, RunFault};
 use crate::printer::empty_file;
 use starlark_base::codemap::{CodeMap, OrMemory};
+use starlark_base::edit::Edit;
 use starlark_syntax::lexer::LexedText;
 use starlark_text::dialect::Dialect;
 use std::alloc::Global;

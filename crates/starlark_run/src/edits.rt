@@ -5,20 +5,8 @@ ghost use Rattle.starlark_base.specs.Sources.{Holds, holds};
 ghost use Rattle.starlark_run.specs.Edits.{edit_fits, edit_span, edited_text};
 ghost use Rattle.starlark_run.specs.Inner.EditedTexts.{Fits};
 
+use starlark_base::edit::Edit;
 use std::alloc::{AllocError, Global};
-
-/// An edit of a text: replaces the bytes from `from` to `to` by `text`.
-///
-/// It fits a text if `from` is at most `to`, and both are character boundaries of the text.
-#[derive(Clone, Copy, Debug, PartialEq, Eq)]
-pub struct Edit<'e> {
-    /// Offset of the first byte to replace.
-    pub from: usize,
-    /// Offset after the last byte to replace. It equals `from` in an insertion.
-    pub to: usize,
-    /// The text to put there. It is empty in a deletion.
-    pub text: &'e str,
-}
 
 /// Whether both offsets of an edit are character boundaries of a text.
 fn is_held(text: &str, edit: &Edit<'_>) -> bool

@@ -1,40 +1,17 @@
 //! Formats the lines of the output: one for each lexeme, and one for a fault.
 
-ghost use Rattle.std.specs.Prelude.{◌≡◌, ◌<◌, ◌++◌, OnOk, codes, string_bytes};
-ghost use Rattle.std.specs.Char.{digit_char};
+ghost use Rattle.std.specs.Prelude.{◌≡◌, ◌++◌, OnOk, codes, string_bytes};
 ghost use Rattle.starlark_base.specs.Places.{span_text};
 ghost use Rattle.starlark_syntax.specs.Errors.{kind_text};
-ghost use Rattle.starlark_run.specs.Output.{fault_text, hex, lexeme_text, quotes_name, value_text};
-ghost use Rattle.starlark_token.specs.TokenViews.{fstring_quote_view, token_view};
+ghost use Rattle.starlark_run.specs.Output.{fault_text, hex, lexeme_text, value_text};
+ghost use Rattle.starlark_token.specs.TokenViews.{token_view};
 
+use crate::printed_values::{push_hex, quotes_of};
 use starlark_base::codemap::ResolvedSpan;
 use starlark_base::position::Position;
 use starlark_syntax::error::ErrorKind;
-use starlark_token::fstring_style::FStringQuote;
 use starlark_token::tokens::Token;
 use std::alloc::AllocError;
-
-/// The hexadecimal digit of a number less than 16.
-fn hex_digit(number: u8) -> char
-    requires { number < 16 }
-    ensures { result ≡ digit_char number }
-{
-    let Some(digit) = char::from_digit(number as u32, 16) else {
-        unreachable!()
-    };
-    digit
-}
-
-/// Appends each byte as two hexadecimal digits.
-fn push_hex(line: &mut String, bytes: &[u8]) -> Result<(), AllocError>
-    ensures { OnOk result (string_bytes line.new ≡ string_bytes line.old ++ hex bytes.now) }
-{
-    for &byte in bytes {
-        line.push(hex_digit(byte / 16))?;
-        line.push(hex_digit(byte % 16))?;
-    }
-    Ok(())
-}
 
 /// Appends a space and the bytes of a literal's value in hexadecimal digits.
 fn push_literal(line: &mut String, bytes: &[u8]) -> Result<(), AllocError>
@@ -44,19 +21,8 @@ fn push_literal(line: &mut String, bytes: &[u8]) -> Result<(), AllocError>
     push_hex(line, bytes)
 }
 
-/// The printed name of an f-string's quotes.
-fn quotes_of(quote: FStringQuote) -> &'static str
-    ensures { result.now ≡ quotes_name (fstring_quote_view quote) }
-{
-    match quote {
-        FStringQuote::Single => "Single",
-        FStringQuote::Double => "Double",
-        FStringQuote::TripleSingle => "TripleSingle",
-        FStringQuote::TripleDouble => "TripleDouble",
-    }
-}
-
 /// Appends a space and the value of a token, if it has one.
+#[tactic(auto, unfolding(crate::specs::Output::value_text, starlark_token::specs::TokenViews::token_view))]
 fn push_value(line: &mut String, token: &Token) -> Result<(), AllocError>
     ensures { OnOk result (string_bytes line.new ≡ string_bytes line.old ++ value_text (token_view token.now)) }
 {

@@ -12,12 +12,13 @@ mod input;
 mod lexed_printing;
 mod lexeme_lines;
 mod plain_runs;
+pub mod printed_values;
 mod printer;
 mod printing;
 pub mod watched;
 
 pub use edited_runs::{EditedRun, run_edits};
-pub use edits::Edit;
 pub use ends::{GREATEST_LEN, RunFault, RunStatus, TROUBLE, exit_status};
 pub use plain_runs::run;
+pub use starlark_base::edit::Edit;
 pub use watched::Watched;

@@ -18,7 +18,7 @@ use crate::buffer::Buffer;
 use crate::ends::RunFault;
 use crate::lexeme_lines::{fault_line, lexeme_line};
 use crate::watched::Watched;
-use starlark_base::codemap::{CodeMap, CodeMapId, FileSpan, OrMemory, SourceTooLong, Span};
+use starlark_base::codemap::{CodeMap, CodeMapId, OrMemory, SourceTooLong, Span};
 use starlark_base::position::Position;
 use starlark_devices::WriteDevice;
 use starlark_syntax::error::ErrorKind;
@@ -139,20 +139,9 @@ impl Printer {
         requires thrown { (file : SourceFile) × IsFaultIn file (outcome text.now).fault (Some exception.now) }
         ensures { Writes W.calls writer.old writer.new (self.old.buffer ++ fault_lines name.now text.now) self.new.buffer result }
     {
-        let span = place_of(exception).span;
+        let span = exception.error().span().unwrap().span;
         self.fault(writer, name, text, place, span, exception.error().kind())
     }
-}
-
-/// The file span of an exception that has one.
-fn place_of(exception: &EvalException) -> &FileSpan
-    requires { IsSome exception.now.span }
-    ensures { exception.now.span ≡ Some result.now }
-{
-    let Some(place) = exception.error().span() else {
-        unreachable!()
-    };
-    place
 }
 
 /// A code map of an empty text, for faults of which only the span's bytes are used.

@@ -5,7 +5,7 @@ use Rattle.starlark_base.specs.Places.{Text}
 use Rattle.starlark_base.specs.Sources.{Holds}
 use Rattle.starlark_run.specs.Edits.{edit_span, edited_text}
 use Rattle.starlark_run.specs.Relexed.{IsCutBefore, IsReadOn}
-use Rattle.starlark_run.specs.declared.edits.Edit.{Edit}
+use Rattle.starlark_base.specs.declared.edit.Edit.{Edit}
 use Rattle.starlark_run.specs.declared.edited_texts.Version.{Version}
 use Rattle.starlark_run.specs.declared.ends.TheConstants.{GREATEST_LEN}
 use Rattle.starlark_run.specs.declared.ends.RunFault.{RunFault}
