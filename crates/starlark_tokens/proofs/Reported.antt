@@ -2,7 +2,7 @@
 use Rattle.std.proofs.lemmas.List.Sums.{sum_by-append}
 use Rattle.std.proofs.Common.{◌≡◌, cond, min, ℕ, ◌+◌, ◌<◌, ◌≤◌, List, [], ◌∷◌, ◌++◌, length, drop, refl, ap, append_assoc, append-nil, sym, subst, ◌∙◌, arith, None, Some, Ok, Err, slice_get}
 use Rattle.std.specs.Io.KnownBytes.{Appends}
-use Rattle.std.specs.Prelude.{IsSome, Option, Result, count_by, string_bytes}
+use Rattle.std.specs.Prelude.{IsSome, Option, Result, count_by, option_copied, string_bytes}
 use Rattle.starlark_base.specs.Diagnostics.{Diagnosed, place_in}
 use Rattle.starlark_base.specs.Places.{Text}
 use Rattle.starlark_base.specs.Sources.{SourceFile}
@@ -88,6 +88,10 @@ refused_count file (Refused fault) exception answers = refl
 pub thrown_span : (file : SourceFile) (next : LexerItem) (exception : Diagnosed ErrorKind) → Answers file next (Err (refusal.Error exception)) → IsSome exception.span
 thrown_span file (Given lexeme) exception answers = absurd answers
 thrown_span file (Refused fault) exception answers = rw answers.2 cc
+
+pub some_read : (span : _) → IsSome (option_copied {T = FileSpan} span) → IsSome span
+some_read None some = some
+some_read (Some span) some = some
 
 -- known bytes grow by a text, and then by another
 pub appends_then : (a b c : Option Text) (s t : Text) → Appends a b s → Appends b c t → Appends a c (s ++ t)

@@ -1,6 +1,6 @@
 -- The words of a command line.
 use Rattle.std.specs.Prelude.{◌≡◌, ℕ, ◌+◌, Bool, ◌||◌, not, nat_eq, if◌then◌else◌, List, [], ◌∷◌, ◌++◌, codes, drop, map, take, Option, Some, None}
-use Rattle.std.specs.List.{prefix_len, starts_with}
+use Rattle.std.specs.List.{list_any, prefix_len, starts_with}
 use Rattle.std.specs.Str.{bytes_eq}
 use Rattle.starlark_base.specs.Places.{Text}
 use Rattle.starlark_tokens.specs.declared.command_words.Words.{Words as WordsRecord}
@@ -13,11 +13,14 @@ is_same = bytes_eq
 abbrev pub begins_with : (front word : Text) → Bool
 begins_with front word = starts_with nat_eq word front
 
+-- the word is one of the texts
+abbrev pub is_any : List Text → Text → Bool
+is_any texts word = list_any (λ text. is_same word text) texts
+
 -- an option that has a value, without it
 abbrev pub takes_value : Text → Bool
-takes_value word =
-    is_same word (codes "--format") || is_same word (codes "--exclude") || is_same word (codes "--include")
-    || is_same word (codes "--files-from") || is_same word (codes "--stdin-filename") || is_same word (codes "--explain")
+takes_value =
+    is_any (codes "--format" ∷ codes "--exclude" ∷ codes "--include" ∷ codes "--files-from" ∷ codes "--stdin-filename" ∷ codes "--explain" ∷ [])
 
 -- how many words are before the first `--`
 abbrev pub leading_count : List Text → ℕ

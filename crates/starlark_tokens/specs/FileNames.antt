@@ -1,9 +1,9 @@
 -- Which files of a folder are read.
-use Rattle.std.specs.Prelude.{Bool, ◌||◌, ◌-◌, nat_le, ◌&&◌, List, codes, drop, length, map}
+use Rattle.std.specs.Prelude.{Bool, ◌||◌, ◌-◌, nat_le, ◌&&◌, List, [], ◌∷◌, codes, drop, length, map}
 use Rattle.std.specs.List.{list_any}
 use Rattle.starlark_base.specs.Places.{Text}
 use Rattle.starlark_tokens.specs.Globs.{fits}
-use Rattle.starlark_tokens.specs.CommandWords.{begins_with, is_same}
+use Rattle.starlark_tokens.specs.CommandWords.{begins_with, is_any, is_same}
 use Rattle.starlark_tokens.specs.declared.requests.Reports.{Reports as ReportsRecord}
 
 -- the name ends with the text
@@ -13,8 +13,7 @@ ends_with back name = nat_le (length back) (length name) && is_same (drop (lengt
 -- a file of a build tool
 abbrev pub is_build_file : Text → Bool
 is_build_file name =
-    is_same name (codes "BUILD") || is_same name (codes "BUILD.bazel") || is_same name (codes "MODULE.bazel")
-    || is_same name (codes "BUCK") || begins_with (codes "WORKSPACE") name
+    is_any (codes "BUILD" ∷ codes "BUILD.bazel" ∷ codes "MODULE.bazel" ∷ codes "BUCK" ∷ []) name || begins_with (codes "WORKSPACE") name
 
 -- a module
 abbrev pub is_module : Text → Bool

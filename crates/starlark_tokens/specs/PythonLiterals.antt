@@ -1,9 +1,9 @@
 -- Texts and bytes as Python writes them: in quotes, on one line.
 use Rattle.std.specs.Prelude.{ℕ, ◌/◌, ◌%◌, ◌+◌, ◌*◌, Bool, true, false, ◌&&◌, ◌||◌, not, ◌==◌, nat_lt, nat_le, if◌then◌else◌, List, [], ◌∷◌, ◌++◌, codes, encode_utf8, map}
-use Rattle.std.specs.Char.{digit_char}
 use Rattle.std.specs.List.{flat_map, list_all, list_any}
 use Rattle.std.specs.Str.{chars}
 use Rattle.starlark_base.specs.Places.{Text}
+use Rattle.starlark_run.specs.Output.{hex_pair}
 
 -- the number is between two others, or is one of them
 abbrev pub is_between : (first last number : ℕ) → Bool
@@ -17,10 +17,6 @@ is_hidden c =
     || is_between 0x1680 0x1680 c || is_between 0x2000 0x200f c || is_between 0x2028 0x202f c || is_between 0x205f 0x206f c
     || is_between 0x3000 0x3000 c || is_between 0xe000 0xf8ff c || is_between 0xfeff 0xfeff c || is_between 0xfff0 0xfffb c
     || is_between 0xe0000 0xe007f c || is_between 0xf0000 0x10ffff c
-
--- a number below 256 as two hexadecimal digits
-abbrev pub hex_pair : ℕ → Text
-hex_pair byte = digit_char (byte / 16) ∷ digit_char (byte % 16) ∷ []
 
 -- a number below 65536 as four hexadecimal digits
 abbrev pub hex_four : ℕ → Text

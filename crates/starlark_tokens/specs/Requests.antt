@@ -2,7 +2,7 @@
 use Rattle.std.specs.Prelude.{◌≡◌, Bool, true, false, map, ◌++◌, ◌&&◌, ◌||◌, not, length, codes, drop, List, [], ◌∷◌, Option, Some, None, if◌then◌else◌}
 use Rattle.std.specs.List.{list_any}
 use Rattle.starlark_base.specs.Places.{Text}
-use Rattle.starlark_tokens.specs.CommandWords.{begins_with, is_same}
+use Rattle.starlark_tokens.specs.CommandWords.{begins_with, is_any, is_same}
 use Rattle.starlark_tokens.specs.declared.form.Form.{Form}
 use Rattle.starlark_tokens.specs.declared.form.Form.TheVariants as shown
 use Rattle.starlark_tokens.specs.declared.requests.Format.{Format}
@@ -18,15 +18,12 @@ is_option word = begins_with (codes "-") word && not (is_same word (codes "-"))
 
 -- an option without a value
 abbrev pub is_flag : Text → Bool
-is_flag word =
-    is_same word (codes "--check") || is_same word (codes "--json") || is_same word (codes "--quiet") || is_same word (codes "-q")
-    || is_same word (codes "--version") || is_same word (codes "-V") || is_same word (codes "--help") || is_same word (codes "-h")
+is_flag =
+    is_any (codes "--check" ∷ codes "--json" ∷ codes "--quiet" ∷ codes "-q" ∷ codes "--version" ∷ codes "-V" ∷ codes "--help" ∷ codes "-h" ∷ [])
 
 -- an option that names a format
 abbrev pub is_format : Text → Bool
-is_format word =
-    is_same word (codes "--format=text") || is_same word (codes "--format=json") || is_same word (codes "--format=github")
-    || is_same word (codes "--format=sarif")
+is_format = is_any (codes "--format=text" ∷ codes "--format=json" ∷ codes "--format=github" ∷ codes "--format=sarif" ∷ [])
 
 -- an option with a value, which may be any
 abbrev pub is_valued : Text → Bool

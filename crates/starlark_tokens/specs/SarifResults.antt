@@ -6,7 +6,8 @@ use Rattle.starlark_base.specs.Places.{Text}
 use Rattle.starlark_base.specs.declared.codemap.resolved.ResolvedPos.{ResolvedPos}
 use Rattle.starlark_tokens.specs.JsonStrings.{json_string}
 use Rattle.starlark_tokens.specs.ItemLines.{reason}
-use Rattle.starlark_tokens.specs.PythonLiterals.{hex_pair, is_between}
+use Rattle.starlark_run.specs.Output.{hex_pair}
+use Rattle.starlark_tokens.specs.PythonLiterals.{is_between}
 
 -- a byte that stands for itself in a URI's path
 abbrev pub is_unreserved : ℕ → Bool

@@ -1,15 +1,14 @@
 -- Values of tokens, for people and as JSON.
 use Rattle.std.specs.Prelude.{ℕ, ◌^◌, Bool, true, false, nat_lt, ◌==◌, if◌then◌else◌, [], ◌∷◌, ◌++◌, codes, Option, Some, None, is_some}
 use Rattle.std.specs.Fmt.{decimal, sign_text, signed_decimal}
-use Rattle.std.specs.List.{flat_map}
 use Rattle.std.specs.Str.Parse.{digits_value}
 use Rattle.starlark_base.specs.Places.{Text}
 use Rattle.starlark_grammar.specs.Numbers.{Integer, Small, Big}
 use Rattle.starlark_grammar.specs.Tokens as grammar
-use Rattle.starlark_run.specs.Output.{quotes_name}
+use Rattle.starlark_run.specs.Output.{hex, quotes_name}
 use Rattle.starlark_token.specs.TokenViews.{TokenView, Whole}
 use Rattle.starlark_tokens.specs.JsonStrings.{json_string}
-use Rattle.starlark_tokens.specs.PythonLiterals.{hex_pair, quoted, quoted_bytes}
+use Rattle.starlark_tokens.specs.PythonLiterals.{quoted, quoted_bytes}
 
 -- a value if it fits in 53 bits, as each number of JSON's usual readers does
 abbrev pub if_exact : ℕ → Option ℕ
@@ -68,10 +67,6 @@ readable view = []
 -- a text without a character that JSON escapes, as a JSON string
 abbrev pub in_quotes : Text → Text
 in_quotes text = 34 ∷ (text ++ 34 ∷ [])
-
--- bytes as pairs of hexadecimal digits
-abbrev pub hex : Text → Text
-hex bytes = flat_map hex_pair bytes
 
 -- an integer as JSON: a number if it fits in 53 bits, or else a string
 abbrev pub json_integer : Integer → Text

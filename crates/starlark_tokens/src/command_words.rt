@@ -28,16 +28,33 @@ pub fn begins_with(word: &[u8], text: &str) -> bool
     word.starts_with(text.as_bytes())
 }
 
+/// Whether a word is one of some texts.
+pub fn is_any(word: &[u8], texts: &[&str]) -> bool
+    ensures { result ≡ spec.is_any (map (λ text. text.now) texts.now) word.now }
+{
+    for text in texts {
+        if is_same(word, text) {
+            return true;
+        }
+    }
+    false
+}
+
 /// Whether a word is an option that has a value, without it.
 pub fn takes_value(word: &[u8]) -> bool
     ensures { result ≡ spec.takes_value word.now }
 {
-    is_same(word, "--format")
-        || is_same(word, "--exclude")
-        || is_same(word, "--include")
-        || is_same(word, "--files-from")
-        || is_same(word, "--stdin-filename")
-        || is_same(word, "--explain")
+    is_any(
+        word,
+        &[
+            "--format",
+            "--exclude",
+            "--include",
+            "--files-from",
+            "--stdin-filename",
+            "--explain",
+        ],
+    )
 }
 
 /// Number of arguments before the first `--`.

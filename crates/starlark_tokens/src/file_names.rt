@@ -3,7 +3,7 @@
 ghost use Rattle.std.specs.Prelude.{◌≡◌, map};
 ghost use Rattle.starlark_tokens.specs.FileNames as spec;
 
-use crate::command_words::{begins_with, is_same};
+use crate::command_words::{begins_with, is_any};
 use crate::globs::fits;
 use crate::requests::Reports;
 
@@ -18,10 +18,7 @@ fn ends_with(name: &[u8], text: &str) -> bool
 fn is_build_file(name: &[u8]) -> bool
     ensures { result ≡ spec.is_build_file name.now }
 {
-    is_same(name, "BUILD")
-        || is_same(name, "BUILD.bazel")
-        || is_same(name, "MODULE.bazel")
-        || is_same(name, "BUCK")
+    is_any(name, &["BUILD", "BUILD.bazel", "MODULE.bazel", "BUCK"])
         || begins_with(name, "WORKSPACE")
 }
 

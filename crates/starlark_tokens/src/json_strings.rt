@@ -5,7 +5,8 @@ ghost use Rattle.std.specs.List.{flat_map};
 ghost use Rattle.std.specs.Str.{chars};
 ghost use Rattle.starlark_tokens.specs.JsonStrings as spec;
 
-use crate::python_literals::{push_ascii, push_hex_pair};
+use crate::python_literals::push_ascii;
+use starlark_run::printed_values::push_hex_pair;
 use std::alloc::AllocError;
 
 /// Appends a character as a string of JSON has it.

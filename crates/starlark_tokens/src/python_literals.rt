@@ -2,30 +2,11 @@
 
 ghost use Rattle.std.specs.Prelude.{◌≡◌, ◌<◌, ◌++◌, [], ◌∷◌, OnOk, string_bytes};
 ghost use Rattle.std.specs.List.{flat_map};
-ghost use Rattle.std.specs.Char.{digit_char};
 ghost use Rattle.std.specs.Str.{chars};
 ghost use Rattle.starlark_tokens.specs.PythonLiterals as spec;
 
+use starlark_run::printed_values::push_hex_pair;
 use std::alloc::AllocError;
-
-/// The hexadecimal digit of a number less than 16.
-fn hex_digit(number: u8) -> char
-    requires { number < 16 }
-    ensures { result ≡ digit_char number }
-{
-    let Some(digit) = char::from_digit(number as u32, 16) else {
-        unreachable!()
-    };
-    digit
-}
-
-/// Appends a byte as two hexadecimal digits.
-pub fn push_hex_pair(line: &mut String, byte: u8) -> Result<(), AllocError>
-    ensures { OnOk result (string_bytes line.new ≡ string_bytes line.old ++ spec.hex_pair byte) }
-{
-    line.push(hex_digit(byte / 16))?;
-    line.push(hex_digit(byte % 16))
-}
 
 /// Appends a number as four hexadecimal digits.
 fn push_hex_four(line: &mut String, number: u16) -> Result<(), AllocError>

@@ -11,24 +11,13 @@ ghost use Rattle.starlark_token.specs.TextItems.{LexerItem};
 
 use crate::form::Form;
 use crate::reporter::Reporter;
-use starlark_base::codemap::{CodeMap, CodeMapId, FileSpan, OrMemory};
+use starlark_base::codemap::{CodeMap, CodeMapId, OrMemory};
 use starlark_syntax::eval_exception::EvalException;
 use starlark_syntax::lexer::{Lexeme, RecoveringLexer};
 use starlark_text::dialect::Dialect;
 use std::alloc::{AllocError, Global};
 use std::io;
 use std::io::Write;
-
-/// The file span of an exception that has one.
-fn place_of(exception: &EvalException) -> &FileSpan
-    requires { IsSome exception.now.span }
-    ensures { exception.now.span ≡ Some result.now }
-{
-    let Some(place) = exception.error().span() else {
-        unreachable!()
-    };
-    place
-}
 
 /// Makes the lines of an item, and returns how many faults it is: 0 or 1.
 fn report_item(reporter: &mut Reporter<'_>, item: Lexeme) -> Result<usize, AllocError>
@@ -49,7 +38,7 @@ fn report_item(reporter: &mut Reporter<'_>, item: Lexeme) -> Result<usize, Alloc
             Ok(0)
         }
         Err(OrMemory::Error(exception)) => {
-            let span = place_of(&exception).span;
+            let span = exception.error().span().unwrap().span;
             reporter.fault(span, exception.error().kind())?;
             Ok(1)
         }

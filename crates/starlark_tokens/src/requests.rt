@@ -5,7 +5,7 @@ ghost use Rattle.std.specs.Option.{option_map};
 ghost use Rattle.starlark_tokens.specs.Requests as spec;
 ghost use Rattle.starlark_tokens.specs.Requests.{Asks, Wants};
 
-use crate::command_words::{Words, begins_with, is_same};
+use crate::command_words::{Words, begins_with, is_any, is_same};
 use std::alloc::{AllocError, Global};
 
 /// What the arguments ask for.
@@ -67,24 +67,34 @@ fn is_option(word: &[u8]) -> bool
 fn is_flag(word: &[u8]) -> bool
     ensures { result ≡ spec.is_flag word.now }
 {
-    is_same(word, "--check")
-        || is_same(word, "--json")
-        || is_same(word, "--quiet")
-        || is_same(word, "-q")
-        || is_same(word, "--version")
-        || is_same(word, "-V")
-        || is_same(word, "--help")
-        || is_same(word, "-h")
+    is_any(
+        word,
+        &[
+            "--check",
+            "--json",
+            "--quiet",
+            "-q",
+            "--version",
+            "-V",
+            "--help",
+            "-h",
+        ],
+    )
 }
 
 /// Whether a word is a format that the program has.
 fn is_format(word: &[u8]) -> bool
     ensures { result ≡ spec.is_format word.now }
 {
-    is_same(word, "--format=text")
-        || is_same(word, "--format=json")
-        || is_same(word, "--format=github")
-        || is_same(word, "--format=sarif")
+    is_any(
+        word,
+        &[
+            "--format=text",
+            "--format=json",
+            "--format=github",
+            "--format=sarif",
+        ],
+    )
 }
 
 /// Whether a word is an option with its value that may be any.

@@ -6,9 +6,10 @@ ghost use Rattle.starlark_tokens.specs.SarifResults as spec;
 
 use crate::fault_lines::reason;
 use crate::json_strings::push_json_string;
-use crate::python_literals::{push_ascii, push_hex_pair};
+use crate::python_literals::push_ascii;
 use crate::token_lines::push_field;
 use starlark_base::position::Position;
+use starlark_run::printed_values::push_hex_pair;
 use std::alloc::AllocError;
 
 /// Whether a byte stands for itself in a URI's path.

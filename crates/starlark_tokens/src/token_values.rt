@@ -3,14 +3,14 @@
 ghost use Rattle.std.specs.Prelude.{◌≡◌, ◌++◌, ◌∷◌, OnOk, codes, string_bytes};
 ghost use Rattle.starlark_tokens.specs.PythonLiterals.{quoted, quoted_bytes};
 ghost use Rattle.starlark_tokens.specs.Values as spec;
-ghost use Rattle.starlark_run.specs.Output.{quotes_name};
+ghost use Rattle.starlark_run.specs.Output.{hex};
 ghost use Rattle.starlark_token.specs.TokenInts.{integer_view};
-ghost use Rattle.starlark_token.specs.TokenViews.{fstring_quote_view, token_view};
+ghost use Rattle.starlark_token.specs.TokenViews.{token_view};
 
 use crate::json_strings::push_json_string;
-use crate::python_literals::{push_ascii, push_hex_pair, push_quoted, push_quoted_bytes};
+use crate::python_literals::{push_ascii, push_quoted, push_quoted_bytes};
+use starlark_run::printed_values::{push_hex, quotes_of};
 use starlark_token::big_int::BigInt;
-use starlark_token::fstring_style::FStringQuote;
 use starlark_token::token_int::TokenInt;
 use starlark_token::tokens::Token;
 use std::alloc::AllocError;
@@ -101,35 +101,13 @@ fn push_json_integer(line: &mut String, number: &TokenInt) -> Result<(), AllocEr
     push_ascii(line, '"')
 }
 
-/// Appends each byte as two hexadecimal digits.
-fn push_hex(line: &mut String, bytes: &[u8]) -> Result<(), AllocError>
-    ensures { OnOk result (string_bytes line.new ≡ string_bytes line.old ++ spec.hex bytes.now) }
-{
-    for &byte in bytes {
-        push_hex_pair(line, byte)?;
-    }
-    Ok(())
-}
-
 /// Appends bytes as a string of JSON with two hexadecimal digits for each.
 fn push_json_bytes(line: &mut String, bytes: &[u8]) -> Result<(), AllocError>
-    ensures { OnOk result (string_bytes line.new ≡ string_bytes line.old ++ spec.in_quotes (spec.hex bytes.now)) }
+    ensures { OnOk result (string_bytes line.new ≡ string_bytes line.old ++ spec.in_quotes (hex bytes.now)) }
 {
     push_ascii(line, '"')?;
     push_hex(line, bytes)?;
     push_ascii(line, '"')
-}
-
-/// The name of an f-string's quotes.
-fn quotes_of(quote: FStringQuote) -> &'static str
-    ensures { result.now ≡ quotes_name (fstring_quote_view quote) }
-{
-    match quote {
-        FStringQuote::Single => "Single",
-        FStringQuote::Double => "Double",
-        FStringQuote::TripleSingle => "TripleSingle",
-        FStringQuote::TripleDouble => "TripleDouble",
-    }
 }
 
 /// Appends a space and a text in quotes.
@@ -157,6 +135,7 @@ fn push_number(line: &mut String, number: &TokenInt) -> Result<(), AllocError>
 }
 
 /// Appends a space and the value of a token for people, if it has one.
+#[tactic(auto, unfolding(crate::specs::Values::readable, starlark_token::specs::TokenViews::token_view))]
 pub fn push_readable(line: &mut String, token: &Token) -> Result<(), AllocError>
     ensures { OnOk result (string_bytes line.new ≡ string_bytes line.old ++ spec.readable (token_view token.now)) }
 {
@@ -181,6 +160,7 @@ fn push_null(line: &mut String) -> Result<(), AllocError>
 }
 
 /// Appends the value of a token as JSON: `null` if it has none.
+#[tactic(auto, unfolding(crate::specs::Values::json_of, starlark_token::specs::TokenViews::token_view))]
 pub fn push_json_value(line: &mut String, token: &Token) -> Result<(), AllocError>
     ensures { OnOk result (string_bytes line.new ≡ string_bytes line.old ++ spec.json_of (token_view token.now)) }
 {

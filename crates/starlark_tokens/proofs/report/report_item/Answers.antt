@@ -1,9 +1,15 @@
-use Rattle.std.proofs.Common.{◌≡◌, ◌∙◌, Some, ap, string_bytes, sym}
-use Rattle.starlark_tokens.proofs.Reported.{given_count, given_report, refused_count, refused_report, thrown_span}
+use Rattle.std.proofs.Common.{◌≡◌, ◌∙◌, Some, ap, string_bytes, subst, sym}
+use Rattle.std.specs.Prelude.{IsSome, option_copied}
+use Rattle.starlark_base.specs.Diagnostics.{Diagnosed}
+use Rattle.starlark_syntax.specs.declared.error.kinds.ErrorKind.{ErrorKind}
+use Rattle.starlark_tokens.proofs.Reported.{given_count, given_report, refused_count, refused_report, some_read, thrown_span}
 use Rattle.starlark_tokens.proofs.report.report_item.Goals as goal
 
-pub place_of-requires : goal.place_of-requires
-place_of-requires c = thrown_span c.requires.answered.0 c.requires.answered.1 c.in-Err-Error.exception (rw (c.in-Err-Error.is, c.in-Err-Error.field-0-is) at c.requires.answered.2)
+pub unwrap-requires : goal.unwrap-requires
+unwrap-requires c =
+    let known : option_copied c.span.result ≡ c.in-Err-Error.exception.span = c.span.ensures ∙ ap (λ (d : Diagnosed ErrorKind). d.span) c.error.ensures in
+    let some = thrown_span c.requires.answered.0 c.requires.answered.1 c.in-Err-Error.exception (rw (c.in-Err-Error.is, c.in-Err-Error.field-0-is) at c.requires.answered.2) in
+    some_read c.span.result (subst IsSome (sym known) some)
 
 pub returns-in_ok-token-in-Ok-clause-lines : goal.returns-in_ok-token-in-Ok-clause-lines
 returns-in_ok-token-in-Ok-clause-lines c file next answers =
@@ -14,5 +20,5 @@ returns-in_ok-token-in-Ok-clause-lines c file next answers =
 pub returns-in_ok-fault-in-Err-Error-clause-lines : goal.returns-in_ok-fault-in-Err-Error-clause-lines
 returns-in_ok-fault-in-Err-Error-clause-lines c file next answers =
     let r = c.args.reporter.now in
-    let refused = refused_report r.form (string_bytes r.prefix) r.text.now file next c.in-Err-Error.exception c.place_of.result.now (rw (c.in-Err-Error.is, c.in-Err-Error.field-0-is) at answers) c.place_of.ensures in
-    (rw (c.kind.ensures, c.error.ensures) at c.in_ok-fault-in-Err-Error.ensures.lines) ∙ sym refused
+    let refused = refused_report r.form (string_bytes r.prefix) r.text.now file next c.in-Err-Error.exception c.unwrap.result.now (rw (c.in-Err-Error.is, c.in-Err-Error.field-0-is) at answers) (ap (λ (d : Diagnosed ErrorKind). d.span) (sym c.error.ensures) ∙ sym c.span.ensures ∙ ap option_copied c.unwrap.ensures) in
+    (rw (c.kind.ensures, c.error-in-Err-Error.ensures) at c.in_ok-fault-in-Err-Error.ensures.lines) ∙ sym refused
