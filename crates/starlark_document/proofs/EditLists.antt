@@ -4,7 +4,7 @@ use Rattle.std.proofs.Math.Nat.{lt_of_not-le}
 use Rattle.std.specs.Str.{IsCharBoundary}
 use Rattle.starlark_document.specs.Documents.{AreEdits, IsEdit, IsRange, IsStop, edit_view, edited, text_after}
 use Rattle.starlark_document.specs.declared.document.Change.{Change}
-use Rattle.starlark_document.specs.declared.document.Edit.{Edit}
+use Rattle.starlark_base.specs.declared.edit.Edit.{Edit}
 use Rattle.starlark_document.specs.declared.document.EditError.{EditError}
 use Rattle.starlark_document.specs.declared.document.EditError.TheVariants.{BadRange, TooLong}
 use Rattle.starlark_grammar.specs.Words.{Text}

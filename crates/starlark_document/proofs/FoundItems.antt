@@ -4,7 +4,7 @@ use Rattle.std.specs.Prelude.{◌&&◌, codes, nat_eq}
 use Rattle.std.specs.List.{AllByRecursion, ends_with, list_all}
 use Rattle.std.proofs.lemmas.Bool.{both_ways, lt-ltb}
 use Rattle.std.proofs.lemmas.List.{drop-take, length-drop, length-take-le, map-append, take-append-drop}
-use Rattle.starlark_document.specs.Inner.LexedFronts.{BeginUndented, IsLineEnd, ItemsAreFound, ItemsClose, ItemsCut, given_of, is_dedent_item, is_dedent_view, is_newline_view, refused_of}
+use Rattle.starlark_document.specs.Inner.LexedFronts.{BeginUndented, IsLineEnd, ItemsAreFound, ItemsClose, ItemsCut, given_of, is_dedent_item, is_dedent_view, refused_of}
 use Rattle.starlark_grammar.specs.Cuts.{is_newline}
 use Rattle.starlark_grammar.specs.Reading.{outcome, read}
 use Rattle.starlark_grammar.specs.Tokens as grammar
@@ -27,7 +27,7 @@ use Rattle.starlark_grammar.proofs.Recovery.DecidedFaults.{decided_faults_stay}
 use Rattle.starlark_grammar.proofs.Recovery.ShortenedFaults.{fault_shortened}
 use Rattle.starlark_token.specs.Lexemes.{shown, shown_lexeme}
 use Rattle.starlark_token.specs.TextItems.{Given, LexerItem, Refused, items}
-use Rattle.starlark_token.specs.TokenViews.{TokenView, Whole}
+use Rattle.starlark_token.specs.TokenViews.{TokenView, Whole, is_newline_view}
 
 abbrev given : Lexeme → LexerItem
 given lexeme = Given (shown_lexeme lexeme)
@@ -177,22 +177,8 @@ moved_at n found front newline tail e = go (parts_of n found front (Given newlin
 -- Shown tokens
 
 dedent_shown : (token : Token) → is_dedent_view (Whole (shown token)) ≡ is_dedent token
-dedent_shown (grammar.Comment text) = refl
-dedent_shown grammar.Indent = refl
 dedent_shown grammar.Dedent = refl
-dedent_shown grammar.Newline = refl
-dedent_shown (grammar.Identifier name) = refl
-dedent_shown (grammar.Int value) = refl
-dedent_shown (grammar.Float text) = refl
-dedent_shown (grammar.String value) = refl
-dedent_shown (grammar.Bytes value) = refl
-dedent_shown (grammar.FStringStart opening) = refl
-dedent_shown (grammar.FStringText value) = refl
-dedent_shown grammar.FStringExprStart = refl
-dedent_shown grammar.FStringExprEnd = refl
-dedent_shown grammar.FStringBang = refl
-dedent_shown grammar.FStringEnd = refl
-dedent_shown (grammar.Word terminal) = refl
+dedent_shown token = refl
 
 line_newline : (line : Lexeme) (newline : Spanned TokenView) → shown_lexeme line ≡ newline → IsLineEnd newline → is_newline line.node ≡ true
 line_newline line newline same is = sym (same_newline line.node) ∙ ap is_newline_view (ap (λ (l : Spanned TokenView). l.node) same ∙ is.0)

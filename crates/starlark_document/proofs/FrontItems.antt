@@ -5,7 +5,7 @@ use Rattle.std.specs.Str.{IsCharBoundary}
 use Rattle.std.proofs.lemmas.List.{map-append}
 use Rattle.starlark_base.specs.Diagnostics.{Diagnosed}
 use Rattle.starlark_base.specs.Sources.{SourceFile}
-use Rattle.starlark_document.specs.Inner.LexedFronts.{EndsLine, EndsPlainly, IsLexedFront, given_of, is_dedent_item, is_newline_view, refused_of}
+use Rattle.starlark_document.specs.Inner.LexedFronts.{EndsLine, EndsPlainly, IsLexedFront, given_of, is_dedent_item, refused_of}
 use Rattle.starlark_document.specs.Inner.Segments.{AreFaults, IsPlaced}
 use Rattle.starlark_document.specs.declared.lexed_fronts.LexedFront.{LexedFront}
 use Rattle.starlark_document.specs.declared.segments.PlacedFault.{PlacedFault}
@@ -18,7 +18,7 @@ use Rattle.starlark_syntax.specs.declared.error.kinds.ErrorKind.{ErrorKind}
 use Rattle.starlark_text.specs.declared.or_memory.OrMemory.TheVariants as refusal
 use Rattle.starlark_token.specs.Lexemes.{lexeme_view}
 use Rattle.starlark_token.specs.TextItems.{LexerItem, Given, Refused}
-use Rattle.starlark_token.specs.TokenViews.{TokenView, Whole, token_view}
+use Rattle.starlark_token.specs.TokenViews.{TokenView, Whole, is_newline_view, token_view}
 use Rattle.starlark_token.specs.declared.tokens.Token.{Token}
 
 -- the lexemes and faults of two lists of items

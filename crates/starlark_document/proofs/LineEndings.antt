@@ -2,12 +2,12 @@
 use Rattle.std.proofs.Common.{◌≡◌, ℕ, zero, suc, ◌<◌, Bool, true, false, ◌||◌, List, [], ◌∷◌, ◌++◌, map, take, drop, length, refl, ap, sym, ◌∙◌, arith}
 use Rattle.std.proofs.lemmas.List.{map-append}
 use Rattle.std.specs.Prelude.{slice_index_or}
-use Rattle.starlark_document.specs.Inner.LexedFronts.{has_newline_view, is_newline_view, last_newline_at, without_newline}
+use Rattle.starlark_document.specs.Inner.LexedFronts.{has_newline_view, last_newline_at, without_newline}
 use Rattle.starlark_grammar.specs.Cuts.{is_newline}
 use Rattle.starlark_grammar.specs.Tokens as grammar
 use Rattle.starlark_syntax.specs.Joining.{has_newline, without_last_newline}
 use Rattle.starlark_token.specs.Lexemes.{lexeme_view, shown, shown_lexeme}
-use Rattle.starlark_token.specs.TokenViews.{Whole, token_view}
+use Rattle.starlark_token.specs.TokenViews.{Whole, is_newline_view, token_view}
 use Rattle.starlark_token.specs.declared.tokens.Token.{Token}
 use Rattle.starlark_syntax.proofs.LexedTexts.LastNewlines.{same_newline}
 

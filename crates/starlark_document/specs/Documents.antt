@@ -5,7 +5,7 @@ use Rattle.std.specs.Iterator.{Count, at_most}
 use Rattle.std.specs.List.{AllByRecursion, slice_get}
 use Rattle.std.specs.Str.{IsCharBoundary}
 use Rattle.starlark_document.specs.declared.document.Change.{Change}
-use Rattle.starlark_document.specs.declared.document.Edit.{Edit}
+use Rattle.starlark_base.specs.declared.edit.Edit.{Edit}
 use Rattle.starlark_document.specs.declared.document.EditError.{EditError}
 use Rattle.starlark_document.specs.declared.document.EditError.TheVariants.{BadRange, TooLong, Memory}
 use Rattle.starlark_grammar.specs.Tokens as grammar

@@ -18,6 +18,7 @@ use crate::edited_parts::{
 };
 use crate::line_places::{Place, newlines_in, offset_in_segments, place_in};
 use crate::segments::{Faults, Lexemes, Segment, SegmentPlace, passed_len, segment_at};
+use starlark_base::edit::Edit;
 use starlark_devices::WriteDevice;
 use starlark_syntax::codemap::{CodeMap, CodeMapId, OrMemory, SourceTooLong};
 use std::alloc::{AllocError, Global};
@@ -71,17 +72,6 @@ pub struct Change {
     pub starts: usize,
     /// Number of reads of bytes: at most `16 * (lexed + starts)`.
     pub reads: u64,
-}
-
-/// An edit: the bytes of a range are replaced by a text.
-#[derive(Clone, Copy)]
-pub struct Edit<'a> {
-    /// Start of the range, in bytes.
-    pub from: usize,
-    /// End of the range.
-    pub to: usize,
-    /// The text in its place.
-    pub text: &'a str,
 }
 
 /// Why a document refuses an edit.

@@ -4,7 +4,7 @@ ghost use Rattle.starlark_grammar.specs.Joining as spec;
 ghost use Rattle.std.specs.Prelude.{◌≡◌, ◌≤◌, ◌<◌, ◌++◌, ◌||◌, ◌==◌, ◌∷◌, [], IfOk, List, IsSome, OnOk, Some, drop, length, false, not, true};
 ghost use Rattle.std.specs.Str.{IsCharBoundary, byte};
 ghost use Rattle.starlark_base.specs.Sources.{SourceFile};
-ghost use Rattle.starlark_document.specs.Inner.LexedFronts.{IsLexedFront, is_dedent_item, is_dedent_view, is_newline_view};
+ghost use Rattle.starlark_document.specs.Inner.LexedFronts.{IsLexedFront, is_dedent_item, is_dedent_view};
 ghost use Rattle.starlark_document.specs.Inner.Segments.{IsPlaced};
 ghost use Rattle.starlark_grammar.specs.Margins.{is_blank, is_lf};
 ghost use Rattle.starlark_grammar.specs.Tokens.{Fault, Spanned};
@@ -17,7 +17,7 @@ ghost use Rattle.starlark_token.specs.TextItems.{Given, LexerItem};
 ghost use Rattle.starlark_token.specs.TokenViews.{token_view};
 
 use crate::segments::{PlacedFault, PlacedToken};
-use starlark_syntax::codemap::{FileSpan, OrMemory};
+use starlark_syntax::codemap::OrMemory;
 use starlark_syntax::eval_exception::EvalException;
 use starlark_syntax::lexer::Lexeme;
 use starlark_token::tokens::Token;
@@ -50,14 +50,6 @@ fn can_end(text: &str, at: usize, least_len: usize) -> bool
     at >= least_len && text.len() - at >= least_len && begins_plainly(&text.as_bytes()[at..])
 }
 
-/// Whether a token is `Newline`.
-#[tactic(auto, unfolding(starlark_token::specs::TokenViews::token_view))]
-pub fn is_newline(token: &Token) -> bool
-    ensures { result ≡ is_newline_view (token_view token.now) }
-{
-    matches!(token, Token::Newline)
-}
-
 /// Whether a token is `Dedent`.
 #[tactic(auto, unfolding(starlark_token::specs::TokenViews::token_view))]
 fn is_dedent_token(token: &Token) -> bool
@@ -78,23 +70,12 @@ fn is_dedent(item: &Lexeme) -> Result<bool, AllocError>
     }
 }
 
-/// The file span of an exception that has one.
-fn place_of(exception: &EvalException) -> &FileSpan
-    requires { IsSome exception.now.span }
-    ensures { exception.now.span ≡ Some result.now }
-{
-    let Some(place) = exception.error().span() else {
-        unreachable!()
-    };
-    place
-}
-
 /// The fault of an exception that has a span.
 fn placed_fault(exception: EvalException) -> PlacedFault
     requires { IsSome exception.span }
     ensures { (file : SourceFile) (fault : Spanned Fault) → IsException file fault exception → IsPlaced fault result }
 {
-    let span = place_of(&exception).span;
+    let span = exception.error().span().unwrap().span;
     PlacedFault {
         begin: span.begin().get() as usize,
         end: span.end().get() as usize,
@@ -146,7 +127,7 @@ impl LexedFront {
         requires cut { self.old.is_cut ≡ true → is_dedent_item (Given (lexeme_view lexeme)) ≡ true }
         ensures front { OnOk result ((items : List LexerItem) → IsLexedFront text.now items self.old → IsLexedFront text.now (items ++ (Given (lexeme_view lexeme) ∷ [])) self.new) }
     {
-        if is_newline(&lexeme.1) && lexeme.0 < lexeme.2 {
+        if lexeme.1.is_newline() && lexeme.0 < lexeme.2 {
             self.line_end = lexeme.2;
             self.is_cut = can_end(text, lexeme.2, self.least_len);
         }

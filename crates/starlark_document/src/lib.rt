@@ -11,6 +11,7 @@ mod line_places;
 mod segment_lexing;
 mod segments;
 
-pub use document::{Change, Document, Edit, EditError};
+pub use document::{Change, Document, EditError};
 pub use line_places::Place;
 pub use segments::{Faults, Lexemes};
+pub use starlark_base::edit::Edit;

@@ -9,7 +9,7 @@ ghost use Rattle.starlark_base.specs.Places.{is_lf};
 ghost use Rattle.starlark_syntax.specs.RecoveringLexer.{all_items};
 ghost use Rattle.starlark_token.specs.Lexemes.{lexeme_view};
 
-use crate::lexed_fronts::{LexedFront, SPARE_LEXEMES, is_newline};
+use crate::lexed_fronts::{LexedFront, SPARE_LEXEMES};
 use crate::segments::{Content, PlacedToken, Segment};
 use starlark_base::position::newline_count;
 use starlark_syntax::codemap::CodeMap;
@@ -82,7 +82,7 @@ fn last_newline(lexemes: &[PlacedToken]) -> usize
     let mut at = lexemes.len();
     while at > 0 {
         at -= 1;
-        if is_newline(&lexemes[at].1) {
+        if lexemes[at].1.is_newline() {
             return at;
         }
     }

@@ -7,13 +7,12 @@ use Rattle.starlark_document.specs.declared.lexed_fronts.LexedFront.{LexedFront}
 use Rattle.starlark_document.specs.declared.segments.Segment.{Segment}
 use Rattle.starlark_grammar.specs.Tokens as grammar
 use Rattle.starlark_grammar.specs.Words.{Text}
-pub use Rattle.starlark_syntax.specs.Inner.LexedTexts.{is_newline_view}
 use Rattle.starlark_syntax.specs.Joining.{begins_plainly, is_closed, without_last_newline}
 use Rattle.starlark_syntax.specs.Recovery.{recovered}
 use Rattle.starlark_syntax.specs.RecoveringLexer.{all_items}
 use Rattle.starlark_token.specs.Lexemes.{lexeme_view, shown_lexeme}
 use Rattle.starlark_token.specs.TextItems.{LexerItem, Given, Refused}
-use Rattle.starlark_token.specs.TokenViews.{TokenView, Whole}
+use Rattle.starlark_token.specs.TokenViews.{TokenView, Whole, is_newline_view}
 
 -- the lexemes of a list of items, …
 abbrev pub given_of : List LexerItem → List (grammar.Spanned TokenView)
