@@ -71,19 +71,5 @@ terminal_named terminal.ClosingRound = refl
 -- the name of a token is found by its number
 pub token_named : (token : grammar.Token) → kind_name (token_number token) ≡ whole_kind token
 unfolding kind_name kind_names token_number whole_kind
-token_named (grammar.Comment text) = refl
-token_named grammar.Indent = refl
-token_named grammar.Dedent = refl
-token_named grammar.Newline = refl
-token_named (grammar.Identifier name) = refl
-token_named (grammar.Int value) = refl
-token_named (grammar.Float text) = refl
-token_named (grammar.String value) = refl
-token_named (grammar.Bytes value) = refl
-token_named (grammar.FStringStart opening) = refl
-token_named (grammar.FStringText value) = refl
-token_named grammar.FStringExprStart = refl
-token_named grammar.FStringExprEnd = refl
-token_named grammar.FStringBang = refl
-token_named grammar.FStringEnd = refl
 token_named (grammar.Word terminal) = terminal_named terminal
+token_named token = refl

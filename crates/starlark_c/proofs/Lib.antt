@@ -3,7 +3,7 @@
 -- Filled: records and values of one lexeme more.
 -- CutTexts: a piece of a text: what is before a kept cut. Also of one that begins with the text.
 -- Ends: how lexing ends after all lexemes of a text.
--- LineEnds: only after a `Newline` or a comment may a text be cut.
+-- CutEnds: only after a `Newline` or a comment may a text be cut.
 -- Stops: where a text may be cut, and how lexing ends.
 -- LastStops: after the last stop no cut has room.
 -- Wanted: how much is wanted for the first lexemes of a text.
@@ -28,7 +28,7 @@ pub mod YieldedItems
 pub mod Filled
 pub mod CutTexts
 pub mod Ends
-pub mod LineEnds
+pub mod CutEnds
 pub mod Stops
 pub mod LastStops
 pub mod Wanted

@@ -16,7 +16,7 @@ use Rattle.starlark_c.proofs.AddedItems.{IsNeed, have_more, have_none, need, no_
 use Rattle.starlark_c.proofs.Filled.{same_length}
 use Rattle.starlark_grammar.specs.Tokens.{Fault, Spanned}
 use Rattle.starlark_grammar.specs.Words.{Text}
-use Rattle.starlark_syntax.specs.Exceptions.{IsException}
+use Rattle.starlark_syntax.proofs.NextItems.{IsNext, next_none}
 use Rattle.starlark_syntax.specs.Lexer.{Answers, AnswersNext}
 use Rattle.starlark_syntax.specs.RecoveringLexer.{all_items}
 use Rattle.starlark_syntax.specs.declared.error.kinds.ErrorKind.{ErrorKind}
@@ -25,35 +25,6 @@ use Rattle.starlark_text.specs.declared.or_memory.OrMemory.TheVariants as refusa
 use Rattle.starlark_token.specs.Lexemes.{lexeme_view}
 use Rattle.starlark_token.specs.TextItems.{LexerItem, Given, Refused}
 use Rattle.starlark_token.specs.declared.tokens.Token.{Token}
-
--- the first of the items that are left
-pub record IsFirst (file : SourceFile) (left : List LexerItem) (answer : Result (ℕ × Token × ℕ) (OrMemory (Diagnosed ErrorKind))) : Type 0 where
-  pub item : LexerItem
-  pub is : left ≡ item ∷ drop 1 left
-  pub answers : Answers file item answer
-
-pub first_item : (file : SourceFile) (left : List LexerItem) (answer : Result (ℕ × Token × ℕ) (OrMemory (Diagnosed ErrorKind))) → AnswersNext file (slice_get left 0) (Some answer) → IsFirst file left answer
-first_item file [] answer answers = absurd answers
-first_item file (item ∷ more) answer answers = record { item = item; is = refl; answers = answers }
-
-pub none_left : (file : SourceFile) (left : List LexerItem) → AnswersNext file (slice_get left 0) None → left ≡ []
-none_left file [] answers = refl
-none_left file (item ∷ more) answers = absurd answers
-
--- an item that is answered by a lexeme is that lexeme
-pub answers_lexeme : (file : SourceFile) (item : LexerItem) (lexeme : ℕ × Token × ℕ) → Answers file item (Ok lexeme) → item ≡ Given (lexeme_view lexeme)
-answers_lexeme file (Given found) lexeme answers = ap Given (sym answers)
-answers_lexeme file (Refused fault) lexeme answers = absurd answers
-
--- … and one that is answered by an exception is its fault
-pub record IsFaultItem (file : SourceFile) (item : LexerItem) (exception : Diagnosed ErrorKind) : Type 0 where
-  pub fault : Spanned Fault
-  pub is : item ≡ Refused fault
-  pub thrown : IsException file fault exception
-
-pub answers_fault : (file : SourceFile) (item : LexerItem) (exception : Diagnosed ErrorKind) → Answers file item (Err (refusal.Error exception)) → IsFaultItem file item exception
-answers_fault file (Given found) exception answers = absurd answers
-answers_fault file (Refused fault) exception answers = record { fault = fault; is = refl; thrown = answers }
 
 -- after a lexeme or a fault that was taken the lexer goes on
 pub goes_after_lexeme : (lexeme : ℕ × Token × ℕ) (took : Taken) → ¬ (took ≡ taken.Memory) → GoesOn (Ok lexeme) took
@@ -76,12 +47,12 @@ pub done_none : (all : List LexerItem) (before : Contents) → IsDone all all be
 done_none all before = record { done = []; is = refl; have = have_none before }
 
 -- one item more is done
-pub done_more : (file : SourceFile) (all left later : List LexerItem) (answer : Result (ℕ × Token × ℕ) (OrMemory (Diagnosed ErrorKind))) (before now after : Contents) (filled more : Counts) → IsDone all left before now filled → (first : IsFirst file left answer)
-    → Takes first.item filled now after (taken.Put more) → later ≡ drop 1 left → IsDone all later before after more
+pub done_more : (file : SourceFile) (all left later : List LexerItem) (answer : Result (ℕ × Token × ℕ) (OrMemory (Diagnosed ErrorKind))) (before now after : Contents) (filled more : Counts) → IsDone all left before now filled → (first : IsNext file left answer)
+    → Takes first.next filled now after (taken.Put more) → later ≡ drop 1 left → IsDone all later before after more
 done_more file all left later answer before now after filled more inv first takes goes = record {
-  done = inv.done ++ first.item ∷ [];
-  is = inv.is ∙ ap (λ xs. inv.done ++ xs) (first.is ∙ ap (λ xs. first.item ∷ xs) (sym goes)) ∙ sym (append_assoc inv.done (first.item ∷ []) later);
-  have = have_more inv.done first.item before now after filled more inv.have takes.0 takes.1;
+  done = inv.done ++ first.next ∷ [];
+  is = inv.is ∙ ap (λ xs. inv.done ++ xs) (first.is ∙ ap (λ xs. first.next ∷ xs) (sym goes)) ∙ sym (append_assoc inv.done (first.next ∷ []) later);
+  have = have_more inv.done first.next before now after filled more inv.have takes.0 takes.1;
 }
 
 -- the buffers are as long as before
@@ -96,7 +67,7 @@ values_within all left before now filled inv =
 -- all items are done
 pub recovers_whole : (file : SourceFile) (text : Text) (left : List LexerItem) (before now : Contents) (filled : Counts) → IsText text → IsDone (all_items text) left before now filled → AnswersNext file (slice_get left 0) None → Recovers text before now (ending.Whole filled)
 recovers_whole file text left before now filled is inv answers =
-    let all : all_items text ≡ inv.done = inv.is ∙ ap (λ xs. inv.done ++ xs) (none_left file left answers) ∙ append-nil inv.done in
+    let all : all_items text ≡ inv.done = inv.is ∙ ap (λ xs. inv.done ++ xs) (next_none file left answers) ∙ append-nil inv.done in
     (is, rw all inv.have)
 
 -- memory ran out before the next item
@@ -127,11 +98,11 @@ held_before all xs x rest before now filled is held lack =
 
 -- an item has no room
 pub recovers_full : (file : SourceFile) (text : Text) (left later : List LexerItem) (answer : Result (ℕ × Token × ℕ) (OrMemory (Diagnosed ErrorKind))) (before now after : Contents) (filled wanted : Counts) (end : RecoveredEnding) → IsText text
-    → IsDone (all_items text) left before now filled → (first : IsFirst file left answer) → Takes first.item filled now after (taken.NoRoom wanted) → later ≡ drop 1 left → EndsFull (wanted_on wanted later) filled end
+    → IsDone (all_items text) left before now filled → (first : IsNext file left answer) → Takes first.next filled now after (taken.NoRoom wanted) → later ≡ drop 1 left → EndsFull (wanted_on wanted later) filled end
     → Recovers text before after end
 recovers_full file text left later answer before now after filled wanted (ending.Full told) is inv first takes goes ends =
     let held = inv.have in
-    let x = first.item in
+    let x = first.next in
     let rest = drop 1 left in
     let all : all_items text ≡ inv.done ++ x ∷ rest = inv.is ∙ ap (λ xs. inv.done ++ xs) first.is in
     let needs = need inv.done x rest filled held.counts in

@@ -110,17 +110,24 @@ pub touch_one : {A : Type 0} (item : Spanned A → LexerItem) (from to : ℕ) (o
 touch_one item from to old new x is after late early =
     touching_first item from to old (drop 1 old) x (first_of old x is) late early ∙ ap (λ xs. item x ∷ items_touching item from to xs) (sym after)
 
-pub pass_one : {A : Type 0} (item : Spanned A → LexerItem) (from to : ℕ) (old new : List (Spanned A)) (x : Spanned A) → slice_get old 0 ≡ Some x → new ≡ drop 1 old → x.end < from
-    → items_touching item from to old ≡ items_touching item from to new
-pass_one item from to old new x is after before =
-    passed_first item from to old (drop 1 old) x (first_of old x is) before ∙ ap (items_touching item from to) (sym after)
-
 pub stop_one : {A : Type 0} (item : Spanned A → LexerItem) (from to : ℕ) (old : List (Spanned A)) (x : Spanned A) → slice_get old 0 ≡ Some x → to < x.begin → AreWithin old
     → items_touching item from to old ≡ []
 stop_one item from to old x is after within = none_after item from to old (drop 1 old) x (first_of old x is) after within
 
 pub rest_one : {A : Type 0} (old new : List (Spanned A)) (x : Spanned A) → slice_get old 0 ≡ Some x → new ≡ drop 1 old → AreWithin old → IsFirstWithin x new
 rest_one old new x is after within = subst (IsFirstWithin x) (sym after) (first_within old (drop 1 old) x (first_of old x is) within)
+
+-- the later ones of spans, of which the first doesn't touch the range
+pub record IsPassed {A : Type 0} (item : Spanned A → LexerItem) (from to : ℕ) (old new : List (Spanned A)) : Type 0 where
+  pub rest : AreWithin new
+  pub same : items_touching item from to old ≡ items_touching item from to new
+
+pub pass_one : {A : Type 0} (item : Spanned A → LexerItem) (from to : ℕ) (old new : List (Spanned A)) (x : Spanned A) → slice_get old 0 ≡ Some x → new ≡ drop 1 old → AreWithin old → x.end < from
+    → IsPassed item from to old new
+pass_one item from to old new x is after within before = record {
+  rest = (rest_one old new x is after within).rest;
+  same = passed_first item from to old (drop 1 old) x (first_of old x is) before ∙ ap (items_touching item from to) (sym after);
+}
 
 pub fewer_one : {A : Type 0} (old new : List A) (x : A) → slice_get old 0 ≡ Some x → new ≡ drop 1 old → length new < length old
 fewer_one old new x is after = omega (arith, ap length (first_of old x is), ap length after)

@@ -300,21 +300,7 @@ outcome_size table text = of_reading table text (read table text).pieces (read t
 shown_bytes : (token : Token) → value_bytes (Whole (shown token)) ≡ token_bytes token
 unfolding value_bytes
 shown_bytes (grammar.FStringStart opening) = refl
-shown_bytes (grammar.Comment text) = refl
-shown_bytes grammar.Indent = refl
-shown_bytes grammar.Dedent = refl
-shown_bytes grammar.Newline = refl
-shown_bytes (grammar.Identifier name) = refl
-shown_bytes (grammar.Int value) = refl
-shown_bytes (grammar.Float text) = refl
-shown_bytes (grammar.String value) = refl
-shown_bytes (grammar.Bytes value) = refl
-shown_bytes (grammar.FStringText value) = refl
-shown_bytes grammar.FStringExprStart = refl
-shown_bytes grammar.FStringExprEnd = refl
-shown_bytes grammar.FStringBang = refl
-shown_bytes grammar.FStringEnd = refl
-shown_bytes (grammar.Word symbol) = refl
+shown_bytes token = refl
 
 values_size : (xs : List Lexeme) → length (values (map shown_lexeme xs)) ≡ size xs
 unfolding values

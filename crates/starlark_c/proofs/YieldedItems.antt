@@ -14,33 +14,15 @@ use Rattle.starlark_syntax.specs.declared.error.kinds.ErrorKind.{ErrorKind}
 use Rattle.starlark_text.specs.declared.or_memory.OrMemory.TheVariants as refusal
 use Rattle.starlark_token.specs.Lexemes.{lexeme_view, shown_lexeme}
 use Rattle.starlark_token.specs.TextItems.{Given, LexerItem, Refused, items}
+use Rattle.starlark_token.proofs.NumberedItems.{fault_at, given, only_faults}
+use Rattle.starlark_syntax.proofs.NextItems.{found_fault, found_lexeme, found_none}
 use Rattle.starlark_token.specs.TokenViews.{TokenView}
 use Rattle.starlark_token.specs.declared.tokens.Token.{Token}
-
-abbrev given : Lexeme → LexerItem
-given lexeme = Given (shown_lexeme lexeme)
-
--- no fault is a lexeme
-only_faults : (fs : List (Spanned Fault)) (h : ℕ) (x : Spanned TokenView) → slice_get (map Refused fs) h ≡ Some (Given x) → ⊥
-only_faults [] zero x e = cc
-only_faults [] (suc h) x e = cc
-only_faults (f ∷ fs) zero x e = cc
-only_faults (f ∷ fs) (suc h) x e = only_faults fs h x e
 
 lexeme_at : (ls : List Lexeme) (fs : List (Spanned Fault)) (h : ℕ) (x : Spanned TokenView) → slice_get (map given ls ++ map Refused fs) h ≡ Some (Given x) → slice_get (map shown_lexeme ls) h ≡ Some x
 lexeme_at [] fs h x e = absurd (only_faults fs h x e)
 lexeme_at (l ∷ ls) fs zero x e = let same : shown_lexeme l ≡ x = cc in ap Some same
 lexeme_at (l ∷ ls) fs (suc h) x e = lexeme_at ls fs h x e
-
--- the fault is the item after all lexemes
-fault_at : (ls : List Lexeme) (o : Option (Spanned Fault)) (h : ℕ) (f : Spanned Fault) → slice_get (map given ls ++ map Refused (option_to_list o)) h ≡ Some (Refused f) → (o ≡ Some f) × (h ≡ length ls)
-fault_at [] None zero f e = cc
-fault_at [] None (suc h) f e = cc
-fault_at [] (Some g) zero f e = let same : g ≡ f = cc in (ap Some same, refl)
-fault_at [] (Some g) (suc zero) f e = cc
-fault_at [] (Some g) (suc (suc h)) f e = cc
-fault_at (l ∷ ls) o zero f e = cc
-fault_at (l ∷ ls) o (suc h) f e = let rest = fault_at ls o h f e in (rest.0, ap suc rest.1)
 
 none_at : (ls : List Lexeme) (o : Option (Spanned Fault)) (h : ℕ) → slice_get (map given ls ++ map Refused (option_to_list o)) h ≡ None → h ≤ length ls → (o ≡ None) × (h ≡ length ls)
 none_at [] None zero e few = (refl, refl)
@@ -76,12 +58,7 @@ given_next text h x here =
     record { is = at; few = step.0; some = (take_next (items text) h (Given x) here).0; more = step.1 }
 
 pub next_lexeme : (file : SourceFile) (text : Text) (h : ℕ) (found : ℕ × Token × ℕ) → AnswersNext file (slice_get (items text) h) (Some (Ok found)) → IsNext text h (lexeme_view found)
-next_lexeme file text h found answers = by_item (slice_get (items text) h) refl answers
-  where
-    by_item : (o : Option LexerItem) → slice_get (items text) h ≡ o → AnswersNext file o (Some (Ok found)) → IsNext text h (lexeme_view found)
-    by_item None is answers = absurd answers
-    by_item (Some (Refused fault)) is answers = absurd answers
-    by_item (Some (Given x)) is answers = given_next text h (lexeme_view found) (is ∙ ap (λ v. Some (Given v)) (sym answers))
+next_lexeme file text h found answers = given_next text h (lexeme_view found) (found_lexeme file (slice_get (items text) h) found answers)
 
 -- the fault of a text, after all its lexemes
 pub record IsLast (file : SourceFile) (text : Text) (h : ℕ) (exception : Diagnosed ErrorKind) : Type 0 where
@@ -93,22 +70,20 @@ pub record IsLast (file : SourceFile) (text : Text) (h : ℕ) (exception : Diagn
 
 pub next_fault : (file : SourceFile) (text : Text) (h : ℕ) (exception : Diagnosed ErrorKind) → AnswersNext file (slice_get (items text) h) (Some (Err (refusal.Error exception))) → IsLast file text h exception
 unfolding items
-next_fault file text h exception answers = by_item (slice_get (items text) h) refl answers
-  where
-    by_item : (o : Option LexerItem) → slice_get (items text) h ≡ o → AnswersNext file o (Some (Err (refusal.Error exception))) → IsLast file text h exception
-    by_item None is answers = absurd answers
-    by_item (Some (Given x)) is answers = absurd answers
-    by_item (Some (Refused fault)) is answers =
-        let at = fault_at (outcome text).lexemes (outcome text).fault h fault is in
-        record { fault = fault; is = at.0; all = at.1 ∙ sym (length-map (outcome text).lexemes shown_lexeme); thrown = answers; within = subst (λ (f : Option (Spanned Fault)). IsFaultIn file f (Some exception)) (sym at.0) answers }
+next_fault file text h exception answers =
+    let found = found_fault file (slice_get (items text) h) exception answers in
+    let at = fault_at (outcome text).lexemes (outcome text).fault h found.fault found.is in
+    record {
+      fault = found.fault;
+      is = at.0;
+      all = at.1 ∙ sym (length-map (outcome text).lexemes shown_lexeme);
+      thrown = found.thrown;
+      within = subst (λ (f : Option (Spanned Fault)). IsFaultIn file f (Some exception)) (sym at.0) found.thrown;
+    }
 
 pub next_none : (file : SourceFile) (text : Text) (h : ℕ) → AnswersNext file (slice_get (items text) h) None → h ≤ length (lexemes_of text) → ((outcome text).fault ≡ None) × (h ≡ length (lexemes_of text))
 unfolding items
-next_none file text h answers few = by_item (slice_get (items text) h) refl answers
-  where
-    by_item : (o : Option LexerItem) → slice_get (items text) h ≡ o → AnswersNext file o None → ((outcome text).fault ≡ None) × (h ≡ length (lexemes_of text))
-    by_item (Some (Given x)) is answers = absurd answers
-    by_item (Some (Refused x)) is answers = absurd answers
-    by_item None is answers =
-        let at = none_at (outcome text).lexemes (outcome text).fault h is (omega (arith, few, length-map (outcome text).lexemes shown_lexeme)) in
-        (at.0, at.1 ∙ sym (length-map (outcome text).lexemes shown_lexeme))
+next_none file text h answers few =
+    let none = found_none file (slice_get (items text) h) answers in
+    let at = none_at (outcome text).lexemes (outcome text).fault h none (omega (arith, few, length-map (outcome text).lexemes shown_lexeme)) in
+    (at.0, at.1 ∙ sym (length-map (outcome text).lexemes shown_lexeme))

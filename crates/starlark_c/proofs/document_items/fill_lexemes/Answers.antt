@@ -45,10 +45,8 @@ loop-begin-smaller c = fewer_one c.loop-begin.left c.next.new.self _ c.in-Some.e
 
 pub loop-begin-preserved : goal.loop-begin-preserved
 loop-begin-preserved c =
-    let found = c.in-Some.ensures in
-    let rest = rest_one c.loop-begin.left c.next.new.self _ found.some found.after c.loop-begin.invariant.0 in
-    let passed = pass_one Given c.args.from c.args.to c.loop-begin.left c.next.new.self _ found.some found.after (omega (arith, c.if-from-end.false)) in
-    (rest.rest, done_same _ _ _ _ _ c.loop-begin.filled c.loop-begin.invariant.1 passed)
+    let passed = pass_one Given c.args.from c.args.to c.loop-begin.left c.next.new.self _ c.in-Some.ensures.some c.in-Some.ensures.after c.loop-begin.invariant.0 (omega (arith, c.if-from-end.false)) in
+    (passed.rest, done_same _ _ _ _ _ c.loop-begin.filled c.loop-begin.invariant.1 passed.same)
 
 pub returns : goal.returns
 returns c =

@@ -37,11 +37,8 @@ loop-begin-smaller c = fewer_one c.loop-begin.left c.next.new.self c.in-Some.ens
 
 pub loop-begin-preserved : goal.loop-begin-preserved
 loop-begin-preserved c =
-    let found = c.in-Some.ensures in
-    let fault = found.some.0 in
-    let rest = rest_one c.loop-begin.left c.next.new.self fault found.some.1 found.after c.loop-begin.invariant.0 in
-    let passed = pass_one Refused c.args.from c.args.to c.loop-begin.left c.next.new.self fault found.some.1 found.after (omega (arith, c.if-from-end.false, found.some.4)) in
-    (rest.rest, sym (ap (wanted_on c.loop-begin.wanted) passed) ∙ c.loop-begin.invariant.1)
+    let passed = pass_one Refused c.args.from c.args.to c.loop-begin.left c.next.new.self c.in-Some.ensures.some.0 c.in-Some.ensures.some.1 c.in-Some.ensures.after c.loop-begin.invariant.0 (omega (arith, c.if-from-end.false, c.in-Some.ensures.some.4)) in
+    (passed.rest, sym (ap (wanted_on c.loop-begin.wanted) passed.same) ∙ c.loop-begin.invariant.1)
 
 pub returns : goal.returns
 returns c =

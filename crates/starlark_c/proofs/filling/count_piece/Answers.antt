@@ -9,17 +9,16 @@ use Rattle.starlark_c.proofs.filling.count_piece.Goals as goal
 
 pub returns-then-is_some : goal.returns-then-is_some
 returns-then-is_some c =
-    let inv = c.loop-item.invariant in
     let text = c.args.lexer.now.text in
     let n = c.loop-item.lexer.yielded_count in
-    let next = next_lexeme c.loop-item.lexer.code_map text n c.in-Ok.lexeme (rw (c.in-Ok.is, inv.text) at (c.in-Some.ensures.item inv.going)) in
+    let next = next_lexeme c.loop-item.lexer.code_map text n c.in-Ok.lexeme (rw (c.in-Ok.is, c.loop-item.invariant.text) at (c.in-Some.ensures.item c.loop-item.invariant.going)) in
     record {
       all_lexemes = n + 1;
       all_bytes = length (values (take (n + 1) (lexemes_of text)));
       first = inl (next.few, refl);
-      more_lexemes = omega (arith, inv.later);
-      more_bytes = omega (arith, inv.more, more_values text n (lexeme_view c.in-Ok.lexeme) next);
-      needs = wanted_more text n (lexeme_view c.in-Ok.lexeme) c.loop-item.passed c.want_lexeme-passed.result next inv.wanted c.want_lexeme-passed.ensures;
+      more_lexemes = omega (arith, c.loop-item.invariant.later);
+      more_bytes = omega (arith, c.loop-item.invariant.more, more_values text n (lexeme_view c.in-Ok.lexeme) next);
+      needs = wanted_more text n (lexeme_view c.in-Ok.lexeme) c.loop-item.passed c.want_lexeme-passed.result next c.loop-item.invariant.wanted c.want_lexeme-passed.ensures;
     }
 
 pub loop-item-smaller : goal.loop-item-smaller

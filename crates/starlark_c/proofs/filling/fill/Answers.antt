@@ -7,7 +7,7 @@ use Rattle.starlark_c.proofs.Filled.{hold_none, values_nil}
 use Rattle.starlark_c.proofs.YieldedItems.{given_next, next_fault, next_lexeme, next_none}
 use Rattle.starlark_c.proofs.NextLexemes.{HasFilled, ends_without_room, goes_on, goes_on_with, has_filled_more, has_stopped, may_stop, stays, wanted_with_next}
 use Rattle.starlark_c.proofs.LastStops.{fault_last, last_of_all}
-use Rattle.starlark_c.proofs.LineEnds.{none_after}
+use Rattle.starlark_c.proofs.CutEnds.{none_after}
 use Rattle.starlark_c.proofs.Stops.{ends_at_fault, fault_filled}
 use Rattle.starlark_syntax.specs.Lexer.{LexerView}
 use Rattle.starlark_syntax.specs.PlainLexemes.{plain_view}
