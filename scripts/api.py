@@ -205,6 +205,8 @@ def section(crate, path, listed):
         listed.add(item.key)
         yield from item.rows()
     if others:
+        if new:
+            yield ""
         yield wrapped(f"Re-exported: {', '.join(f'`{other}`' for other in others)}.", "")
     for name in modules:
         yield from section(crate, [*path, name], listed)
