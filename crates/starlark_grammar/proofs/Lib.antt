@@ -32,19 +32,18 @@
 -- Joining/KeptPlaces: kept cuts: in which piece, and after which lines of its margin, one lies.
 -- LineEnds/Texts, Fronts, Bodies, Margins, Pieces: CR LF: each piece is in the CR LF form with the same tokens.
 -- LineEnds/Readings: CR LF: so does the whole reading.
--- Recovery/TextOutcomes: outcomes: the laws of the outcomes, and bounds of the place where lexing begins again.
--- Recovery/Order, EarlierLexemes: order: lexemes and faults inside of the text, each in order.
+-- Recovery/RestartBounds: restarts: bounds of the place where lexing begins again.
+-- Recovery/Order, EarlierLexemes: order: spans in order; lexemes before a fault end before lexing begins again.
 -- Recovery/FollowedStops, FollowedFaults, MarginTabs: texts after others: a fault that ends before its text stays.
 -- Recovery/DecidedFaults, MovedRestarts: decided faults: what follows a decided fault; a moved restart.
 -- Recovery/ShortenedStops, ShortenedFaults: texts that end sooner: where a fault ends before its text does.
 -- Recovery/ClosedBlocks, LineCuts: cuts between lines: content at column 0 closes all blocks.
 -- Recovery/NewlinePieces, NewlineCuts: cuts at newlines: a `Newline` of some bytes ends a text of its own.
--- Recovery/ClosedTexts: closed texts: what is found in two texts.
 -- Words/EachByte: bytes of words: a test that the bytes of names and numbers pass.
 -- Repairs/Fronts, Bodies, Margins, Pieces: repairs: what stands before a repair stays.
 -- Repairs/Semicolons, States, Faults, Readings: repairs: each `;` is a lexeme, and leaves what is open; where a fault
 --   that keeps its line is; the outcome of a repaired text.
--- Repairs/Mended, GoesOn, RepairedParts: mended texts: one repair after another; what is found in the whole text.
+-- Repairs/RepairedTexts: repaired texts: their length, and what stands after the repair.
 -- Rows: worked texts, by computing: outcomes, bodies, cuts, joins and fronts; Rows/Shapes: how a row is written.
 pub mod Lists
 pub mod Choices
@@ -61,3 +60,4 @@ pub mod Joining
 pub mod LineEnds
 pub mod Recovery
 pub mod Repairs
+pub mod Found

@@ -1,5 +1,5 @@
 -- Texts that are lexed on after their faults, and texts after them.
-pub mod TextOutcomes
+pub mod RestartBounds
 pub mod FollowedStops
 pub mod FollowedFaults
 pub mod MarginTabs
@@ -12,6 +12,5 @@ pub mod LineCuts
 pub mod NewlinePieces
 pub mod NewlineCuts
 pub mod MovedRestarts
-pub mod ClosedTexts
 pub mod ShortenedStops
 pub mod ShortenedFaults

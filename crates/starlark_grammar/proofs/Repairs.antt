@@ -7,6 +7,4 @@ pub mod Semicolons
 pub mod States
 pub mod Faults
 pub mod Readings
-pub mod Mended
-pub mod GoesOn
-pub mod RepairedParts
+pub mod RepairedTexts

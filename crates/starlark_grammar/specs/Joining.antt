@@ -1,5 +1,5 @@
 -- Texts that another text follows, so that each is lexed on after its faults by itself.
-use Rattle.std.specs.Prelude.{◌≡◌, ◌<◌, ℕ, zero, suc, ◌-◌, Bool, true, false, ◌&&◌, ◌||◌, not, ◌==◌, nat_eq, nat_lt, List, [], ◌∷◌, ◌++◌, map, length, drop, take, codes, Option, Some, None, option_map}
+use Rattle.std.specs.Prelude.{◌≡◌, ◌<◌, ℕ, Bool, true, false, ◌&&◌, ◌||◌, not, ◌==◌, nat_eq, nat_lt, List, [], ◌∷◌, ◌++◌, map, length, drop, take, codes, Some, None, option_map}
 use Rattle.std.specs.List.{ends_with, list_all}
 use Rattle.std.specs.Str.{byte}
 use Rattle.starlark_grammar.specs.Words.{Text}
@@ -9,7 +9,7 @@ use Rattle.starlark_grammar.specs.Words.{language}
 use Rattle.starlark_grammar.specs.Cuts.{is_faultless, is_layout, is_outside, is_newline}
 use Rattle.starlark_grammar.specs.Depths.{is_balanced, mode_after}
 use Rattle.starlark_grammar.specs.Reading.{History, Reading, after_all, nothing, outcome, read}
-use Rattle.starlark_grammar.specs.Recovery.{Recovered, recovered, restart}
+use Rattle.starlark_grammar.specs.Recovery.{Recovered, restart}
 
 -- The fault of a text ends before the text does, and the text's last byte is an LF. So whatever follows the text, its
 -- fault stays as it is.
@@ -43,22 +43,6 @@ without_last_newline (lexeme ∷ lexemes) = by (has_newline lexemes) (is_newline
     by true first without = lexeme ∷ without
     by false true without = lexemes
     by false false without = lexeme ∷ lexemes
-
--- a text is a cut between lines, or its fault is decided and the rest after it is closed
-abbrev pub is_closed_by : Text → Option (Spanned Fault) → (ℕ → Bool) → Bool
-is_closed_by text None rest = is_line_cut text
-is_closed_by text (Some fault) rest = is_decided text fault && rest (restart text fault)
-
--- whether a text of which so many bytes are passed over is closed
-unfoldable pub is_closed_from : ℕ → Text → Bool
-is_closed_from passed [] = true
-is_closed_from (suc passed) (b ∷ bs) = is_closed_from passed bs
-is_closed_from zero (b ∷ bs) = is_closed_by (b ∷ bs) (outcome (b ∷ bs)).fault (λ at. is_closed_from (at - 1) bs)
-
--- A closed text: all its faults are decided, and what is left after the last of them is empty or a cut
--- between lines.
-unfoldable pub is_closed : Text → Bool
-is_closed = is_closed_from 0
 
 -- A text whose first line has content, and no margin before it.
 unfoldable pub begins_plainly : Text → Bool
@@ -112,21 +96,3 @@ LastNewlineCuts = (text : Text) (front : List Lexeme) (newline : Lexeme) (more :
 abbrev pub DecidedFaultsStay : Type 0
 DecidedFaultsStay = (first second : Text) (fault : Spanned Fault) → (outcome first).fault ≡ Some fault → is_decided first fault ≡ true
     → (outcome (first ++ second) ≡ outcome first) × (restart (first ++ second) fault ≡ restart first fault)
-
--- In a closed text and one after it that begins plainly is found what is found in each, …
-abbrev pub ClosedTextsJoin : Type 0
-ClosedTextsJoin = (first second : Text) → is_closed first ≡ true → begins_plainly second ≡ true
-    → recovered (first ++ second) ≡ recovered_joined (length first) (recovered first) (recovered second)
-
--- … and both together are closed exactly where the second one is.
-abbrev pub ClosedOfJoined : Type 0
-ClosedOfJoined = (first second : Text) → is_closed first ≡ true → begins_plainly second ≡ true → is_closed (first ++ second) ≡ is_closed second
-
--- A text without fault is closed exactly where it has no bytes or is a cut between lines, …
-abbrev pub ClosedFaultless : Type 0
-ClosedFaultless = (text : Text) → (outcome text).fault ≡ None → is_closed text ≡ (length text == 0 || is_line_cut text)
-
--- … and one with a fault exactly where its fault is decided and the rest after it is closed.
-abbrev pub ClosedAfterFaults : Type 0
-ClosedAfterFaults = (text : Text) (fault : Spanned Fault) → (outcome text).fault ≡ Some fault
-    → is_closed text ≡ (is_decided text fault && is_closed (drop (restart text fault) text))

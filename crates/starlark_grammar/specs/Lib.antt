@@ -26,3 +26,5 @@ pub mod RecoveryLaws
 pub mod Joining
 pub mod Repairs
 pub mod RepairLaws
+pub mod Found
+pub mod FoundLaws

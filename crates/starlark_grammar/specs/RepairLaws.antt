@@ -1,5 +1,5 @@
 -- What the laws of repaired faults say.
-use Rattle.std.specs.Prelude.{◌≡◌, ◌≤◌, ◌<◌, ℕ, zero, suc, ◌+◌, ◌-◌, true, List, [], ◌∷◌, ◌++◌, drop, length, map, Some, None, IfSome}
+use Rattle.std.specs.Prelude.{◌≡◌, ◌≤◌, ◌<◌, ℕ, zero, suc, ◌+◌, ◌-◌, true, List, [], ◌∷◌, ◌++◌, length, Some, IfSome}
 use Rattle.std.specs.List.{AllByRecursion}
 use Rattle.starlark_grammar.specs.Words.{Text, language}
 use Rattle.starlark_grammar.specs.Tokens.{Lexeme, Spanned, Fault, ReservedKeyword, StartsZero, Word}
@@ -7,8 +7,7 @@ use Rattle.starlark_grammar.specs.declared.class.Terminal.TheVariants as termina
 use Rattle.starlark_grammar.specs.Longest.{IsReading}
 use Rattle.starlark_grammar.specs.Pieces.{Other, Piece}
 use Rattle.starlark_grammar.specs.Reading.{after_all, nothing, outcome, pieces_len, read, situation}
-use Rattle.starlark_grammar.specs.AfterFaults.{restart}
-use Rattle.starlark_grammar.specs.Repairs.{keeps_line, mended, moved_on, outcome_on, parts, repair_end, repaired}
+use Rattle.starlark_grammar.specs.Repairs.{keeps_line, repair_end, repaired}
 
 -- so many `;` from an offset on, one after another
 abbrev pub semicolons : ℕ → ℕ → List Lexeme
@@ -46,44 +45,3 @@ RepairsKeepState = (text : Text) (fault : Spanned Fault) → KeepsLine text faul
     → (pieces : List Piece) × IsReading language nothing (repaired text fault) pieces
     × (pieces_len pieces ≡ repair_end text fault)
     × (situation (after_all nothing pieces) ≡ record (situation (after_all nothing (read language text).pieces)) { before = Other })
-
--- A text whose first fault keeps its line is mended as the text with that fault repaired is, …
-abbrev pub MendsOnward : Type 0
-MendsOnward = (text : Text) (fault : Spanned Fault) → KeepsLine text fault
-    → mended text ≡ record {
-      text = (mended (repaired text fault)).text;
-      repairs = record { fault = fault; end = repair_end text fault } ∷ (mended (repaired text fault)).repairs;
-    }
-
--- … and any other stays as it is, …
-abbrev pub MendsNothing : Type 0
-MendsNothing = (text : Text) → ((fault : Spanned Fault) → KeepsLine text fault → ⊥) → mended text ≡ record { text = text; repairs = [] }
-
--- … with its own outcome.
-abbrev pub KeepsOutcome : Type 0
-KeepsOutcome = (text : Text) → ((fault : Spanned Fault) → KeepsLine text fault → ⊥)
-    → outcome_on text ≡ record { lexemes = (outcome text).lexemes; kept = []; fault = (outcome text).fault }
-
--- No fault of a mended text keeps its line.
-abbrev pub MendsAll : Type 0
-MendsAll = (text : Text) (fault : Spanned Fault) → KeepsLine (mended text).text fault → ⊥
-
--- Lexing goes on after a repair: the text has the lexemes before its fault and those that the repaired text has after
--- the repair, and the fault is one more of those that keep their lines.
-abbrev pub GoesOn : Type 0
-GoesOn = (text : Text) (fault : Spanned Fault) → KeepsLine text fault
-    → (more : List Lexeme) × ((outcome_on (repaired text fault)).lexemes ≡ (outcome text).lexemes ++ (semicolons (repair_end text fault - fault.begin) fault.begin ++ more))
-    × (outcome_on text ≡ record {
-      lexemes = (outcome text).lexemes ++ more;
-      kept = fault ∷ (outcome_on (repaired text fault)).kept;
-      fault = (outcome_on (repaired text fault)).fault;
-    })
-
--- A text whose faults all keep their lines is one part, …
-abbrev pub OnePart : Type 0
-OnePart = (text : Text) → (outcome_on text).fault ≡ None → parts text ≡ outcome_on text ∷ []
-
--- … and after another fault come the parts of the text from the next line on, moved there.
-abbrev pub PartsAfterFaults : Type 0
-PartsAfterFaults = (text : Text) (fault : Spanned Fault) → (outcome_on text).fault ≡ Some fault
-    → parts text ≡ outcome_on text ∷ map (moved_on (restart text fault)) (parts (drop (restart text fault) text))

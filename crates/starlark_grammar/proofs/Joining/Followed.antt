@@ -5,7 +5,7 @@ use Rattle.std.specs.Cmp.Lexicographic.{pointwise}
 use Rattle.std.specs.List.{ends_with}
 use Rattle.std.proofs.lemmas.Bool.{and_parts, and_right, eqb-true}
 use Rattle.starlark_grammar.specs.Words.{Text, class_in, language}
-use Rattle.starlark_grammar.specs.Front.{longest_front, language_front}
+use Rattle.starlark_grammar.specs.Front.{longest_front}
 use Rattle.starlark_grammar.proofs.Words.Fronts.{front_none}
 use Rattle.starlark_grammar.proofs.WordNewlines.{feed_last, feed_ends}
 
@@ -72,7 +72,3 @@ words_end (b ∷ bs) c word h = feed_ends ((b ∷ bs) ++ c ∷ word) (feed_insid
 pub longest_followed : (text more : Text) → ends_line text ≡ true → longest_front (class_in language) (text ++ more) ≡ longest_front (class_in language) text
 longest_followed [] more h = cc
 longest_followed (b ∷ bs) more h = front_followed (class_in language) b bs more (λ c word. words_end (b ∷ bs) c word h)
-
-pub language_front_followed : (text more : Text) → ends_line text ≡ true → language_front (text ++ more) ≡ language_front text
-unfolding language_front
-language_front_followed text more h = longest_followed text more h

@@ -1,5 +1,5 @@
 -- Pieces at the front of a text whose last byte is an LF stay where the text goes on, all but line ends that count.
-use Rattle.std.proofs.Common.{◌≡◌, ℕ, zero, suc, ◌+◌, ◌≤◌, ◌<◌, Bool, true, false, not, List, [], ◌∷◌, ◌++◌, length, take, drop, refl, ap, ◌∙◌, sym, subst, Option, Some, None, arith, ◌⊎◌, inl, inr}
+use Rattle.std.proofs.Common.{◌≡◌, ℕ, zero, suc, ◌+◌, ◌≤◌, ◌<◌, Bool, true, false, not, [], ◌∷◌, ◌++◌, length, take, drop, refl, ap, ◌∙◌, sym, subst, Option, Some, None, arith, ◌⊎◌, inl, inr}
 use Rattle.std.specs.Prelude.{◌&&◌, ◌==◌, if◌then◌else◌, nat_eq}
 use Rattle.std.specs.List.{starts_with}
 use Rattle.std.proofs.lemmas.Bool.{and_parts, eqb-true}
@@ -12,13 +12,10 @@ use Rattle.starlark_grammar.specs.declared.class.Class.{Class}
 use Rattle.starlark_grammar.specs.declared.class.Quote.TheVariants.{Single as SingleQuote, Double as DoubleQuote}
 use Rattle.starlark_grammar.specs.declared.class.LiteralKind.TheVariants.{Text as OfText, Bytes as OfBytes, FString as OfFString}
 use Rattle.starlark_grammar.specs.Front.{longest_front}
-use Rattle.starlark_grammar.specs.Tokens.{Opening, FStringBang, Lexeme, Spanned, Fault}
+use Rattle.starlark_grammar.specs.Tokens.{Opening, FStringBang}
 use Rattle.starlark_grammar.specs.Items.{Stop, Closing, Line, Ended, OpeningBrace, ClosingBrace, BadEscape, Body, body_at, quote_byte}
 use Rattle.starlark_grammar.specs.Depths.{Mode, Outside, InText, AtTop, Deeper}
-use Rattle.starlark_grammar.specs.Margins.{Margin, margin_of, is_content, has_tab, width_of, fits}
-use Rattle.starlark_grammar.specs.Pieces.{Before, Nothing, Layout, Gap, Other, Piece, Step, Stands, Fails, Situation, piece, token, margin_step, line_end, opening_of, more_quotes, escape_fault, literal_by, literal, opener, chunk_by, chunk, counts, word_step, front_step, takes_bang, is_bang, in_code, by_mode, by_before, step_at}
-use Rattle.starlark_grammar.specs.Reading.{History, situation, next_step}
-use Rattle.starlark_grammar.specs.Cuts.{is_layout}
+use Rattle.starlark_grammar.specs.Pieces.{Before, Nothing, Layout, Gap, Other, Piece, Step, Stands, Situation, piece, token, line_end, opening_of, more_quotes, escape_fault, literal_by, literal, opener, chunk_by, chunk, counts, word_step, front_step, takes_bang, is_bang, in_code, by_mode, by_before, step_at}
 use Rattle.starlark_grammar.proofs.Words.Fronts.{front_sound}
 use Rattle.starlark_grammar.proofs.Reading.Steps.{is_nothing}
 use Rattle.starlark_grammar.proofs.WordNewlines.{in_line, line_fits, language_lines}
@@ -240,33 +237,3 @@ step_followed s text more piece some h e = before s.before some e
     before Layout some e = at s.mode e
     before Gap some e = at s.mode e
     before Other some e = at s.mode e
-
--- A margin that stands leaves layout after, …
-pub margin_layout : (len : ℕ) (before : List Lexeme) (levels : List ℕ) (margin : Margin) (piece : Piece) → margin_step len before levels margin ≡ Stands piece → piece.sort ≡ Layout
-unfolding margin_step
-margin_layout len before levels margin piece e = go (not (is_content margin.remainder)) (has_tab margin) (fits (width_of margin) levels) _ _ _ _ refl refl e
-  where
-    stands : (one other : Piece) → Stands one ≡ Stands other → one.sort ≡ Layout → other.sort ≡ Layout
-    stands one other e h = let same : one ≡ other = cc in subst (λ (p : Piece). p.sort ≡ Layout) same h
-
-    go : (blank tab fit : Bool) (first last : Piece) (wrong other : Spanned Fault) → first.sort ≡ Layout → last.sort ≡ Layout → (if blank then Stands first else (if tab then Fails wrong else (if fit then Stands last else Fails other))) ≡ Stands piece → piece.sort ≡ Layout
-    go true tab fit first last wrong other f g e = stands first piece e f
-    go false true fit first last wrong other f g e = cc
-    go false false true first last wrong other f g e = stands last piece e g
-    go false false false first last wrong other f g e = cc
-
--- … so that a piece of another sort stays.
-pub other_followed : (s : Situation) (text more : Text) (piece : Piece) → is_nothing s.before ≡ false → ends_line text ≡ true → is_layout piece.sort ≡ false → step_at language s text ≡ Stands piece → step_at language s (text ++ more) ≡ Stands piece
-other_followed s text more piece some h sort e = go (step_followed s text more piece some h e)
-  where
-    go : (step_at language s (text ++ more) ≡ Stands piece) ⊎ CountedLineEnd s text more (step_at language s text) (step_at language s (text ++ more)) → step_at language s (text ++ more) ≡ Stands piece
-    go (inl stays) = stays
-    go (inr counted) =
-        let layout : piece.sort ≡ Layout = margin_layout counted.len _ s.levels (margin_of (drop counted.len text)) piece (sym counted.here ∙ e) in
-        let wrong : true ≡ false = sym (ap is_layout layout) ∙ sort in cc
-
--- The same of what stands after a history that isn't empty.
-pub next_followed : (history : History) (text more : Text) (piece : Piece) → is_nothing history.before ≡ false → ends_line text ≡ true → next_step language history text ≡ Stands piece
-    → (next_step language history (text ++ more) ≡ Stands piece) ⊎ CountedLineEnd (situation history) text more (next_step language history text) (next_step language history (text ++ more))
-unfolding next_step situation
-next_followed history text more piece some h e = step_followed (situation history) text more piece some h e

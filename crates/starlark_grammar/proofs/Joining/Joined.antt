@@ -55,6 +55,17 @@ pub all_moved : (a b c : ℕ) (lexemes : List Lexeme) → a + b ≡ c → map (m
 all_moved a b c [] e = refl
 all_moved a b c (lexeme ∷ lexemes) e = rw (moved_both a b c lexeme e, all_moved a b c lexemes e) refl
 
+pub twice : {A : Type 0} (a b : ℕ) (xs : List (Rattle.starlark_grammar.specs.Tokens.Spanned A)) → map (moved a) (map (moved b) xs) ≡ map (moved (a + b)) xs
+twice a b [] = refl
+twice a b (x ∷ xs) = rw (moved_both a b (a + b) x refl, twice a b xs) refl
+
+pub unmoved : {A : Type 0} (xs : List (Rattle.starlark_grammar.specs.Tokens.Spanned A)) → map (moved 0) xs ≡ xs
+unmoved [] = refl
+unmoved (x ∷ xs) =
+    let begin : 0 + x.begin ≡ x.begin = omega arith in
+    let end : 0 + x.end ≡ x.end = omega arith in
+    rw (begin, end, unmoved xs) refl
+
 pub map_both : {A B : Type 0} (f : A → B) (xs ys : List A) → map f (xs ++ ys) ≡ map f xs ++ map f ys
 map_both f [] ys = refl
 map_both f (x ∷ xs) ys = ap (λ zs. f x ∷ zs) (map_both f xs ys)

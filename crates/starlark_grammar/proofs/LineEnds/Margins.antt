@@ -35,9 +35,6 @@ data BlanksCrlf (text : Text) : Type 0 where
       → is_content (crlf (drop (blanks_len text) text)) ≡ is_content (drop (blanks_len text) text) → BlanksCrlf text
   Fed : (rest : Text) → drop (blanks_len text) text ≡ 10 ∷ rest → drop (blanks_len (crlf text)) (crlf text) ≡ 10 ∷ crlf rest → BlanksCrlf text
 
-blank_feed : (b : ℕ) → is_lf b ≡ true → is_blank b ≡ false
-blank_feed b e = subst (λ c. is_blank c ≡ false) (sym (eqb-true b 10 e)) refl
-
 blanks_crlf : (text : Text) → BlanksCrlf text
 blanks_crlf [] = Plain refl refl refl refl
 blanks_crlf (b ∷ bs) = by (is_lf b) refl (is_blank b) refl (blanks_crlf bs)

@@ -173,9 +173,6 @@ literal_crlf mode kind opening len form text whole other piece h more here there
 
 -- Openers
 
-two_quotes : (quote : Quote) → Text
-two_quotes quote = quote_byte quote ∷ quote_byte quote ∷ []
-
 opening_crlf : (is_raw : Bool) (quote : Quote) (remainder : Text) → opening_of is_raw quote (crlf remainder) ≡ opening_of is_raw quote remainder
 opening_crlf is_raw quote remainder =
     ap (λ (triple : Bool). let opening : Opening = record { is_raw = is_raw; quote = quote; is_triple = triple } in opening) (starts_crlf remainder (quote_byte quote ∷ quote_byte quote ∷ []) (quotes_in_line quote))

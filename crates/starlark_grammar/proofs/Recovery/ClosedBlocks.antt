@@ -8,7 +8,6 @@ use Rattle.std.proofs.lemmas.Bool.Decides.{nat_tests}
 use Rattle.std.proofs.lemmas.List.{length-drop}
 use Rattle.std.proofs.lemmas.List.Folds.{list_all-append}
 use Rattle.std.proofs.lemmas.List.Sums.{sum_by-cons}
-use Rattle.starlark_grammar.specs.declared.class.Class.TheVariants as word
 use Rattle.starlark_grammar.specs.Words.{Text, language}
 use Rattle.starlark_grammar.specs.Tokens.{Token, Newline, Dedent, Lexeme, moved}
 use Rattle.starlark_grammar.specs.Depths.{open_fstring, is_balanced, is_any_opening, is_any_closing}

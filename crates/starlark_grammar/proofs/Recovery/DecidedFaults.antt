@@ -89,7 +89,7 @@ return_stays [] more h = cc
 return_stays (b ∷ []) more h = let feed : b ≡ 10 = eqb-true b 10 h in rw feed refl
 return_stays (b ∷ c ∷ bs) more h = refl
 
-begins_stays : (text more : Text) → ends_line text ≡ true → begins_with_line_end (text ++ more) ≡ begins_with_line_end text
+pub begins_stays : (text more : Text) → ends_line text ≡ true → begins_with_line_end (text ++ more) ≡ begins_with_line_end text
 begins_stays text more h = rw (feed_stays text more h, return_stays text more h) refl
 
 line_end_stays : (text more : Text) → ends_line text ≡ true → line_end_len (text ++ more) ≡ line_end_len text
@@ -116,7 +116,7 @@ prefix_stays test (b ∷ bs) more less = go (test b) (prefix_stays test bs more)
     go true rest less = ap (λ n. 1 + n) (rest (omega (arith, less)))
     go false rest less = refl
 
-next_line_stays : (text more : Text) (at : ℕ) → ends_line text ≡ true → at < length text → next_line (text ++ more) at ≡ next_line text at
+pub next_line_stays : (text more : Text) (at : ℕ) → ends_line text ≡ true → at < length text → next_line (text ++ more) at ≡ next_line text at
 unfolding next_line
 next_line_stays text more at h less =
     let left : drop at (text ++ more) ≡ drop at text ++ more = drop-append-le at text more (omega (arith, less)) in

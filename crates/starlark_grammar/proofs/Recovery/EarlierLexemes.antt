@@ -1,7 +1,7 @@
 -- Lexemes before a fault end before lexing begins again.
-use Rattle.std.proofs.Common.{◌≡◌, ℕ, zero, suc, ◌+◌, ◌≤◌, Bool, true, false, not, List, [], ◌∷◌, ◌++◌, map, length, take, drop, refl, ap, sym, subst, ◌∙◌, arith, Option, Some, None, ◌⊎◌, inl, inr, nat_eq, nat_lt}
-use Rattle.std.specs.List.{AllByRecursion, starts_with}
-use Rattle.std.specs.Prelude.{⊤, ◌&&◌, ◌||◌, ◌==◌, if◌then◌else◌, codes, count_by, replicate}
+use Rattle.std.proofs.Common.{◌≡◌, ℕ, zero, suc, ◌+◌, ◌≤◌, Bool, true, false, not, List, [], ◌∷◌, ◌++◌, map, length, take, drop, refl, ap, sym, subst, ◌∙◌, arith, Option, Some, None, ◌⊎◌, inl, inr, nat_lt}
+use Rattle.std.specs.List.{AllByRecursion}
+use Rattle.std.specs.Prelude.{⊤, ◌&&◌, ◌||◌, ◌==◌, if◌then◌else◌, count_by, replicate}
 use Rattle.std.proofs.lemmas.List.Sums.{sum_by-cons}
 use Rattle.starlark_grammar.specs.declared.class.Class.TheVariants as word
 use Rattle.starlark_grammar.specs.Words.{Text, class_in, language}
@@ -12,7 +12,7 @@ use Rattle.starlark_grammar.specs.Front.{longest_front}
 use Rattle.starlark_grammar.specs.Numbers.{integer_of}
 use Rattle.starlark_grammar.specs.Tokens.{Token, Newline, Dedent, Int, Opening, Lexeme, moved, Fault, Indentation, InvalidTab, Outcome, Spanned, FStringBang, FStringEnd, FStringExprStart}
 use Rattle.starlark_grammar.specs.Items.{Stop, Closing, Line, Ended, OpeningBrace, ClosingBrace, BadEscape, Body, body_at, body_len, body_value, closing_quotes}
-use Rattle.starlark_grammar.specs.Depths.{Mode, Outside, InText, AtTop, Deeper}
+use Rattle.starlark_grammar.specs.Depths.{Mode}
 use Rattle.starlark_grammar.specs.Margins.{Margin, margin_of, margin_len, is_content, has_tab, width_of, fits, is_widest, indentation, begins_with_line_end}
 use Rattle.starlark_grammar.specs.Gaps.{InOrder}
 use Rattle.starlark_grammar.specs.Pieces.{Before, Nothing, Layout, Gap, Other, Piece, Step, Stands, Fails, Situation, token, margin_step, first_margin, more_quotes, opening_of, escape_fault, literal_by, opener, chunk_text, chunk_piece, chunk_by, chunk, counts, starts_zero, word_step, front_step, takes_bang, is_bang, in_code, by_mode, by_before, step_at}
@@ -28,7 +28,7 @@ use Rattle.starlark_grammar.proofs.Reading.Steps.{Each, margin_fits}
 use Rattle.starlark_grammar.proofs.Recovery.DecidedFaults.{FaultRead, fault_read}
 use Rattle.starlark_grammar.proofs.Recovery.FollowedFaults.{FaultStays, fault_end, same_fault}
 use Rattle.starlark_grammar.proofs.Recovery.MarginTabs.{line_end_stands, no_line_end}
-use Rattle.starlark_grammar.proofs.Recovery.TextOutcomes.{restart_bounds}
+use Rattle.starlark_grammar.proofs.Recovery.RestartBounds.{restart_bounds}
 use Rattle.starlark_grammar.specs.Recovery.{is_margin_tab, is_tab, line_end_len, margin_line, next_line, restart, stopped_at}
 use Rattle.starlark_grammar.specs.RecoveryLaws.{LexemesBeforeFaults}
 
@@ -36,7 +36,7 @@ use Rattle.starlark_grammar.specs.RecoveryLaws.{LexemesBeforeFaults}
 abbrev pub EndBy : ℕ → List Lexeme → Type 0
 EndBy to lexemes = AllByRecursion (λ (lexeme : Lexeme). lexeme.end ≤ to) lexemes
 
-end_later : (a b : ℕ) (xs : List Lexeme) → a ≤ b → EndBy a xs → EndBy b xs
+pub end_later : (a b : ℕ) (xs : List Lexeme) → a ≤ b → EndBy a xs → EndBy b xs
 end_later a b [] less ends = tt
 end_later a b (x ∷ xs) less ends = let first = ends.0 in (omega (arith, less, first), end_later a b xs less ends.1)
 
@@ -44,7 +44,7 @@ end_append : (to : ℕ) (xs ys : List Lexeme) → EndBy to xs → EndBy to ys �
 end_append to [] ys one other = other
 end_append to (x ∷ xs) ys one other = (one.0, end_append to xs ys one.1 other)
 
-end_moved : (n to : ℕ) (xs : List Lexeme) → EndBy to xs → EndBy (n + to) (map (moved n) xs)
+pub end_moved : (n to : ℕ) (xs : List Lexeme) → EndBy to xs → EndBy (n + to) (map (moved n) xs)
 end_moved n to [] ends = tt
 end_moved n to (x ∷ xs) ends = let first = ends.0 in (omega (arith, first), end_moved n to xs ends.1)
 
@@ -174,7 +174,7 @@ by_before_ends s Other text = by_mode_ends s s.mode text
 
 -- Readings
 
-piece_ends : (history : History) (text : Text) (piece : Piece) → next_step language history text ≡ Stands piece → PieceEnds piece
+pub piece_ends : (history : History) (text : Text) (piece : Piece) → next_step language history text ≡ Stands piece → PieceEnds piece
 unfolding next_step situation step_at
 piece_ends history text piece e = subst StepEnds e (by_before_ends (situation history) history.before text)
 

@@ -19,7 +19,7 @@ use Rattle.starlark_grammar.proofs.Joining.Followed.{ends_line, ends_line_of, en
 use Rattle.starlark_grammar.proofs.Joining.Settled.{Settled, outside_none, remainder, widths_settled, situation_after, after_onto, next_after, all_after}
 use Rattle.starlark_grammar.proofs.Joining.Joined.{moved_both, map_both}
 use Rattle.starlark_grammar.proofs.Joining.CleanCuts.{CharacterStarts, along_both, begun, faultless_reading, longest_both, past_both, pieces_both, along_later, same_outcome, some_before, some_both}
-use Rattle.starlark_grammar.proofs.Joining.Tabs.{first_step}
+use Rattle.starlark_grammar.proofs.Joining.Tabs.{first_step, outcome_by}
 use Rattle.starlark_grammar.proofs.Joining.Laws.{ends_after}
 use Rattle.starlark_grammar.specs.Joining.{is_between_lines, is_line_cut, has_newline, without_last_newline, begins_plainly, LineCutsJoin, LineCutsOfJoined}
 use Rattle.starlark_grammar.proofs.Recovery.ClosedBlocks.{plain_content, plain_margin, closing_step, dedents, dedents_moved, open_count, closed_after, none_open_dedents, balanced_dedents, none_wider, Closed, close_reading}
@@ -95,10 +95,7 @@ pub record LineCut (text : Text) (pieces : List Piece) : Type 0 where
 pub line_cut_lexemes : (text : Text) (pieces : List Piece) → LineCut text pieces → without_last_newline (outcome text).lexemes ≡ lexemes_along 0 pieces ++ dedents (open_count (after_all nothing pieces)) (length text)
 line_cut_lexemes text pieces h = ap (λ (o : Outcome). without_last_newline o.lexemes) h.is ∙ closing_left_out (lexemes_along 0 pieces) (length text) (after_all nothing pieces)
 
--- it has one, and no fault
-pub line_cut_newline : (text : Text) (pieces : List Piece) → LineCut text pieces → has_newline (outcome text).lexemes ≡ true
-line_cut_newline text pieces h = ap (λ (o : Outcome). has_newline o.lexemes) h.is ∙ has_newline_later (lexemes_along 0 pieces) (closing (length text) (after_all nothing pieces)) refl
-
+-- it has no fault
 pub line_cut_faultless : (text : Text) (pieces : List Piece) → LineCut text pieces → (outcome text).fault ≡ None
 line_cut_faultless text pieces h = ap (λ (o : Outcome). o.fault) h.is
 
@@ -329,3 +326,18 @@ line_cuts_of_joined text more h begins =
     ∙ ap (λ (ends : Bool). is_faultless there.last && is_between_lines (remainder line_alone rest) && ends) (ends_after text more (plain_some more begins))
     ∙ ap (λ (history : History). is_faultless there.last && is_between_lines history && ends_with nat_eq more (codes "\n")) (sym (past_alone text more pieces here begins there))
     ∙ sym (line_cut_by more (plain_piece ∷ there.pieces) there.last (longest_onward language nothing more plain_piece there.pieces there.last (plain_step more begins) there.longest))
+
+-- a `Newline` is found in every text: the closing one
+pub outcome_newline : (text : Text) → (outcome text).fault ≡ None → has_newline (outcome text).lexemes ≡ true
+outcome_newline text none = by (read language text).last (outcome_by text (read language text).pieces (read language text).last (read_is language text))
+  where
+    last : List Lexeme
+    last = closing (pieces_len (read language text).pieces) (after_all nothing (read language text).pieces)
+
+    closes : has_newline (lexemes_along 0 (read language text).pieces ++ last) ≡ true
+    closes = has_newline_later (lexemes_along 0 (read language text).pieces) last refl
+
+    by : (last : Step) → outcome text ≡ outcome_of text (read language text).pieces last → has_newline (outcome text).lexemes ≡ true
+    by (Fails fault) is = let wrong : Some (moved (pieces_len (read language text).pieces) fault) ≡ None = sym (ap (λ (o : Outcome). o.fault) is) ∙ none in cc
+    by (Stands piece) is = ap (λ (o : Outcome). has_newline o.lexemes) is ∙ closes
+    by Ends is = ap (λ (o : Outcome). has_newline o.lexemes) is ∙ closes

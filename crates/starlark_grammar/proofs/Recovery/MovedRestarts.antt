@@ -109,7 +109,7 @@ module _ (first second : Text) where
       omega (arith, same)
 
   module _ (fault : Spanned Fault) (some : 0 < length first) (later : is_tab fault.node ≡ true → 0 < fault.begin) where
-    tab_moved : is_margin_tab (first ++ second) (moved (length first) fault) ≡ is_margin_tab second fault
+    pub tab_moved : is_margin_tab (first ++ second) (moved (length first) fault) ≡ is_margin_tab second fault
     tab_moved =
         ap (λ (t : Text). is_tab fault.node && (length first + fault.begin == 0 || begins_with_line_end t)) (drop-append-add first second fault.begin)
         ∙ by (is_tab fault.node) later

@@ -14,14 +14,14 @@ use Rattle.starlark_grammar.specs.Tokens.{Lexeme, Newline, Dedent, Outcome, move
 use Rattle.starlark_grammar.specs.Depths.{Mode, is_balanced, mode_after, open_fstring}
 use Rattle.starlark_grammar.specs.Margins.{comment_lines, fits, indentation, is_blank, is_comment_only, is_lf, lines, margin_of, open_widths}
 use Rattle.starlark_grammar.specs.Pieces.{Ends, Layout, Piece, Stands, Step, counts, margin_step, step_at}
-use Rattle.starlark_grammar.specs.Reading.{History, after, after_all, closing, lexemes_along, next_step, nothing, outcome, pieces_len, read, situation}
+use Rattle.starlark_grammar.specs.Reading.{History, after, after_all, closing, lexemes_along, next_step, nothing, outcome, pieces_len, situation}
 use Rattle.starlark_grammar.specs.Longest.{IsLongestReading, IsReading}
-use Rattle.starlark_grammar.specs.Cuts.{is_faultless, is_newline, is_outside}
+use Rattle.starlark_grammar.specs.Cuts.{is_newline, is_outside}
 use Rattle.starlark_grammar.proofs.Recovery.LineCuts.{line_cut_by}
 use Rattle.starlark_grammar.proofs.Lists.{drop-sum}
 use Rattle.starlark_grammar.proofs.Words.Fronts.{front_sound}
 use Rattle.starlark_grammar.proofs.Reading.Steps.{is_nothing}
-use Rattle.starlark_grammar.proofs.Reading.Readings.{longest_onward, one_longest, read_is, stops_here}
+use Rattle.starlark_grammar.proofs.Reading.Readings.{longest_onward, stops_here}
 use Rattle.starlark_grammar.proofs.Joining.CleanCuts.{along_both, longest_both, past_both, pieces_both}
 use Rattle.starlark_grammar.proofs.Joining.Followed.{ends_line_drop, ends_line_of, longest_followed}
 use Rattle.starlark_grammar.proofs.Joining.Joined.{blank_step, outside}

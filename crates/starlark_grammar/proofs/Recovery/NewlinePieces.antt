@@ -194,7 +194,7 @@ plain_undented (x ∷ xs) h =
 -- The piece of a margin
 
 -- lexemes after a line end, and no `Newline` among them
-record LineLexemes (line lexemes : List Lexeme) : Type 0 where
+pub record LineLexemes (line lexemes : List Lexeme) : Type 0 where
   others : List Lexeme
   whole : lexemes ≡ line ++ others
   none : has_newline others ≡ false
@@ -219,14 +219,14 @@ margin_lexemes len line levels margin piece comments e = go (not (is_content mar
     go false false false indents h e = cc
 
 -- a line end that counts, with its lexemes
-record LinePiece (history : History) (text : Text) (piece : Piece) : Type 0 where
-  n : ℕ
+pub record LinePiece (history : History) (text : Text) (piece : Piece) : Type 0 where
+  pub n : ℕ
   counted : counts (mode_after history.tokens) (is_balanced history.tokens) ≡ true
-  found : longest_front (class_in language) text ≡ Some (word.LineEnd, n)
-  stands : margin_step n (line_of n) (open_widths history.widths) (margin_of (drop n text)) ≡ Stands piece
+  pub found : longest_front (class_in language) text ≡ Some (word.LineEnd, n)
+  pub stands : margin_step n (line_of n) (open_widths history.widths) (margin_of (drop n text)) ≡ Stands piece
   parts : LineLexemes (line_of n) piece.lexemes
 
-line_piece : (history : History) (text : Text) (piece : Piece) → is_nothing history.before ≡ false → next_step language history text ≡ Stands piece → is_layout piece.sort ≡ true → LinePiece history text piece
+pub line_piece : (history : History) (text : Text) (piece : Piece) → is_nothing history.before ≡ false → next_step language history text ≡ Stands piece → is_layout piece.sort ≡ true → LinePiece history text piece
 unfolding next_step situation
 line_piece history text piece begun e laid =
     let end = counted_end (situation history) text piece laid begun e in

@@ -13,7 +13,7 @@ use Rattle.starlark_grammar.specs.Words.{Text, language}
 use Rattle.starlark_grammar.specs.Tokens.{Fault, Spanned}
 use Rattle.starlark_grammar.specs.Margins.{begins_with_line_end, blanks_len, comment_lines, has_tab, is_blank, is_comment_only, is_lf, lines, margin_of}
 use Rattle.starlark_grammar.specs.Pieces.{Fails, Piece, first_margin}
-use Rattle.starlark_grammar.specs.Reading.{after_all, nothing, pieces_len}
+use Rattle.starlark_grammar.specs.Reading.{outcome, after_all, nothing, pieces_len}
 use Rattle.starlark_grammar.specs.Longest.{IsReading}
 use Rattle.starlark_grammar.proofs.Lists.{drop-sum}
 use Rattle.starlark_grammar.proofs.Reading.Steps.{is_nothing}
@@ -294,133 +294,149 @@ tab_here [] h = cc
 tab_here (b ∷ bs) h =
     (record { comments = []; blanks = []; rest = bs; same = ap (λ (n : ℕ). n ∷ bs) (sym (eqb-true 9 b h)); are_lines = inl refl; are_comments = refl; are_blanks = refl }, refl)
 
+module _ (text : Text) (fault : Spanned Fault) (has : (outcome text).fault ≡ Some fault) (tab : is_tab fault.node ≡ true) where
+  here : FaultRead text fault
+  here = fault_read text fault has
+
+  node : is_tab here.found.node ≡ true
+  node = ap (λ (f : Spanned Fault). is_tab f.node) here.same ∙ tab
+
+  -- the fault of a tab has no bytes
+  pub tab_empty : fault.end ≡ fault.begin
+  tab_empty = by (is_nothing (after_all nothing here.pieces).before) refl
+    where
+      by : (none : Bool) → is_nothing (after_all nothing here.pieces).before ≡ none → fault.end ≡ fault.begin
+      by true none =
+          let zero_len = none_before nothing text here.pieces here.stays.reads none in
+          let fails : first_margin text ≡ Fails here.found = ap (λ n. first_margin (drop n text)) (sym zero_len) ∙ tab_first (after_all nothing here.pieces) (drop (pieces_len here.pieces) text) here.found none here.stays.fails in
+          let margin = margin_tab 0 [] [] (margin_of text) here.found node fails in
+          let order = here.order in
+          let end = here.end in
+          omega (arith, order, end, zero_len, margin.1)
+      by false some =
+          let later = tab_later (after_all nothing here.pieces) (drop (pieces_len here.pieces) text) here.found node some here.stays.fails in
+          let begin = here.begin in
+          let end = here.end in
+          omega (arith, begin, end, later.begin, later.end)
+
+  after_tabs : AfterTab text fault
+  after_tabs = by (is_nothing (after_all nothing here.pieces).before) refl
+    where
+      left : Text
+      left = drop (pieces_len here.pieces) text
+
+      by : (none : Bool) → is_nothing (after_all nothing here.pieces).before ≡ none → AfterTab text fault
+      by true none = after_tab text fault [] text refl (ap (λ n. drop n text) start) found.0 (stopped_margin text fault tab_empty margin ∙ omega (arith, start, len, place, found.1))
+        where
+          zero_len : pieces_len here.pieces ≡ 0
+          zero_len = none_before nothing text here.pieces here.stays.reads none
+
+          fails : first_margin text ≡ Fails here.found
+          fails = ap (λ n. first_margin (drop n text)) (sym zero_len) ∙ tab_first (after_all nothing here.pieces) left here.found none here.stays.fails
+
+          has_margin : (has_tab (margin_of text) ≡ true) × (here.found.end ≡ 0)
+          has_margin = margin_tab 0 [] [] (margin_of text) here.found node fails
+
+          found : (found : TabIn text) × (length found.comments ≡ (margin_of text).at)
+          found = tab_in text has_margin.0
+
+          start : fault.begin ≡ 0
+          start = let order = here.order in let end = here.end in omega (arith, order, end, zero_len, has_margin.1)
+
+          line : begins_with_line_end text ≡ false
+          line = go (begins_with_line_end text) refl
+            where
+              go : (test : Bool) → begins_with_line_end text ≡ test → test ≡ false
+              go true is = absurd (line_end_stands text here.found is fails)
+              go false is = refl
+
+          margin : is_margin_tab text fault ≡ true
+          margin = ap (λ n. is_tab fault.node && (n == 0 || begins_with_line_end (drop n text))) start ∙ ap (λ (b : Bool). b && true) tab
+
+          len : line_end_len (drop fault.begin text) ≡ 0
+          len = ap (λ n. line_end_len (drop n text)) start ∙ no_line_end text line
+
+          place : (margin_of (drop (fault.begin + line_end_len (drop fault.begin text)) text)).at ≡ (margin_of text).at
+          place = let zero : fault.begin + line_end_len (drop fault.begin text) ≡ 0 = omega (arith, start, len) in ap (λ n. (margin_of (drop n text)).at) zero
+      by false some = go later.stands
+        where
+          later : TabLater left here.found
+          later = tab_later (after_all nothing here.pieces) left here.found node some here.stays.fails
+
+          here_is : left ≡ drop fault.begin text
+          here_is = let begin = here.begin in let same : pieces_len here.pieces ≡ fault.begin = omega (arith, begin, later.begin) in ap (λ n. drop n text) same
+
+          -- a first margin of no bytes has no lines
+          first : fault.begin ≡ 0 → (margin_of text).at ≡ 0
+          first start = by_pieces here.pieces here.stays.reads some (let begin = here.begin in omega (arith, begin, start))
+            where
+              by_pieces : (pieces : List Piece) → IsReading language nothing text pieces → is_nothing (after_all nothing pieces).before ≡ false → pieces_len pieces ≡ 0 → (margin_of text).at ≡ 0
+              by_pieces [] reads some none = cc
+              by_pieces (piece ∷ pieces) reads some none =
+                  let len = margin_step_len 0 [] [] (margin_of text) piece (sym (first_step text) ∙ reads.0) in
+                  omega (arith, len, none, sum_by-cons (λ (piece : Piece). piece.len) piece pieces)
+
+          code : begins_with_tab left ≡ true → AfterTab text fault
+          code tabs = after_tab text fault [] (drop fault.begin text) refl refl found.0 (stopped (is_margin_tab text fault) refl ∙ omega (arith, ap (λ (t : Text). length t) found.1))
+            where
+              found : (found : TabIn (drop fault.begin text)) × (found.comments ≡ [])
+              found = tab_here (drop fault.begin text) (ap begins_with_tab (sym here_is) ∙ tabs)
+
+              line : begins_with_line_end (drop fault.begin text) ≡ false
+              line = tab_no_line (drop fault.begin text) (ap begins_with_tab (sym here_is) ∙ tabs)
+
+              stopped : (margin : Bool) → is_margin_tab text fault ≡ margin → stopped_at text fault ≡ fault.begin
+              stopped false is = stopped_code text fault tab_empty is
+              stopped true is =
+                  let start : fault.begin ≡ 0 = eqb-true fault.begin 0 (start_of (fault.begin == 0) (begins_with_line_end (drop fault.begin text)) line (and_parts (is_tab fault.node) _ is).1) in
+                  let zero : fault.begin + line_end_len (drop fault.begin text) ≡ 0 = omega (arith, start, no_line_end (drop fault.begin text) line) in
+                  let place : (margin_of (drop (fault.begin + line_end_len (drop fault.begin text)) text)).at ≡ 0 = ap (λ n. (margin_of (drop n text)).at) zero ∙ first start in
+                  stopped_margin text fault tab_empty is ∙ omega (arith, zero, place, start)
+                where
+                  start_of : (x y : Bool) → y ≡ false → (x || y) ≡ true → x ≡ true
+                  start_of true y e h = refl
+                  start_of false y e h = let wrong : true ≡ false = sym h ∙ e in cc
+
+          margin : LineFails left here.found → AfterTab text fault
+          margin fails = after_tab text fault (take fails.len left) below (is_line_end fails.line) (sym here_is ∙ sym (take-append-drop fails.len left)) found.0 (stopped_margin text fault tab_empty tabs ∙ omega (arith, len, size, place, found.1))
+            where
+              below : Text
+              below = drop fails.len left
+
+              is_line_end : BeginsLine left fails.len → list_any (bytes_eq (take fails.len left)) ([] ∷ codes "\n" ∷ codes "\r\n" ∷ []) ≡ true
+              is_line_end (inl line) = rw (line.1, line.2) refl
+              is_line_end (inr line) = rw (line.1, line.2) refl
+
+              size_of : BeginsLine left fails.len → length (take fails.len left) ≡ fails.len
+              size_of (inl line) = rw (line.1, line.2) refl
+              size_of (inr line) = rw (line.1, line.2) refl
+
+              begins : BeginsLine left fails.len → begins_with_line_end left ≡ true
+              begins (inl line) = ap begins_with_line_end line.1
+              begins (inr line) = ap begins_with_line_end line.1
+
+              found : (found : TabIn below) × (length found.comments ≡ (margin_of below).at)
+              found = tab_in below (margin_tab fails.size fails.lexemes fails.levels (margin_of below) here.found node fails.fails).0
+
+              size : length (take fails.len left) ≡ fails.len
+              size = size_of fails.line
+
+              len : line_end_len (drop fault.begin text) ≡ fails.len
+              len = ap line_end_len (sym here_is) ∙ line_is left fails.len fails.line
+
+              tabs : is_margin_tab text fault ≡ true
+              tabs = ap (λ (b : Bool). is_tab fault.node && (fault.begin == 0 || b)) (ap begins_with_line_end (sym here_is) ∙ begins fails.line) ∙ ap (λ (b : Bool). b && (fault.begin == 0 || true)) tab ∙ or_true (fault.begin == 0)
+                where
+                  or_true : (x : Bool) → (true && (x || true)) ≡ true
+                  or_true true = refl
+                  or_true false = refl
+
+              place : (margin_of (drop (fault.begin + line_end_len (drop fault.begin text)) text)).at ≡ (margin_of below).at
+              place = ap (λ (t : Text). (margin_of t).at) (drop-sum fault.begin (line_end_len (drop fault.begin text)) text ∙ ap (λ n. drop n (drop fault.begin text)) len ∙ ap (drop fails.len) (sym here_is))
+
+          go : (begins_with_tab left ≡ true) ⊎ LineFails left here.found → AfterTab text fault
+          go (inl tabs) = code tabs
+          go (inr fails) = margin fails
+
 pub restarts_after_tabs : RestartsAfterTabs
-restarts_after_tabs text fault has tab = by (is_nothing (after_all nothing here.pieces).before) refl
-  where
-    here : FaultRead text fault
-    here = fault_read text fault has
-
-    node : is_tab here.found.node ≡ true
-    node = ap (λ (f : Spanned Fault). is_tab f.node) here.same ∙ tab
-
-    left : Text
-    left = drop (pieces_len here.pieces) text
-
-    by : (none : Bool) → is_nothing (after_all nothing here.pieces).before ≡ none → AfterTab text fault
-    by true none = after_tab text fault [] text refl (ap (λ n. drop n text) start) found.0 (stopped_margin text fault empty margin ∙ omega (arith, start, len, place, found.1))
-      where
-        zero_len : pieces_len here.pieces ≡ 0
-        zero_len = none_before nothing text here.pieces here.stays.reads none
-
-        fails : first_margin text ≡ Fails here.found
-        fails = ap (λ n. first_margin (drop n text)) (sym zero_len) ∙ tab_first (after_all nothing here.pieces) left here.found none here.stays.fails
-
-        has_margin : (has_tab (margin_of text) ≡ true) × (here.found.end ≡ 0)
-        has_margin = margin_tab 0 [] [] (margin_of text) here.found node fails
-
-        found : (found : TabIn text) × (length found.comments ≡ (margin_of text).at)
-        found = tab_in text has_margin.0
-
-        empty : fault.end ≡ fault.begin
-        empty = let order = here.order in let end = here.end in omega (arith, order, end, zero_len, has_margin.1)
-
-        start : fault.begin ≡ 0
-        start = let order = here.order in let end = here.end in omega (arith, order, end, zero_len, has_margin.1)
-
-        line : begins_with_line_end text ≡ false
-        line = go (begins_with_line_end text) refl
-          where
-            go : (test : Bool) → begins_with_line_end text ≡ test → test ≡ false
-            go true is = absurd (line_end_stands text here.found is fails)
-            go false is = refl
-
-        margin : is_margin_tab text fault ≡ true
-        margin = ap (λ n. is_tab fault.node && (n == 0 || begins_with_line_end (drop n text))) start ∙ ap (λ (b : Bool). b && true) tab
-
-        len : line_end_len (drop fault.begin text) ≡ 0
-        len = ap (λ n. line_end_len (drop n text)) start ∙ no_line_end text line
-
-        place : (margin_of (drop (fault.begin + line_end_len (drop fault.begin text)) text)).at ≡ (margin_of text).at
-        place = let zero : fault.begin + line_end_len (drop fault.begin text) ≡ 0 = omega (arith, start, len) in ap (λ n. (margin_of (drop n text)).at) zero
-    by false some = go later.stands
-      where
-        later : TabLater left here.found
-        later = tab_later (after_all nothing here.pieces) left here.found node some here.stays.fails
-
-        empty : fault.end ≡ fault.begin
-        empty = let begin = here.begin in let end = here.end in omega (arith, begin, end, later.begin, later.end)
-
-        here_is : left ≡ drop fault.begin text
-        here_is = let begin = here.begin in let same : pieces_len here.pieces ≡ fault.begin = omega (arith, begin, later.begin) in ap (λ n. drop n text) same
-
-        -- a first margin of no bytes has no lines
-        first : fault.begin ≡ 0 → (margin_of text).at ≡ 0
-        first start = by_pieces here.pieces here.stays.reads some (let begin = here.begin in omega (arith, begin, start))
-          where
-            by_pieces : (pieces : List Piece) → IsReading language nothing text pieces → is_nothing (after_all nothing pieces).before ≡ false → pieces_len pieces ≡ 0 → (margin_of text).at ≡ 0
-            by_pieces [] reads some none = cc
-            by_pieces (piece ∷ pieces) reads some none =
-                let len = margin_step_len 0 [] [] (margin_of text) piece (sym (first_step text) ∙ reads.0) in
-                omega (arith, len, none, sum_by-cons (λ (piece : Piece). piece.len) piece pieces)
-
-        code : begins_with_tab left ≡ true → AfterTab text fault
-        code tabs = after_tab text fault [] (drop fault.begin text) refl refl found.0 (stopped (is_margin_tab text fault) refl ∙ omega (arith, ap (λ (t : Text). length t) found.1))
-          where
-            found : (found : TabIn (drop fault.begin text)) × (found.comments ≡ [])
-            found = tab_here (drop fault.begin text) (ap begins_with_tab (sym here_is) ∙ tabs)
-
-            line : begins_with_line_end (drop fault.begin text) ≡ false
-            line = tab_no_line (drop fault.begin text) (ap begins_with_tab (sym here_is) ∙ tabs)
-
-            stopped : (margin : Bool) → is_margin_tab text fault ≡ margin → stopped_at text fault ≡ fault.begin
-            stopped false is = stopped_code text fault empty is
-            stopped true is =
-                let start : fault.begin ≡ 0 = eqb-true fault.begin 0 (start_of (fault.begin == 0) (begins_with_line_end (drop fault.begin text)) line (and_parts (is_tab fault.node) _ is).1) in
-                let zero : fault.begin + line_end_len (drop fault.begin text) ≡ 0 = omega (arith, start, no_line_end (drop fault.begin text) line) in
-                let place : (margin_of (drop (fault.begin + line_end_len (drop fault.begin text)) text)).at ≡ 0 = ap (λ n. (margin_of (drop n text)).at) zero ∙ first start in
-                stopped_margin text fault empty is ∙ omega (arith, zero, place, start)
-              where
-                start_of : (x y : Bool) → y ≡ false → (x || y) ≡ true → x ≡ true
-                start_of true y e h = refl
-                start_of false y e h = let wrong : true ≡ false = sym h ∙ e in cc
-
-        margin : LineFails left here.found → AfterTab text fault
-        margin fails = after_tab text fault (take fails.len left) below (is_line_end fails.line) (sym here_is ∙ sym (take-append-drop fails.len left)) found.0 (stopped_margin text fault empty tabs ∙ omega (arith, len, size, place, found.1))
-          where
-            below : Text
-            below = drop fails.len left
-
-            is_line_end : BeginsLine left fails.len → list_any (bytes_eq (take fails.len left)) ([] ∷ codes "\n" ∷ codes "\r\n" ∷ []) ≡ true
-            is_line_end (inl line) = rw (line.1, line.2) refl
-            is_line_end (inr line) = rw (line.1, line.2) refl
-
-            size_of : BeginsLine left fails.len → length (take fails.len left) ≡ fails.len
-            size_of (inl line) = rw (line.1, line.2) refl
-            size_of (inr line) = rw (line.1, line.2) refl
-
-            begins : BeginsLine left fails.len → begins_with_line_end left ≡ true
-            begins (inl line) = ap begins_with_line_end line.1
-            begins (inr line) = ap begins_with_line_end line.1
-
-            found : (found : TabIn below) × (length found.comments ≡ (margin_of below).at)
-            found = tab_in below (margin_tab fails.size fails.lexemes fails.levels (margin_of below) here.found node fails.fails).0
-
-            size : length (take fails.len left) ≡ fails.len
-            size = size_of fails.line
-
-            len : line_end_len (drop fault.begin text) ≡ fails.len
-            len = ap line_end_len (sym here_is) ∙ line_is left fails.len fails.line
-
-            tabs : is_margin_tab text fault ≡ true
-            tabs = ap (λ (b : Bool). is_tab fault.node && (fault.begin == 0 || b)) (ap begins_with_line_end (sym here_is) ∙ begins fails.line) ∙ ap (λ (b : Bool). b && (fault.begin == 0 || true)) tab ∙ or_true (fault.begin == 0)
-              where
-                or_true : (x : Bool) → (true && (x || true)) ≡ true
-                or_true true = refl
-                or_true false = refl
-
-            place : (margin_of (drop (fault.begin + line_end_len (drop fault.begin text)) text)).at ≡ (margin_of below).at
-            place = ap (λ (t : Text). (margin_of t).at) (drop-sum fault.begin (line_end_len (drop fault.begin text)) text ∙ ap (λ n. drop n (drop fault.begin text)) len ∙ ap (drop fails.len) (sym here_is))
-
-        go : (begins_with_tab left ≡ true) ⊎ LineFails left here.found → AfterTab text fault
-        go (inl tabs) = code tabs
-        go (inr fails) = margin fails
+restarts_after_tabs = after_tabs

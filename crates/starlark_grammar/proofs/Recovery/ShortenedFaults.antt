@@ -1,9 +1,8 @@
 -- The fault of a text is that of each front in which it is decided and lexing begins again.
 use Rattle.std.proofs.Common.{◌≡◌, ℕ, ◌+◌, ◌-◌, ◌≤◌, ◌<◌, Bool, true, false, not, List, [], ◌∷◌, ◌++◌, length, take, drop, refl, ap, ◌∙◌, sym, subst, Option, Some, None, arith, ◌⊎◌, inl, inr, append-nil, length-append}
-use Rattle.std.specs.Prelude.{◌&&◌, ◌||◌, ◌==◌, if◌then◌else◌, max, nat_eq, codes}
-use Rattle.std.specs.List.{starts_with}
+use Rattle.std.specs.Prelude.{◌&&◌, ◌||◌, ◌==◌, if◌then◌else◌, max}
 use Rattle.std.proofs.lemmas.Bool.{both_ways}
-use Rattle.std.proofs.lemmas.List.{drop-append-le, length-drop, length-take-le, take-append-le}
+use Rattle.std.proofs.lemmas.List.{drop-append-le, length-drop, take-append-le}
 use Rattle.starlark_grammar.specs.declared.class.Class.TheVariants as word
 use Rattle.starlark_grammar.specs.Words.{Text, class_in, language}
 use Rattle.starlark_grammar.specs.declared.class.LiteralKind.{LiteralKind as Kind}
@@ -12,21 +11,20 @@ use Rattle.starlark_grammar.specs.declared.class.LiteralKind.TheVariants.{Text a
 use Rattle.starlark_grammar.specs.FrontCharacter.{first_character}
 use Rattle.starlark_grammar.specs.Front.{longest_front}
 use Rattle.starlark_grammar.specs.Margins.{begins_with_line_end, Margin, margin_of, margin_len, is_content, has_tab, width_of, fits}
-use Rattle.starlark_grammar.specs.Tokens.{Opening, FStringBang, Indentation, InvalidInput, InvalidTab, Lexeme, Newline, Spanned, Fault, Outcome}
+use Rattle.starlark_grammar.specs.Tokens.{Opening, Indentation, InvalidInput, InvalidTab, Lexeme, Newline, Spanned, Fault, Outcome}
 use Rattle.starlark_grammar.specs.Items.{Stop, Closing, Line, Ended, OpeningBrace, ClosingBrace, BadEscape, Body, body_at, body_len}
 use Rattle.starlark_grammar.specs.Depths.{Mode, Outside, InText, AtTop, Deeper}
-use Rattle.starlark_grammar.specs.Pieces.{Before, Nothing, Layout, Gap, Other, Piece, Step, Stands, Fails, Situation, token, fault, first_margin, margin_step, line_end, opening_of, more_quotes, escape_fault, literal_by, literal, opener, chunk_by, chunk, counts, word_step, front_step, takes_bang, is_bang, in_code, by_mode, by_before, step_at}
+use Rattle.starlark_grammar.specs.Pieces.{Before, Nothing, Layout, Gap, Other, Piece, Step, Stands, Fails, Situation, fault, first_margin, margin_step, line_end, opening_of, more_quotes, escape_fault, literal_by, literal, opener, chunk_by, chunk, counts, word_step, front_step, takes_bang, is_bang, in_code, by_mode, by_before, step_at}
 use Rattle.starlark_grammar.specs.Reading.{History, after, after_all, nothing, situation, next_step, pieces_len, outcome}
 use Rattle.starlark_grammar.specs.Longest.{IsReading}
 use Rattle.starlark_grammar.proofs.Lists.{drop-sum}
 use Rattle.starlark_grammar.proofs.WordNewlines.{in_line, line_fits, language_lines}
 use Rattle.starlark_grammar.proofs.Literals.Bodies.{StopFits, body_fits}
-use Rattle.starlark_grammar.proofs.Words.Fronts.{front_sound}
 use Rattle.starlark_grammar.proofs.Reading.Steps.{is_nothing}
 use Rattle.starlark_grammar.proofs.Reading.Readings.{piece_fits, started}
 use Rattle.starlark_grammar.proofs.Joining.Followed.{ends_line, ends_line_drop, longest_followed}
 use Rattle.starlark_grammar.proofs.Joining.FollowedMargins.{Followed, Whole, Within, followed, has_whole_lines, whole_after}
-use Rattle.starlark_grammar.proofs.Joining.FollowedPieces.{FrontGoesOn, bang_followed, bang_stays, code_step, front_goes_on, opening_followed, opening_inside, word_inside}
+use Rattle.starlark_grammar.proofs.Joining.FollowedPieces.{FrontGoesOn, bang_stays, code_step, front_goes_on, opening_followed, opening_inside}
 use Rattle.starlark_grammar.proofs.Joining.Joined.{step_within, whole_from_ends}
 use Rattle.starlark_grammar.proofs.Joining.LaidCuts.{reading_shortened}
 use Rattle.starlark_grammar.proofs.Joining.Tabs.{outcome_by}

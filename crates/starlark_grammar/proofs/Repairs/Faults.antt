@@ -2,7 +2,6 @@
 use Rattle.std.proofs.Common.{◌≡◌, ℕ, zero, suc, ◌+◌, ◌≤◌, Bool, true, false, not, List, [], ◌∷◌, length, take, drop, refl, ap, ◌∙◌, sym, subst, Option, Some, None, arith, ◌||◌}
 use Rattle.std.specs.Prelude.{◌&&◌, ◌==◌, if◌then◌else◌, nat_eq, codes}
 use Rattle.std.specs.Char.{is_ascii_digit}
-use Rattle.std.specs.Str.{bytes_eq}
 use Rattle.std.specs.List.{list_all, starts_with}
 use Rattle.std.proofs.lemmas.Bool.{and_parts, eqb-true}
 use Rattle.std.proofs.lemmas.Bool.Decides.{nat_tests}
@@ -14,6 +13,7 @@ use Rattle.starlark_grammar.specs.Words.{Text, Skipped, Comment, Tabs, LineEnd, 
 use Rattle.starlark_grammar.specs.FrontCharacter.{first_character}
 use Rattle.starlark_grammar.specs.Front.{longest_front}
 use Rattle.starlark_grammar.specs.AfterFaults.{is_tab}
+use Rattle.starlark_grammar.specs.Inner.KeptFaults.{may_keep}
 use Rattle.starlark_grammar.specs.Tokens.{Fault, Indentation, InvalidInput, InvalidTab, ReservedKeyword, StartsZero, UnfinishedFStringExpression, UnfinishedStringLiteral, FStringBang, Int, Newline, Lexeme, Opening, Spanned}
 use Rattle.starlark_grammar.specs.Items.{Stop, Closing, OpeningBrace, BadEscape, Body, body_at}
 use Rattle.starlark_grammar.specs.Depths.{Mode, Outside, InText, AtTop, Deeper, mode_after}
@@ -28,15 +28,7 @@ use Rattle.starlark_grammar.proofs.Repairs.Pieces.{IsReplaceable}
 use Rattle.starlark_grammar.proofs.Repairs.Semicolons.{is_in_text}
 use Rattle.starlark_grammar.proofs.Literals.LiteralSteps.{escape_holds}
 
--- A fault that may keep its line, …
-unfoldable pub may_keep : Fault → Bool
-may_keep (ReservedKeyword word) = true
-may_keep (StartsZero word) = true
-may_keep (InvalidInput text) = not (bytes_eq text (codes "}"))
-may_keep InvalidTab = true
-may_keep fault = false
-
--- … among them that of a character
+-- whether a fault is that of a character
 abbrev pub is_invalid : Fault → Bool
 is_invalid (InvalidInput text) = true
 is_invalid fault = false
@@ -123,7 +115,7 @@ keeps_of : (step : Step) (fault : Spanned Fault) → step ≡ Fails fault → ma
 keeps_of step fault e keeps = ap step_keeps e ∙ keeps
 
 -- no chunk and no literal is one
-chunk_lost : (opening : Opening) (text : Text) (body : Body) (stop : Stop) → step_keeps (chunk_by opening text body stop) ≡ false
+pub chunk_lost : (opening : Opening) (text : Text) (body : Body) (stop : Stop) → step_keeps (chunk_by opening text body stop) ≡ false
 unfolding may_keep
 chunk_lost opening text body OpeningBrace = refl
 chunk_lost opening text body stop = refl
@@ -152,7 +144,7 @@ literal_lost mode kind opening len remainder body Closing = refl
 literal_lost mode kind opening len remainder body (BadEscape read last) = escape_holds (λ step. step_keeps step ≡ false) _ _ (λ end. refl) (λ escape end. refl)
 literal_lost mode kind opening len remainder body stop = unfinished_lost mode kind opening remainder
 
-opener_lost : (mode : Mode) (kind : Kind) (opening : Opening) (len : ℕ) (remainder : Text) → step_keeps (opener mode kind opening len remainder) ≡ false
+pub opener_lost : (mode : Mode) (kind : Kind) (opening : Opening) (len : ℕ) (remainder : Text) → step_keeps (opener mode kind opening len remainder) ≡ false
 opener_lost mode OfFString opening len remainder = refl
 opener_lost mode OfText opening len remainder =
     literal_lost mode OfText opening (len + more_quotes opening) (drop (more_quotes opening) remainder) (body_at (record { kind = OfText; opening = opening }) (drop (more_quotes opening) remainder)) _

@@ -13,7 +13,7 @@ use Rattle.starlark_grammar.specs.AfterFaults.{is_margin_tab, is_tab}
 use Rattle.starlark_grammar.specs.Depths.{mode_after}
 use Rattle.starlark_grammar.specs.Longest.{IsLongestReading, IsReading}
 use Rattle.starlark_grammar.specs.Margins.{begins_with_line_end, open_widths}
-use Rattle.starlark_grammar.specs.Pieces.{Other, Piece, Step, Stands, Fails, Ends}
+use Rattle.starlark_grammar.specs.Pieces.{Other, Piece, Situation, Step, Stands, Fails, Ends}
 use Rattle.starlark_grammar.specs.Reading.{History, after, after_all, closing, lexemes_along, next_step, nothing, outcome, outcome_of, pieces_len, read, read_from, situation}
 use Rattle.starlark_grammar.specs.RepairLaws.{KeepsLine, RepairsHaveBytes, RepairsKeep, RepairsKeepState, RepairsLeaveLater, semicolons}
 use Rattle.starlark_grammar.specs.Repairs.{ends_by_comment, filled, keeps_line, repair_end, repaired}
@@ -22,7 +22,8 @@ use Rattle.starlark_grammar.proofs.Joining.CleanCuts.{along_both, longest_both, 
 use Rattle.starlark_grammar.proofs.Lists.{drop-sum}
 use Rattle.starlark_grammar.proofs.Reading.Readings.{fault_fits, one_least, one_longest, outcome_is, outcome_only, piece_fits, read_from_is, read_is, reading_fits, started}
 use Rattle.starlark_grammar.proofs.Reading.Steps.{is_nothing}
-use Rattle.starlark_grammar.proofs.Repairs.Faults.{CodeFault, code_fault, first_fault, is_invalid, may_keep}
+use Rattle.starlark_grammar.specs.Inner.KeptFaults.{may_keep}
+use Rattle.starlark_grammar.proofs.Repairs.Faults.{CodeFault, code_fault, first_fault, is_invalid}
 use Rattle.starlark_grammar.proofs.Repairs.Pieces.{IsReplaceable, LeavesComments, first_swapped, next_swapped}
 use Rattle.starlark_grammar.proofs.Repairs.States.{situations_stay}
 use Rattle.starlark_grammar.proofs.Repairs.Semicolons.{is_in_text, semicolon, semicolons_along, semicolons_len, semicolons_read}
@@ -125,7 +126,7 @@ closes at history pieces (Fails fault) = record { lexemes = lexemes_along at pie
 closes at history pieces step = record { lexemes = lexemes_along at pieces ++ closing (at + pieces_len pieces) (after_all history pieces); fault = None }
 
 -- what is found from an offset on, by what was read before it
-pub outcome_from : History → ℕ → Text → Outcome
+unfoldable pub outcome_from : History → ℕ → Text → Outcome
 outcome_from history at text = closes at history (read_from language history 0 text).pieces (read_from language history 0 text).last
 
 -- The outcome of a text is that of its first pieces, and what is found after them.
@@ -189,9 +190,12 @@ reading_both history text (piece ∷ one) other reads more =
 pub record IsRepaired (text : Text) (fault : Spanned Fault) : Type 0 where
   pub history : History
   pub pieces : List Piece
+  pub past : history ≡ after_all nothing pieces
+  pub whole : pieces ≡ (read language text).pieces ++ replicate (repair_end text fault - fault.begin) semicolon
   pub reads : IsReading language nothing (repaired text fault) pieces
   pub reach : pieces_len pieces ≡ repair_end text fault
   pub state : situation (after_all nothing pieces) ≡ record (situation (after_all nothing (read language text).pieces)) { before = Other }
+  pub code : is_in_text (situation (after_all nothing pieces)).mode ≡ false
   pub bytes : fault.begin < repair_end text fault
   pub inside : repair_end text fault ≤ length text
   pub lexemes : (outcome (repaired text fault)).lexemes
@@ -294,7 +298,7 @@ unnot : (test : Bool) → not test ≡ true → test ≡ false
 unnot true h = cc
 unnot false h = refl
 
-kept : (text : Text) (lexemes : List Lexeme) (fault : Spanned Fault) → keeps_line text lexemes fault ≡ true → IsKept text lexemes fault
+pub kept : (text : Text) (lexemes : List Lexeme) (fault : Spanned Fault) → keeps_line text lexemes fault ≡ true → IsKept text lexemes fault
 unfolding keeps_line may_keep
 kept text lexemes fault h = go fault.begin fault.node fault.end h
   where
@@ -374,9 +378,16 @@ module _ (text : Text) (first : Piece) (pieces : List Piece) (fault : Spanned Fa
   abbrev own_pieces : List Piece
   own_pieces = first ∷ (pieces ++ replicate (repair_end text whole_fault - at) semicolon)
 
+  read_pieces : first ∷ pieces ≡ (read language text).pieces
+  read_pieces = (one_longest language nothing text (first ∷ pieces) (read language text).pieces (Fails fault) (read language text).last longest (read_is language text)).0
+
+  whole_pieces : own_pieces ≡ (read language text).pieces ++ replicate (repair_end text whole_fault - (at + fault.begin)) semicolon
+  whole_pieces =
+      ap (λ (ps : List Piece). ps ++ replicate (repair_end text whole_fault - at) semicolon) read_pieces
+      ∙ ap (λ n. (read language text).pieces ++ replicate (repair_end text whole_fault - n) semicolon) (sym begins_at)
+
   state_after : situation (after_all nothing own_pieces) ≡ record (situation (after_all nothing (read language text).pieces)) { before = Other }
   state_after =
-      let read_pieces : first ∷ pieces ≡ (read language text).pieces = (one_longest language nothing text (first ∷ pieces) (read language text).pieces (Fails fault) (read language text).last longest (read_is language text)).0 in
       ap situation (past_both nothing (first ∷ pieces) (replicate (repair_end text whole_fault - at) semicolon))
       ∙ some_stay (repair_end text whole_fault - at) (after_all nothing (first ∷ pieces)) (omega (arith, bounds.0))
       ∙ ap (λ (ps : List Piece). record (situation (after_all nothing ps)) { before = Other }) read_pieces
@@ -384,6 +395,13 @@ module _ (text : Text) (first : Piece) (pieces : List Piece) (fault : Spanned Fa
       some_stay : (n : ℕ) (history : History) → 1 ≤ n → situation (after_all history (replicate n semicolon)) ≡ record (situation history) { before = Other }
       some_stay zero history some = absurd (omega (arith, some))
       some_stay (suc n) history some = situations_stay n history
+
+  code_after : is_in_text (situation (after_all nothing own_pieces)).mode ≡ false
+  unfolding situation
+  code_after =
+      ap (λ (s : Situation). is_in_text s.mode) state_after
+      ∙ ap (λ (ps : List Piece). is_in_text (situation (after_all nothing ps)).mode) (sym read_pieces)
+      ∙ found.in_code
 
   kept_repaired : IsRepaired text whole_fault
   unfolding repaired
@@ -396,10 +414,13 @@ module _ (text : Text) (first : Piece) (pieces : List Piece) (fault : Spanned Fa
       record {
         history = history;
         pieces = own_pieces;
+        past = refl;
+        whole = whole_pieces;
         reads = subst (λ n. IsReading language nothing (filled n (repair_end text whole_fault) text) own_pieces) (sym begins_at)
             (reads_whole text first pieces found.first found.rest (repair_end text whole_fault) longest.reads found.same bounds.0 bounds.1 found.replaceable found.in_code leaves);
         reach = reach text first pieces found.first found.rest (repair_end text whole_fault) longest.reads found.same bounds.0 bounds.1 found.replaceable found.in_code leaves;
         state = state_after;
+        code = code_after;
         bytes = omega (arith, bounds.0, begins_at);
         inside = bounds.1;
         lexemes = subst (λ n. (outcome (filled n (repair_end text whole_fault) text)).lexemes ≡ (outcome text).lexemes ++ (semicolons (repair_end text whole_fault - n) n ++ rest.lexemes)) (sym begins_at)

@@ -1,33 +1,36 @@
 -- Worked texts that are lexed on after their faults, closed by computing.
-use Rattle.std.proofs.Common.{◌≡◌, List, refl}
-use Rattle.std.specs.Prelude.{⊤, [], ◌∷◌, codes, true, false}
+use Rattle.std.proofs.Common.{◌≡◌, ◌<◌, List, arith, length, refl, subst}
+use Rattle.std.proofs.lemmas.Bool.{both_ways}
+use Rattle.std.specs.Prelude.{⊤, [], ◌∷◌, IfSome, codes, true, false}
 use Rattle.starlark_grammar.proofs.Rows.Shapes.{all_definitions, at, single, utf8, Pass, Fail}
 use Rattle.starlark_grammar.specs.Reading.{outcome}
 use Rattle.starlark_grammar.specs.Tokens.{Fault, Lexeme, Spanned, Newline, Identifier, Indent, Dedent, Word, Comment, FStringStart, InvalidInput, InvalidTab, Indentation, UnfinishedStringLiteral, ReservedKeyword}
 use Rattle.starlark_grammar.specs.Words.{Text}
 use Rattle.starlark_grammar.specs.declared.class.Terminal.TheVariants as terminal
-use Rattle.starlark_grammar.specs.Joining.{begins_plainly, is_between_lines, is_closed, is_closed_from, is_decided, is_line_cut, without_last_newline}
-use Rattle.starlark_grammar.specs.Recovery.{next_line, outcomes, outcomes_from, recovered, restart, stopped_at}
+use Rattle.starlark_grammar.specs.AfterFaults.{next_line, restart, stopped_at}
+use Rattle.starlark_grammar.specs.Found.{Cut, Empty, IsClosed, Kept, Lost, found, found_past, found_within, parted}
+use Rattle.starlark_grammar.specs.Joining.{begins_plainly, is_between_lines, is_decided, is_line_cut, without_last_newline}
+use Rattle.starlark_grammar.specs.Repairs.{keeps_line, repaired}
 
 -- the text has these lexemes and these faults
-abbrev Recovers : Text → List Lexeme → List (Spanned Fault) → Type 0
-Recovers text lexemes faults = recovered text ≡ record { lexemes = lexemes; faults = faults }
+abbrev pub Recovers : Text → List Lexeme → List (Spanned Fault) → Type 0
+Recovers text lexemes faults = parted (found text) ≡ record { lexemes = lexemes; faults = faults }
 
 -- to unfold this is to unfold all that a row computes with
-unfoldable all_recovery : Type 0
-unfolding all_definitions next_line stopped_at restart outcomes_from outcomes recovered
+unfoldable pub all_recovery : Type 0
+unfolding all_definitions next_line stopped_at restart keeps_line repaired found_within found_past found
 all_recovery = ⊤
 
--- no fault, and faults of which the line's rest is left
+-- no fault, faults that keep their lines, and others
 rows_1 :
     Recovers [] (at 0 Newline 0 ∷ []) []
     × Recovers (codes "x\n") (at 0 (Identifier (codes "x")) 1 ∷ at 1 Newline 2 ∷ at 2 Newline 2 ∷ []) []
     × Recovers (codes "'a\nx") (at 3 (Identifier (codes "x")) 4 ∷ at 4 Newline 4 ∷ []) (at 0 UnfinishedStringLiteral 2 ∷ [])
-    × Recovers (codes "x $ y\nz") (at 0 (Identifier (codes "x")) 1 ∷ at 6 (Identifier (codes "z")) 7 ∷ at 7 Newline 7 ∷ []) (at 2 (InvalidInput (codes "$")) 3 ∷ [])
+    × Recovers (codes "x $ y\nz") (at 0 (Identifier (codes "x")) 1 ∷ at 4 (Identifier (codes "y")) 5 ∷ at 5 Newline 6 ∷ at 6 (Identifier (codes "z")) 7 ∷ at 7 Newline 7 ∷ []) (at 2 (InvalidInput (codes "$")) 3 ∷ [])
     × Recovers (codes "$") (at 1 Newline 1 ∷ []) (at 0 (InvalidInput (codes "$")) 1 ∷ [])
-    × Recovers (codes "$\n") (at 2 Newline 2 ∷ []) (at 0 (InvalidInput (codes "$")) 1 ∷ [])
-    × Recovers (codes "$\nis\nx") (at 5 (Identifier (codes "x")) 6 ∷ at 6 Newline 6 ∷ []) (at 0 (InvalidInput (codes "$")) 1 ∷ at 2 (ReservedKeyword (codes "is")) 4 ∷ [])
-    × Recovers (codes "(\n$\nx\n") (at 0 (Word terminal.OpeningRound) 1 ∷ at 4 (Identifier (codes "x")) 5 ∷ at 5 Newline 6 ∷ at 6 Newline 6 ∷ []) (at 2 (InvalidInput (codes "$")) 3 ∷ [])
+    × Recovers (codes "$\n") (at 1 Newline 2 ∷ at 2 Newline 2 ∷ []) (at 0 (InvalidInput (codes "$")) 1 ∷ [])
+    × Recovers (codes "$\nis\nx") (at 1 Newline 2 ∷ at 4 Newline 5 ∷ at 5 (Identifier (codes "x")) 6 ∷ at 6 Newline 6 ∷ []) (at 0 (InvalidInput (codes "$")) 1 ∷ at 2 (ReservedKeyword (codes "is")) 4 ∷ [])
+    × Recovers (codes "('a\nx\n") (at 0 (Word terminal.OpeningRound) 1 ∷ at 4 (Identifier (codes "x")) 5 ∷ at 5 Newline 6 ∷ at 6 Newline 6 ∷ []) (at 1 UnfinishedStringLiteral 3 ∷ [])
 unfolding all_recovery
 rows_1 = (refl, refl, refl, refl, refl, refl, refl, refl)
 
@@ -35,12 +38,12 @@ rows_1 = (refl, refl, refl, refl, refl, refl, refl, refl)
 rows_2 :
     Recovers (codes "'''a\nx\n") (at 7 Newline 7 ∷ []) (at 0 UnfinishedStringLiteral 7 ∷ [])
     × Recovers (codes "f'\nx") (at 0 (FStringStart (record { is_raw = false; quote = single; is_triple = false })) 2 ∷ at 3 (Identifier (codes "x")) 4 ∷ at 4 Newline 4 ∷ []) (at 2 UnfinishedStringLiteral 3 ∷ [])
-    × Recovers (codes "x \ty\nz") (at 0 (Identifier (codes "x")) 1 ∷ at 5 (Identifier (codes "z")) 6 ∷ at 6 Newline 6 ∷ []) (at 2 InvalidTab 2 ∷ [])
+    × Recovers (codes "x \ty\nz") (at 0 (Identifier (codes "x")) 1 ∷ at 3 (Identifier (codes "y")) 4 ∷ at 4 Newline 5 ∷ at 5 (Identifier (codes "z")) 6 ∷ at 6 Newline 6 ∷ []) (at 2 InvalidTab 2 ∷ [])
     × Recovers (codes "\tx\ny") (at 3 (Identifier (codes "y")) 4 ∷ at 4 Newline 4 ∷ []) (at 0 InvalidTab 0 ∷ [])
     × Recovers (codes "x\n# c\n\ty\nz") (at 0 (Identifier (codes "x")) 1 ∷ at 9 (Identifier (codes "z")) 10 ∷ at 10 Newline 10 ∷ []) (at 1 InvalidTab 1 ∷ [])
     × Recovers (codes "# c\n\ty\nz") (at 0 (Comment (codes " c")) 3 ∷ at 7 (Identifier (codes "z")) 8 ∷ at 8 Newline 8 ∷ []) (at 0 InvalidTab 0 ∷ [])
     × Recovers (codes "a\n  b\n c\nd") (at 0 (Identifier (codes "a")) 1 ∷ at 1 Newline 2 ∷ at 2 Indent 4 ∷ at 4 (Identifier (codes "b")) 5 ∷ at 9 (Identifier (codes "d")) 10 ∷ at 10 Newline 10 ∷ []) (at 5 Indentation 7 ∷ [])
-    × Recovers (utf8 "é\nx") (at 3 (Identifier (codes "x")) 4 ∷ at 4 Newline 4 ∷ []) (at 0 (InvalidInput (utf8 "é")) 2 ∷ [])
+    × Recovers (utf8 "é\nx") (at 2 Newline 3 ∷ at 3 (Identifier (codes "x")) 4 ∷ at 4 Newline 4 ∷ []) (at 0 (InvalidInput (utf8 "é")) 2 ∷ [])
 unfolding all_recovery
 rows_2 = (refl, refl, refl, refl, refl, refl, refl, refl)
 
@@ -106,16 +109,76 @@ decided_rows :
 unfolding is_decided
 decided_rows = (refl, refl, refl, refl, refl, refl, refl, refl, refl, refl)
 
--- closed texts: cuts between lines, and texts with decided faults and such a cut or nothing after them
-closed_rows : Pass is_closed
-    ([] ∷ codes "x\n" ∷ codes "$\n" ∷ codes "'a\n" ∷ codes "f'a\nb\n" ∷ codes "x\n\ty\n" ∷
-    codes "(\n$\nx\n" ∷ codes "$\n x\n" ∷ [])
-unfolding all_recovery is_between_lines is_line_cut is_decided is_closed_from is_closed
-closed_rows = refl
+-- closed texts: none, a cut between lines, and texts with decided faults and such a cut or nothing after them
+closed_rows :
+    IsClosed []
+    × IsClosed (codes "x\n")
+    × IsClosed (codes "$\n")
+    × IsClosed (codes "'a\n")
+    × IsClosed (codes "f'a\nb\n")
+    × IsClosed (codes "x\n\ty\n")
+    × IsClosed (codes "$\n x\n")
+unfolding all_recovery is_between_lines is_line_cut is_decided
+closed_rows = (
+  Empty,
+  Cut (codes "x\n") refl,
+  Kept (codes "$\n") (at 0 (InvalidInput (codes "$")) 1) refl refl refl (Cut (codes ";\n") refl),
+  Lost (codes "'a\n") (at 0 UnfinishedStringLiteral 2) refl refl refl Empty,
+  Lost (codes "f'a\nb\n") (at 2 UnfinishedStringLiteral 4) refl refl refl (Cut (codes "b\n") refl),
+  Lost (codes "x\n\ty\n") (at 1 InvalidTab 1) refl refl refl Empty,
+  Kept (codes "$\n x\n") (at 0 (InvalidInput (codes "$")) 1) refl refl refl (Cut (codes ";\n x\n") refl),
+)
 
--- texts that aren't closed: by their end, by a fault at their end, and by what is open there
-open_rows : Fail is_closed
-    (codes "x" ∷ codes "$" ∷ codes "$\nx" ∷ codes "f'a\n" ∷ codes "f'a\\\n" ∷ codes "\"\"\"a\n" ∷
-    codes "$\n(\n" ∷ codes "$\nif" ∷ [])
-unfolding all_recovery is_between_lines is_line_cut is_decided is_closed_from is_closed
-open_rows = refl
+-- no cut between lines
+abbrev IsOpen : Text → Type 0
+IsOpen text = (0 < length text) × (is_line_cut text ≡ false)
+
+-- open by a fault that isn't decided, if there is one
+undecided_open : (text : Text) → IsOpen text → IfSome (outcome text).fault (λ fault. is_decided text fault ≡ false) → IsClosed text → ⊥
+undecided_open _ (some, uncut) undecided Empty = absurd (omega (arith, some))
+undecided_open _ (some, uncut) undecided (Cut text cut) = both_ways (is_line_cut text) uncut cut
+undecided_open _ (some, uncut) undecided (Kept text fault has keeps is rest) =
+    both_ways (is_decided text fault) (subst (λ first. IfSome first (λ other. is_decided text other ≡ false)) has undecided) is
+undecided_open _ (some, uncut) undecided (Lost text fault has loses is rest) =
+    both_ways (is_decided text fault) (subst (λ first. IfSome first (λ other. is_decided text other ≡ false)) has undecided) is
+
+-- open by what is left open after a fault that keeps its line
+abbrev StaysOpen : Text → Spanned Fault → Type 0
+StaysOpen text fault = (keeps_line text (outcome text).lexemes fault ≡ true) × (IsClosed (repaired text fault) → ⊥)
+
+repaired_open : (text : Text) → IsOpen text → IfSome (outcome text).fault (StaysOpen text) → IsClosed text → ⊥
+repaired_open _ (some, uncut) stays Empty = absurd (omega (arith, some))
+repaired_open _ (some, uncut) stays (Cut text cut) = both_ways (is_line_cut text) uncut cut
+repaired_open _ (some, uncut) stays (Kept text fault has keeps is rest) = (subst (λ first. IfSome first (StaysOpen text)) has stays).1 rest
+repaired_open _ (some, uncut) stays (Lost text fault has loses is rest) =
+    both_ways (keeps_line text (outcome text).lexemes fault) loses (subst (λ first. IfSome first (StaysOpen text)) has stays).0
+
+-- texts that aren't closed: by their end, and by a fault at their end …
+open_rows :
+    (IsClosed (codes "x") → ⊥)
+    × (IsClosed (codes "$") → ⊥)
+    × (IsClosed (codes "$\nx") → ⊥)
+    × (IsClosed (codes "$\nif") → ⊥)
+    × (IsClosed (codes "f'a\n") → ⊥)
+    × (IsClosed (codes "f'a\\\n") → ⊥)
+    × (IsClosed (codes "\"\"\"a\n") → ⊥)
+unfolding all_recovery is_between_lines is_line_cut is_decided
+open_rows = (
+  undecided_open (codes "x") (omega arith, refl) tt,
+  undecided_open (codes "$") (omega arith, refl) refl,
+  undecided_open (codes "$\nx") (omega arith, refl) refl,
+  undecided_open (codes "$\nif") (omega arith, refl) refl,
+  undecided_open (codes "f'a\n") (omega arith, refl) refl,
+  undecided_open (codes "f'a\\\n") (omega arith, refl) refl,
+  undecided_open (codes "\"\"\"a\n") (omega arith, refl) refl,
+)
+
+-- … and by brackets that are open after a fault that keeps its line
+brackets_stay_open :
+    (IsClosed (codes "$\n(\n") → ⊥)
+    × (IsClosed (codes "(\n$\nx\n") → ⊥)
+unfolding all_recovery is_between_lines is_line_cut is_decided
+brackets_stay_open = (
+  repaired_open (codes "$\n(\n") (omega arith, refl) (refl, undecided_open (codes ";\n(\n") (omega arith, refl) tt),
+  repaired_open (codes "(\n$\nx\n") (omega arith, refl) (refl, undecided_open (codes "(\n;\nx\n") (omega arith, refl) tt),
+)

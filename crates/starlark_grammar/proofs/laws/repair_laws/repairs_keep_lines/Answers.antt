@@ -1,4 +1,4 @@
-use Rattle.starlark_grammar.proofs.Repairs.RepairedParts.{words_keep_lines}
+use Rattle.starlark_grammar.proofs.Repairs.RepairedTexts.{words_keep_lines}
 use Rattle.starlark_grammar.proofs.Repairs.Readings.{repairs_have_bytes, repairs_keep, repairs_keep_state, repairs_leave_later}
 use Rattle.starlark_grammar.proofs.laws.repair_laws.repairs_keep_lines.Goals as goal
 

@@ -1,0 +1,31 @@
+//! Laws of all that is found in a text that is lexed on after its faults. Each function here has a law
+//! as its contract and nothing to do; programs don't call them.
+
+ghost use Rattle.starlark_grammar.specs.FoundLaws.{ClosedJoin, FaultlessFound, FoundAfterLines, FoundAfterRepairs, FoundFaultsInOrder, FoundJoins, FoundLexemesInOrder, LastNewlinesClose, NewlinesClose, NewlinesCutFound};
+
+/// In a text are found its lexemes, then its fault if it has one, and then what comes after that.
+///
+/// Where the fault keeps its line, that is what the repaired text has after the repair. Else it is
+/// what the text has from the next line on.
+///
+/// A closed text and one after it that begins plainly are lexed each by itself, and two closed texts
+/// are one. All lexemes lie in the text, in order, and so do all faults.
+pub fn found_in_order()
+    ensures faultless { FaultlessFound }
+    ensures repairs { FoundAfterRepairs }
+    ensures lines { FoundAfterLines }
+    ensures joins { FoundJoins }
+    ensures closed { ClosedJoin }
+    ensures lexemes { FoundLexemesInOrder }
+    ensures faults { FoundFaultsInOrder }
+{}
+
+/// A `Newline` of some bytes, after which a line begins plainly, closes the text up to there.
+///
+/// What is found in that text is what is found up to there, but for its closing `Newline`. A `Newline`
+/// of some bytes at the end of a text closes it.
+pub fn newlines_close()
+    ensures plain { NewlinesClose }
+    ensures cut { NewlinesCutFound }
+    ensures last { LastNewlinesClose }
+{}
