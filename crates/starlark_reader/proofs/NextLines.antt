@@ -13,6 +13,7 @@ use Rattle.starlark_grammar.specs.Words.{Text, class_in, is_in_line, language}
 use Rattle.starlark_grammar.specs.declared.class.Class.TheVariants as class
 use Rattle.starlark_grammar.specs.declared.class.LiteralKind.{LiteralKind}
 use Rattle.starlark_grammar.specs.declared.class.Quote.{Quote}
+use Rattle.starlark_grammar.proofs.Found.FoundItems.{stopped_past}
 use Rattle.starlark_grammar.proofs.WordNewlines.{language_lines}
 use Rattle.starlark_grammar.proofs.Lists.{drop-sum, take_fits}
 use Rattle.starlark_grammar.proofs.Words.Fronts.{front_sound}
@@ -139,16 +140,8 @@ restart_end text fault inside = by fault.end refl
         let least = next_line_least text (fault.end - 1) (omega (arith, e, inside)) in
         omega (arith, e, least, restart_at text fault (fault.end - 1) (stopped_end text fault))
 
-pub stopped_begin : (text : Text) (fault : Spanned Fault) → fault.begin ≤ stopped_at text fault
-unfolding stopped_at
-stopped_begin text fault = by (is_margin_tab text fault)
-  where
-    by : (tab : Bool) → fault.begin ≤ max (fault.end - 1) (if tab then margin_line text (fault.begin + line_end_len (drop fault.begin text)) else fault.begin)
-    by true = omega arith
-    by false = omega arith
-
 pub restart_line : (text : Text) (fault : Spanned Fault) → next_line text fault.begin ≤ restart text fault
-restart_line text fault = restart_at text fault fault.begin (stopped_begin text fault)
+restart_line text fault = restart_at text fault fault.begin (stopped_past text fault)
 
 stopped_margin : (text : Text) (fault : Spanned Fault) → is_margin_tab text fault ≡ true → margin_line text (fault.begin + line_end_len (drop fault.begin text)) ≤ stopped_at text fault
 unfolding stopped_at

@@ -2,6 +2,7 @@
 pub mod LineEndPieces
 pub mod TakenNumbers
 pub mod PieceReads
+pub mod RepairReads
 pub mod SearchReads
 pub mod MarginReads
 pub mod ReaderReads
@@ -13,3 +14,4 @@ pub mod Taken
 pub mod ChunksTaken
 pub mod PieceTaken
 pub mod NextLexeme
+pub mod Repaired

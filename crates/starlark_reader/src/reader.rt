@@ -17,10 +17,13 @@ ghost use Rattle.starlark_grammar.specs.declared.class.LiteralKind.TheVariants a
 ghost use Rattle.starlark_reader.specs.Inner.Pending.{IsCommentIn, IsIdle, IsMark, IsPending, comment_lexeme, pending_lexemes};
 ghost use Rattle.starlark_reader.specs.Inner.MarginCuts.{IsCutBefore};
 ghost use Rattle.starlark_reader.specs.Inner.ReadBounds.{HasStarted, HasLooked, HasLookedHere, HasRead, HasReadAt, HasReadLast, IsMarginRead, IsPassed, IsPassedBy, IsTaken};
-ghost use Rattle.starlark_reader.specs.Inner.Reader.{CountsLineEnds, has_read_none, is_fault, IsAhead, IsAheadAfter, IsAheadPast, IsAtCode, IsBangHere, IsInCode, IsInFlatMargin, IsReached, IsStateAfter, IsAtEnd, IsLast, IsPlainTextHere, IsRead, IsReady, IsSomething, IsTokenOf, IsWordHere, before_margin, before_view, fstring_text_lexeme, left_here, left_to_read, name_lexeme, newline_if, newline_of, silent_sort, step_here, text_lexeme};
+ghost use Rattle.starlark_reader.specs.Inner.Reader.{CountsLineEnds, has_read_none, is_fault, IsAhead, IsAheadAfter, IsAheadPast, IsAtCode, IsBangHere, IsInCode, IsInFlatMargin, IsReached, IsStateAfter, IsStateAtFault, IsAtEnd, IsLast, IsPlainTextHere, IsRead, IsReady, IsSomething, IsTokenOf, IsWordHere, before_margin, before_view, begins_with_tab, fstring_text_lexeme, left_here, left_to_read, name_lexeme, newline_if, newline_of, silent_sort, step_here, text_lexeme};
 ghost use Rattle.starlark_reader.specs.Inner.PieceViews.{IsAfter, IsLineEnd};
 ghost use Rattle.starlark_grammar.specs.AfterFaults.{next_line};
 ghost use Rattle.starlark_grammar.specs.Cuts.{is_layout, is_settled};
+ghost use Rattle.starlark_grammar.specs.Found.{passed_count};
+ghost use Rattle.starlark_grammar.specs.RepairLaws.{KeepsLine};
+ghost use Rattle.starlark_grammar.specs.Repairs.{repair_end, repaired};
 ghost use Rattle.starlark_grammar.specs.Reading.{History, outcome};
 ghost use Rattle.starlark_token.specs.TokenViews.{TokenView, token_view};
 ghost use Rattle.starlark_grammar.specs.Tokens.{FStringStart, Fault, Spanned};
@@ -594,6 +597,24 @@ impl Reader {
             Stage::Fault { begin, fault, end } => Some((begin, fault, end)),
             _ => None,
         }
+    }
+
+    /// Goes on after the repair of the fault that was taken, which is between two offsets: brackets,
+    /// f-strings and indents stay open. What is ahead is what the repaired text has there.
+    ///
+    /// Each byte of the repair counts as read once more, and the byte after it.
+    pub fn go_on(&mut self, begin: usize, end: usize)
+        requires order { begin ≤ end }
+        requires fits { end < 2 ^ 64 - 1 }
+        ensures ahead { (text : Text) (fault : Spanned Fault) → KeepsLine text fault → IsStateAtFault text self.old → end ≡ repair_end text fault → IsCharBoundary (repaired text fault) end →
+            IsAhead (repaired text fault) self.new self.new.stage (map shown_lexeme (drop (passed_count text fault) (outcome (repaired text fault)).lexemes)) (outcome (repaired text fault)).fault }
+        ensures reads { (text : Text) (beside : ℕ) → more_reads 0 begin ≤ self.old.reads → self.old.reads + (end - begin) + 1 ≤ beside + 10 * end + 2 → HasRead text beside self.new }
+    {
+        self.reads.count_run(end - begin);
+        self.at = end;
+        self.before = Before::Other;
+        self.pending = Pending::nothing();
+        self.stage = Stage::Onward;
     }
 
     /// Whether the text has a fault that was reached and isn't taken yet.

@@ -1,11 +1,11 @@
 //! Reads one piece after the first margin of a text, or the fault there.
 
-ghost use Rattle.std.specs.Prelude.{◌≡◌, ℕ, ◌+◌, ◌<◌, ◌^◌, ◌&&◌, None, Some, drop, length, IfOk};
+ghost use Rattle.std.specs.Prelude.{◌≡◌, ℕ, ◌+◌, ◌*◌, ◌<◌, ◌^◌, ◌&&◌, None, Some, drop, length, IfOk};
 ghost use Rattle.std.specs.Str.{IsCharBoundary};
 ghost use Rattle.starlark_grammar.specs.AfterFaults.{next_line};
 ghost use Rattle.starlark_grammar.specs.Front.{language_front};
 ghost use Rattle.starlark_words.specs.Inner.Reads.{AreReads, more_reads};
-ghost use Rattle.starlark_reader.specs.Inner.ReadBounds.{ArePieceReads, AreReadsAfter, AreStepReads, AreWordlessReads, IsFaultAt};
+ghost use Rattle.starlark_reader.specs.Inner.ReadBounds.{ArePieceReads, AreReadsAfter, AreStepReads, AreWordlessReads, IsFaultAt, LeavesReads};
 ghost use Rattle.starlark_reader.specs.Inner.StepViews.{IsStep};
 ghost use Rattle.starlark_grammar.specs.Cuts.{is_outside};
 ghost use Rattle.starlark_reader.specs.Inner.Nesting.{mode_view};
@@ -72,6 +72,7 @@ fn takes_bang(mode: LexerMode, follows_gap: bool) -> bool
 /// The piece of a newline of `len` bytes.
 fn line_end(mode: LexerMode, is_balanced: bool, len: usize) -> Piece
     ensures reads { (line reads : ℕ) → AreReadsAfter len 9 line 8 result reads reads }
+    ensures leaves { (spent before after : ℕ) (text : word.Text) → LeavesReads spent text result before after }
     ensures piece { (s : grammar.Situation) (front remainder text : word.Text) → s.mode ≡ mode_view mode → s.is_balanced ≡ is_balanced → length front ≡ len → drop len text ≡ remainder → IsCharBoundary text len →
         IsPiece s.levels text (grammar.word_step s class.LineEnd front remainder) result }
 {
@@ -92,6 +93,7 @@ fn fstring(
 ) -> Piece
     requires { len + length remainder.now < 2 ^ 64 }
     ensures reads { AreReadsAfter len 9 0 8 result reads.old reads.new }
+    ensures leaves { (spent before after : ℕ) (text : word.Text) → LeavesReads spent text result before after }
     ensures line_end { (text : word.Text) → IsLineEndOf text result }
     ensures piece { (s : grammar.Situation) (front text : word.Text) → length front ≡ len →
         IsPiece s.levels text (grammar.word_step s (class.Opener kind.FString is_raw quote) front remainder.now) result }
@@ -114,6 +116,7 @@ fn opener(
 ) -> Result<Piece, AllocError>
     requires { len + length remainder.now < 2 ^ 64 }
     ensures reads { IfOk result (λ piece. AreReadsAfter len 9 0 8 piece reads.old reads.new) }
+    ensures leaves { IfOk result (λ piece. (spent before after : ℕ) (text : word.Text) → LeavesReads spent text piece before after) }
     ensures line_end { IfOk result (λ piece. (text : word.Text) → IsLineEndOf text piece) }
     ensures piece { IfOk result (λ piece. (s : grammar.Situation) (front text : word.Text) → s.mode ≡ mode_view mode → length front ≡ len →
         IsPiece s.levels text (grammar.word_step s (class.Opener kind is_raw quote) front remainder.now) piece) }
@@ -142,6 +145,7 @@ fn word_piece(
     requires some { 0 < length front.now }
     requires fits { length front.now + length remainder.now < 2 ^ 64 }
     ensures reads { IfOk result (λ piece. AreReadsAfter (length front.now) 9 (next_line front.now 0) 8 piece reads.old reads.new) }
+    ensures leaves { IfOk result (λ piece. LeavesReads (5 * length front.now + 3) front.now piece reads.old reads.new) }
     ensures line_end { IfOk result (IsLineEndOf front.now) }
     ensures piece { IfOk result (λ piece. (s : grammar.Situation) (text : word.Text) → s.mode ≡ mode_view mode → s.is_balanced ≡ is_balanced → drop (length front.now) text ≡ remainder.now → IsCharBoundary text (length front.now) →
         IsPiece s.levels text (grammar.word_step s class front.now remainder.now) piece) }
@@ -216,6 +220,7 @@ fn wordless_piece(
     requires some { 0 < length text.now }
     requires none { language_front text.now ≡ None }
     ensures reads { IfOk result (λ piece. AreWordlessReads piece reads.old reads.new) }
+    ensures leaves { IfOk result (λ piece. LeavesReads 3 text.now piece reads.old reads.new) }
     ensures piece { IfOk result (λ piece. (s : grammar.Situation) → s.mode ≡ mode_view mode → IsAfter follows_gap s.before →
         IsPiece s.levels text.now (grammar.in_code language s text.now) piece) }
 {
@@ -239,6 +244,7 @@ fn code_piece(
 ) -> Result<Piece, AllocError>
     requires some { 0 < length text.now }
     ensures reads { IfOk result (λ piece. ArePieceReads 10 6 text.now piece reads.old reads.new) }
+    ensures leaves { IfOk result (λ piece. LeavesReads 0 text.now piece reads.old reads.new) }
     ensures line_end { IfOk result (IsLineEndOf text.now) }
     ensures piece { IfOk result (λ piece. (s : grammar.Situation) → s.mode ≡ mode_view mode → s.is_balanced ≡ is_balanced → IsAfter follows_gap s.before →
         IsPiece s.levels text.now (grammar.in_code language s text.now) piece) }
@@ -271,6 +277,7 @@ pub(crate) fn piece_at(
     text: &str,
 ) -> Result<Piece, AllocError>
     ensures reads { IfOk result (λ piece. ArePieceReads 10 6 text.now piece reads.old reads.new) }
+    ensures leaves { IfOk result (λ piece. LeavesReads 0 text.now piece reads.old reads.new) }
     ensures line_end { IfOk result (IsLineEndOf text.now) }
     ensures piece { IfOk result (λ piece. (s : grammar.Situation) → s.mode ≡ mode_view mode → s.is_balanced ≡ is_balanced → IsAfter follows_gap s.before →
         IsPiece s.levels text.now (grammar.step_at language s text.now) piece) }

@@ -13,6 +13,7 @@ use Rattle.starlark_grammar.specs.Tokens.{Comment}
 use Rattle.starlark_token.specs.TokenViews.{Whole}
 use Rattle.starlark_token.specs.Lexemes.{shown_lexeme}
 use Rattle.starlark_reader.specs.Inner.Pending.{comment_lexeme}
+use Rattle.starlark_grammar.proofs.Found.CommentEnds.{return_less}
 use Rattle.starlark_grammar.proofs.Lists.{drop-sum, take_fits}
 use Rattle.starlark_reader.proofs.TakenMargins.MarginLines.{is_other}
 use Rattle.starlark_grammar.proofs.Order.OrderedLexemes.{comment_spans, part_len}
@@ -55,16 +56,7 @@ front_taken (b ∷ c ∷ t) = ap (λ (s : Text). b ∷ s) (front_taken (c ∷ t)
 
 -- the comment's part of a line ends before its LF
 pub part_before_feed : (line : Text) → length (comment_part line) ≤ prefix_len is_other line
-part_before_feed line = omega (arith, returned_less (take (prefix_len is_other line) line), (take_fits (prefix_len is_other line) line).1)
-  where
-    returned_less : (t : Text) → length (without_return t) ≤ length t
-    returned_less [] = omega arith
-    returned_less (b ∷ []) = go (b == 13)
-      where
-        go : (test : Bool) → length (if test then [] else b ∷ []) ≤ 1
-        go true = omega arith
-        go false = omega arith
-    returned_less (b ∷ c ∷ t) = let more = returned_less (c ∷ t) in omega (arith, more)
+part_before_feed line = omega (arith, return_less (take (prefix_len is_other line) line), (take_fits (prefix_len is_other line) line).1)
 
 -- the comment's part of a line is at its start
 part_taken : (line : Text) → comment_part line ≡ take (length (comment_part line)) line

@@ -2,12 +2,11 @@
 use Rattle.std.proofs.Common.{◌≡◌, ℕ, zero, suc, ◌<◌, ◌==◌, ◌&&◌, Bool, true, false, [], ◌∷◌, length, take, nat_eq, refl, sym, ◌∙◌, Some, arith}
 use Rattle.std.proofs.lemmas.Bool.{and_parts, eqb-true, ltb-true}
 use Rattle.std.proofs.lemmas.List.{length-take-le}
-use Rattle.std.specs.List.{list_all, starts_with}
+use Rattle.std.specs.List.{starts_with}
 use Rattle.std.specs.Prelude.{if◌then◌else◌, nat_lt}
 use Rattle.starlark_grammar.specs.AfterFaults.{line_end_len}
 use Rattle.starlark_grammar.specs.Front.{language_front}
-use Rattle.starlark_grammar.specs.Words.{Text, class_in, language, line_ends, names, openers, patterns, symbols}
-use Rattle.starlark_grammar.specs.declared.class.Class.{Class}
+use Rattle.starlark_grammar.specs.Words.{Text, class_in, language}
 use Rattle.starlark_grammar.specs.declared.class.Class.TheVariants as word
 use Rattle.starlark_grammar.proofs.Words.Classes.{line_end_fits}
 use Rattle.starlark_grammar.proofs.Words.Fronts.{front_sound}

@@ -7,6 +7,7 @@ use Rattle.std.specs.List.{list_any, starts_with}
 use Rattle.std.specs.Prelude.{codes, if◌then◌else◌, not}
 use Rattle.starlark_grammar.specs.AfterFaults.{is_margin_tab, is_tab, line_end_len, margin_line, next_line, restart, stopped_at}
 use Rattle.starlark_grammar.specs.Margins.{begins_with_line_end, blanks_len, has_tab, is_blank, is_lf, lines, margin_len, margin_of}
+use Rattle.starlark_grammar.specs.Inner.KeptFaults.{may_keep}
 use Rattle.starlark_grammar.specs.Margins as grammar
 use Rattle.starlark_grammar.specs.Pieces as pieces
 use Rattle.starlark_grammar.specs.Tokens.{Fault, Indentation, InvalidTab, Spanned}
@@ -132,6 +133,11 @@ some_blank (b ∷ bs) tab = omega arith
 record MarginSearch (text : Text) (begin len : ℕ) (margin : Margin) (fault : Spanned Fault) : Type 0 where
   pub after : begin + len + (margin.at + margin.blanks.len) ≤ restart text fault
   pub reads : 5 * margin.at + margin.blanks.len + 2 + search_reads text fault + 5 * len ≤ 10 * (restart text fault - begin) + 5
+  pub keeps_none : may_keep fault.node ≡ true → is_margin_tab text fault ≡ true
+
+never_kept : may_keep Indentation ≡ true → ⊥
+unfolding may_keep
+never_kept keeps = cc
 
 margin_search : (text : Text) (begin len end : ℕ) (margin : Margin) (fault : LexemeError) → IsMarginAt text begin len → begin + len + (margin.at + margin.blanks.len) ≤ length text
     → IsMargin (margin_of (drop (begin + len) text)) margin → IsFaultFound (margin_fault len (margin_of (drop (begin + len) text))) (fault, end)
@@ -153,11 +159,12 @@ margin_search text begin len end margin fault there inside is found = λ node vi
         let tab : node ≡ InvalidTab = same ∙ sym (ap fails_with fails) in
         let blanks = last_line text (begin + len) (omega (arith, whole, inside)) in
         let line = next_line_later text (begin + len + seen.at) (margin_line text (begin + line_end_len (drop begin text))) (last_there text begin len there) in
-        let after = restart_margin text spanned (tab_there text begin len (begin + end) node there tab) in
+        let in_margin = tab_there text begin len (begin + end) node there tab in
+        let after = restart_margin text spanned in_margin in
         let least : begin + len + (margin.at + margin.blanks.len) ≤ restart text spanned = omega (arith, whole, blanks, line, after) in
         let some : 1 ≤ margin.blanks.len = omega (arith, some_blank seen.blanks e, is.blanks.len) in
         let search = tab_search text spanned (ap is_tab tab) in
-        record { after = least; reads = omega (arith, least, some, search) }
+        record { after = least; reads = omega (arith, least, some, search); keeps_none = λ keeps. in_margin }
     by node same false e fails =
         let spanned : Spanned Fault = record { begin = begin; node = node; end = begin + end } in
         let other : node ≡ Indentation = same ∙ sym (ap fails_with fails) in
@@ -166,7 +173,7 @@ margin_search text begin len end margin fault there inside is found = λ node vi
         let least : begin + len + (margin.at + margin.blanks.len) ≤ restart text spanned = omega (arith, last, whole, after) in
         let stopped : begin + end - 1 ≤ stopped_at text spanned = stopped_end text spanned in
         let search = other_search text spanned (ap is_tab other) in
-        record { after = least; reads = omega (arith, least, last, whole, stopped, search) }
+        record { after = least; reads = omega (arith, least, last, whole, stopped, search); keeps_none = λ keeps. absurd (never_kept (sym (ap may_keep other) ∙ keeps)) }
 
 -- the reads at the fault of a margin after a newline
 pub refused_reads : (text : Text) (len end : ℕ) (margin : Margin) (fault : LexemeError) (old new : Reader) → IsLineEnd len (drop old.at text) → old.at + len + (margin.at + margin.blanks.len) ≤ length text
@@ -180,7 +187,7 @@ refused_reads text len end margin fault old new there inside is found stops read
       read.0,
       λ node view.
           let search = margin_search text old.at len end margin fault (inr there) inside is found node view in
-          (omega (arith, search.reads, read.1), none, omega (arith, search.after)),
+          (omega (arith, search.reads, read.1), none, omega (arith, search.after), search.keeps_none),
     )
 
 -- the reads at the fault of a text's first margin
@@ -195,5 +202,5 @@ first_refused_reads text beside end margin fault old new inside is found stops r
       omega arith,
       λ node view.
           let search = margin_search text 0 0 end margin fault (inl (refl, refl)) (omega (arith, inside)) is found node view in
-          omega (arith, search.after, search.reads, read, owes, has.1),
+          (omega (arith, search.after, search.reads, read, owes, has.1), λ keeps inside. let tab = search.keeps_none keeps in cc),
     )

@@ -5,12 +5,12 @@ use Rattle.starlark_grammar.specs.Words.{Text, language}
 use Rattle.starlark_grammar.specs.Tokens.{Fault, Lexeme, Outcome, Spanned}
 use Rattle.starlark_grammar.specs.Pieces.{Piece, Step, Stands, Fails, Ends}
 use Rattle.starlark_grammar.specs.Reading.{History, lexemes_along, outcome, outcome_in, outcome_of, read, read_from}
-use Rattle.starlark_token.specs.Lexemes.{fault_view, lexeme_view, shown_lexeme}
+use Rattle.starlark_token.specs.Lexemes.{lexeme_view, shown_lexeme}
 use Rattle.starlark_reader.specs.Inner.MarginCuts.{IsAfterLines, IsCutBefore, IsMarginAhead}
 use Rattle.starlark_reader.specs.Inner.MarginLines.{IsLinePassed, IsPassedLine}
 use Rattle.starlark_reader.specs.Inner.Nesting.{bracket_count}
 use Rattle.starlark_reader.specs.Inner.Pending.{IsFirst, IsFirstPast, IsIdle, lines_between, pending_lexemes}
-use Rattle.starlark_reader.specs.Inner.Reader.{begins_with_tab, has_read_none, IsAhead, IsAheadAfter, IsAheadPast, IsInFlatMargin, IsStateAfter, IsLast, IsLeft, IsOver, IsReady, IsSomething, history_of, outcome_along, remaining_outcome}
+use Rattle.starlark_reader.specs.Inner.Reader.{IsAhead, IsAheadAfter, IsAheadPast, IsInFlatMargin, IsStateAfter, IsLast, IsLeft, IsOver, IsReady, IsSomething, history_of, outcome_along, remaining_outcome}
 use Rattle.starlark_token.specs.TokenViews.{TokenView}
 use Rattle.starlark_token.specs.declared.lexeme_error.LexemeError.{LexemeError}
 use Rattle.starlark_token.specs.declared.tokens.Token.{Token}
@@ -29,7 +29,7 @@ use Rattle.std.proofs.lemmas.List.Sums.{sum_by-cons}
 pub same_left : (text : Text) (old new : Reader) (stage : Stage) (left : Outcome) → IsHere old new → IsLeft text old stage left → IsLeft text new stage left
 same_left text old new stage.Begin left here h = (h.0, here.at ∙ h.1, rw here.nesting h.2, here.levels ∙ h.3, ap bracket_count here.nesting ∙ h.4, here.before ∙ h.5)
 same_left text old new stage.Onward left here h = (h.0, kept_here text h.0 old new here h.1, h.2 ∙ ap (λ at. remaining_outcome h.0 at (drop at text)) (sym here.at))
-same_left text old new (stage.Fault begin fault end) left here h = (h.0, h.1, h.2, rw (here.at, here.before) h.3, rw here.at h.4)
+same_left text old new (stage.Fault begin fault end) left here h = (h.0, h.1, h.2, rw (here.at, here.before) h.3, rw here.at h.4, λ untabbed. kept_here text (history_of text) old new here (h.5 untabbed))
 same_left text old new stage.Closed left here h = (h.0, kept_here text (history_of text) old new here h.1)
 
 -- at each stage the reader's offset is in its text
@@ -129,12 +129,12 @@ mark_next text old new None lexemes fault here same none first lines ahead = ahe
 mark_next text old new (Some x) lexemes fault here same none first lines ahead = lexeme_past text old new (lexeme_view x) lexemes fault here same first lines (λ some. absurd (omega (arith, none, some))) ahead
 
 -- the fault is returned after the last lexeme
-pub fault_next : (text : Text) (reader : Reader) (lexemes : List (Spanned TokenView)) (fault : Option (Spanned Fault)) (begin : ℕ) (error : LexemeError) (end : ℕ) → IsIdle text reader.pending → reader.stage ≡ stage.Fault begin error end → IsAhead text reader reader.stage lexemes fault
-    → IsLast text lexemes fault (Some (begin, error, end)) reader
-fault_next text reader lexemes fault begin error end idle e ahead =
-    let is = subst (λ (s : Stage). IsLeft text reader s ahead.left) e ahead.is_left in
-    let both = none_before text reader reader.stage lexemes fault _ idle ahead is.2 in
-    (both.0, (_, both.1, (refl, is.1, refl)), is.3)
+pub fault_next : (text : Text) (old new : Reader) (lexemes : List (Spanned TokenView)) (fault : Option (Spanned Fault)) (begin : ℕ) (error : LexemeError) (end : ℕ) → IsHere old new → IsIdle text old.pending → old.stage ≡ stage.Fault begin error end → IsAhead text old old.stage lexemes fault
+    → IsLast text lexemes fault (Some (begin, error, end)) new
+fault_next text old new lexemes fault begin error end here idle e ahead =
+    let is = same_left text old new (stage.Fault begin error end) ahead.left here (subst (λ (s : Stage). IsLeft text old s ahead.left) e ahead.is_left) in
+    let both = none_before text old old.stage lexemes fault _ idle ahead is.2 in
+    (both.0, (_, both.1, (refl, is.1, refl)), is.3, is.5)
 
 pub nothing_next : (text : Text) (old new : Reader) (lexemes : List (Spanned TokenView)) (fault : Option (Spanned Fault)) → IsHere old new → IsIdle text old.pending → new.pending ≡ old.pending → old.stage ≡ stage.Closed → new.stage ≡ stage.Closed
     → IsAhead text old old.stage lexemes fault → (lexemes ≡ []) × (fault ≡ None) × IsAhead text new new.stage [] None × IsStateAfter text (history_of text) new

@@ -81,6 +81,12 @@ history_ends history text h ends =
     let both = one_longest language history text _ [] _ Ends (read_from_is language history 0 text h) (stops_here language history text Ends ends (λ piece e. cc)) in
     ap (after_all history) both.0
 
+pub history_fails : (history : History) (text : Text) (fault : Spanned Fault) → is_nothing history.before ≡ false → next_step language history text ≡ Fails fault → history_from history text ≡ history
+unfolding history_from
+history_fails history text fault h fails =
+    let both = one_longest language history text _ [] _ (Fails fault) (read_from_is language history 0 text h) (stops_here language history text (Fails fault) fails (λ piece e. cc)) in
+    ap (after_all history) both.0
+
 -- The start of the text
 
 pub margin_first : (text : Text) → next_step language nothing text ≡ first_margin text

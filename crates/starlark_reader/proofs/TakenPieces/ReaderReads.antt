@@ -10,9 +10,11 @@ use Rattle.starlark_reader.specs.Inner.Reader.{IsAhead, IsLeft, IsStateAfter, hi
 use Rattle.starlark_words.specs.Inner.Reads.{AreReads, more_reads}
 use Rattle.starlark_reader.specs.Inner.Pending.{owed}
 use Rattle.starlark_reader.specs.Inner.StepViews.{IsStep}
-use Rattle.starlark_reader.specs.Inner.ReadBounds.{AreStepReads, HasStarted, HasLooked, HasLookedHere, HasRead, HasReadAt, IsMarginRead, IsPassed, IsPassedBy}
+use Rattle.starlark_reader.specs.Inner.ReadBounds.{AreStepReads, HasStarted, HasLooked, HasLookedHere, HasRead, HasReadAt, IsMarginRead, IsPassed, IsPassedBy, LeavesReads}
 use Rattle.starlark_reader.proofs.TakenPieces.Here.{fault_here}
+use Rattle.starlark_reader.proofs.TakenPieces.RepairReads.{moved_repair}
 use Rattle.starlark_reader.proofs.TakenPieces.SearchReads.{fault_restart, step_search}
+use Rattle.starlark_reader.specs.declared.reading.Piece.TheVariants as piece
 use Rattle.starlark_reader.specs.declared.literal.pieces.Step.{Step}
 use Rattle.starlark_reader.specs.declared.literal.pieces.Step.TheVariants as steps
 use Rattle.starlark_reader.specs.declared.reader.Reader.{Reader}
@@ -31,17 +33,18 @@ onward_reads text beside len before old new has read passed =
 
 -- the reads after a token or an f-string text, or at a fault
 pub step_reads : (text : Text) (beside before : ℕ) (history : History) (step : Step) (old new : Reader) → IsStateAfter text history old → IsStep (step_here text history old) step
-    → IsReadBefore beside before old.at (owed old.pending) → AreStepReads 0 10 (next_line (drop old.at text) 0) 6 step before old.reads → IsPassed old step new → HasRead text beside new
-step_reads text beside before history (steps.Token token len) old new kept stands has read passed = onward_reads text beside len before old new has (omega (arith, read.0.0), omega (arith, read.0.1)) passed
-step_reads text beside before history (steps.Text chunk chunk_len stop len) old new kept stands has read passed = onward_reads text beside (chunk_len + len) before old new has (omega (arith, read.0.0), omega (arith, read.0.1)) passed
-step_reads text beside before history (steps.Fault begin fault end) old new kept stands has read passed =
+    → IsReadBefore beside before old.at (owed old.pending) → AreStepReads 0 10 (next_line (drop old.at text) 0) 6 step before old.reads → LeavesReads 0 (drop old.at text) (piece.Lexed step) before old.reads → IsPassed old step new → HasRead text beside new
+step_reads text beside before history (steps.Token token len) old new kept stands has read leaves passed = onward_reads text beside len before old new has (omega (arith, read.0.0), omega (arith, read.0.1)) passed
+step_reads text beside before history (steps.Text chunk chunk_len stop len) old new kept stands has read leaves passed = onward_reads text beside (chunk_len + len) before old new has (omega (arith, read.0.0), omega (arith, read.0.1)) passed
+step_reads text beside before history (steps.Fault begin fault end) old new kept stands has read leaves passed =
     let here = fault_here text history old (record { begin = begin; node = stands.0; end = end }) kept stands.2 in
     subst (HasReadAt text beside new) (sym passed.1) (
       omega (arith, has.0, read.0, passed.0.1),
       λ node is.
           let after = fault_restart text old.at begin end node kept.inside here.1 in
           let search = step_search text old.at begin end fault node is kept.inside here.1 in
-          omega (arith, after, search, has.1, read.1, passed.0.1, passed.0.2),
+          let repair = moved_repair text old.at begin end node in
+          (omega (arith, after, search, has.1, read.1, passed.0.1, passed.0.2), λ keeps inside. omega (arith, repair, leaves node is keeps, has.1, passed.0.1, passed.0.2)),
     )
 
 -- the reads after a newline and its margin
@@ -52,7 +55,7 @@ line_reads text beside len before old new inside has read some margin = go new.s
     go : (stage : Stage) → IsMarginRead text len old new stage → HasReadAt text beside new stage
     go stages.Begin margin = absurd margin
     go stages.Onward margin = (omega (arith, has.0, read.0, margin.0.0, margin.1), omega (arith, has.1, read.1, some, margin.0.1, margin.1))
-    go (stages.Fault begin fault end) margin = (omega (arith, has.0, read.0, margin.0, margin.1), λ node is. let there = margin.2 node is in omega (arith, has.1, read.1, there.0, there.1, there.2))
+    go (stages.Fault begin fault end) margin = (omega (arith, has.0, read.0, margin.0, margin.1), λ node is. let there = margin.2 node is in (omega (arith, has.1, read.1, there.0, there.1, there.2), λ keeps inside. let tab = there.3 keeps in cc))
     go stages.Closed margin = absurd margin
 
 -- the reads at the end of the text
@@ -66,14 +69,14 @@ pub pending_reads : (text : Text) (beside : ℕ) (old new : Reader) → new.at �
     → (stage : Stage) → HasReadAt text beside old stage → HasReadAt text beside new stage
 pending_reads text beside old new same least most stages.Begin has = (omega (arith, same, has.0), omega (arith, has.1, most))
 pending_reads text beside old new same least most stages.Onward has = (omega (arith, same, has.0, least), omega (arith, same, has.1, most))
-pending_reads text beside old new same least most (stages.Fault begin fault end) has = (omega (arith, has.0, least), λ node is. omega (arith, has.1 node is, most))
+pending_reads text beside old new same least most (stages.Fault begin fault end) has = (omega (arith, has.0, least), λ node is. let there = has.1 node is in (omega (arith, there.0, most), λ keeps inside. omega (arith, there.1 keeps inside, most)))
 pending_reads text beside old new same least most stages.Closed has = (omega (arith, has.0, least), omega (arith, has.1, most))
 
 -- the bound holds with more reads beside those of the pieces
 pub read_more : (text : Text) (beside more : ℕ) (reader : Reader) → beside ≤ more → (stage : Stage) → HasReadAt text beside reader stage → HasReadAt text more reader stage
 read_more text beside more reader less stages.Begin has = has
 read_more text beside more reader less stages.Onward has = (has.0, omega (arith, less, has.1))
-read_more text beside more reader less (stages.Fault begin fault end) has = (has.0, λ node is. omega (arith, less, has.1 node is))
+read_more text beside more reader less (stages.Fault begin fault end) has = (has.0, λ node is. let there = has.1 node is in (omega (arith, less, there.0), λ keeps inside. omega (arith, less, there.1 keeps inside)))
 read_more text beside more reader less stages.Closed has = (has.0, omega (arith, less, has.1))
 
 -- lookahead that takes nothing counts beside the reads of the pieces
@@ -140,5 +143,5 @@ reads_ahead text reader reads stage lexemes fault ahead =
     by_stage : (stage : Stage) → IsLeft text reader stage ahead.left → IsLeft text (record reader { reads = reads }) stage ahead.left
     by_stage stages.Begin left = left
     by_stage stages.Onward left = (left.0, state_reads text left.0 reader reads left.1, left.2)
-    by_stage (stages.Fault begin fault end) left = left
+    by_stage (stages.Fault begin fault end) left = (left.0, left.1, left.2, left.3, left.4, λ untabbed. state_reads text (history_of text) reader reads (left.5 untabbed))
     by_stage stages.Closed left = (left.0, state_reads text (history_of text) reader reads left.1)

@@ -8,7 +8,8 @@ use Rattle.starlark_token.specs.Lexemes.{fault_view}
 use Rattle.starlark_token.specs.declared.lexeme_error.LexemeError.{LexemeError}
 use Rattle.starlark_reader.specs.Inner.ReadBounds.{is_tab_error, is_tab_view}
 use Rattle.starlark_reader.specs.Searches.{search_reads}
-use Rattle.starlark_reader.proofs.NextLines.{next_line_drop, next_line_later, restart_end, restart_line, stopped_begin, stopped_end}
+use Rattle.starlark_grammar.proofs.Found.FoundItems.{stopped_past}
+use Rattle.starlark_reader.proofs.NextLines.{next_line_drop, next_line_later, restart_end, restart_line, stopped_end}
 
 -- the search after the fault of a tab, and after another
 pub tab_search : (text : Text) (fault : Spanned Fault) → is_tab fault.node ≡ true → search_reads text fault ≡ 5 * (restart text fault - fault.begin + 1)
@@ -43,6 +44,6 @@ step_search text at begin end error node view here inside = by (is_tab_error err
     by false is =
         let search = other_search text fault (sym is) in
         let after = fault_restart text at begin end node here inside in
-        let first : at + begin ≤ stopped_at text fault = stopped_begin text fault in
+        let first : at + begin ≤ stopped_at text fault = stopped_past text fault in
         let last : at + end - 1 ≤ stopped_at text fault = stopped_end text fault in
         omega (arith, search, after, first, last)

@@ -3,7 +3,7 @@ use Rattle.std.proofs.Common.{◌≡◌, ℕ, zero, suc, ◌+◌, ◌≤◌, ◌
 use Rattle.std.specs.Prelude.{⊤, ◌==◌, ◌&&◌, if◌then◌else◌, count_by, option_to_list, replicate, sum_by}
 use Rattle.std.specs.List.{AllByRecursion}
 use Rattle.std.specs.Str.{IsCharBoundary, IsUtf8}
-use Rattle.std.proofs.lemmas.Bool.{and_parts, eqb-true}
+use Rattle.std.proofs.lemmas.Bool.{and_parts, both_ways, eqb-true, false_from_ne_true}
 use Rattle.std.proofs.lemmas.List.Sums.{sum_by-cons}
 use Rattle.std.proofs.lemmas.List.{length-drop, length-map, map-append}
 use Rattle.std.proofs.lemmas.Str.{IsCharBoundary-start, IsUtf8-drop}
@@ -21,7 +21,7 @@ use Rattle.starlark_reader.specs.Inner.Pending.{IsIdle, IsPending, lines_between
 use Rattle.starlark_reader.specs.Inner.Nesting.{Represents, bracket_count, change_by}
 use Rattle.starlark_reader.specs.Inner.MarginCuts.{IsAfterLines, IsCutBefore}
 use Rattle.starlark_reader.specs.Inner.MarginLines.{IsOfMargin}
-use Rattle.starlark_reader.specs.Inner.Reader.{begins_with_tab, has_read_none, IsAhead, IsAheadAfter, IsAheadPast, IsCutAhead, HoldsCuts, IsInFlatMargin, IsReached, IsReadTo, IsStateAfter, IsLeft, IsRead, IsReadPast, before_view, history_from, history_of, left_here, left_to_read, remaining_outcome, step_here}
+use Rattle.starlark_reader.specs.Inner.Reader.{HoldsCuts, IsAhead, IsAheadAfter, IsAheadPast, IsCutAhead, IsInFlatMargin, IsLeft, IsReached, IsRead, IsReadPast, IsReadTo, IsStateAfter, IsStateAtFault, before_view, begins_with_tab, has_read_none, history_from, history_of, left_here, left_to_read, remaining_outcome, step_here}
 use Rattle.starlark_token.specs.TokenViews.{TokenView, Whole, token_view}
 use Rattle.starlark_token.specs.declared.lexeme_error.LexemeError.{LexemeError}
 use Rattle.starlark_reader.specs.declared.nesting.Nesting.{Nesting}
@@ -37,7 +37,7 @@ use Rattle.starlark_reader.proofs.TakenMargins.CommentLines.{margin_comments}
 use Rattle.starlark_grammar.proofs.Order.Edges.{boundary_shift}
 use Rattle.starlark_grammar.proofs.Lists.{drop-sum}
 use Rattle.starlark_reader.proofs.TakenPieces.Here.{IsHere, after_some, kept_here}
-use Rattle.starlark_reader.proofs.TakenPieces.Onward.{GoesOn, first_fails, first_stands, history_ends, history_first, history_onward, margin_first, onward_ends, onward_fails, onward_stands}
+use Rattle.starlark_reader.proofs.TakenPieces.Onward.{GoesOn, first_fails, first_stands, history_ends, history_fails, history_first, history_onward, margin_first, onward_ends, onward_fails, onward_stands}
 use Rattle.starlark_grammar.proofs.Reading.Readings.{one_least, piece_fits, started}
 use Rattle.starlark_grammar.proofs.Joining.Tabs.{margin_tab, tab, tab_of}
 use Rattle.starlark_reader.proofs.OpenBrackets.OpenFStrings.{keeps, one_kept}
@@ -247,14 +247,10 @@ not_zero (suc n) some = go (suc n == 0) refl
 
 -- a first margin without fault has no tab before content
 pub no_tab : (text : Text) (piece : Piece) → first_margin text ≡ Stands piece → begins_with_tab text ≡ false
-no_tab text piece stands = go (begins_with_tab text) refl
-  where
-    go : (tabbed : Bool) → begins_with_tab text ≡ tabbed → tabbed ≡ false
-    go false e = refl
-    go true e =
-        let parts = and_parts (is_content (margin_of text).remainder) (has_tab (margin_of text)) e in
-        let both : Stands piece ≡ Fails tab = sym stands ∙ margin_tab 0 [] [] (margin_of text) (record { content = parts.0; is = parts.1 }) in
-        cc
+no_tab text piece stands = false_from_ne_true (begins_with_tab text) (λ e.
+    let parts = and_parts (is_content (margin_of text).remainder) (has_tab (margin_of text)) e in
+    let both : Stands piece ≡ Fails tab = sym stands ∙ margin_tab 0 [] [] (margin_of text) (record { content = parts.0; is = parts.1 }) in
+    cc)
 
 -- where something was read, the first margin has no tab before content
 state_begun : (text : Text) (history : History) (reader : Reader) → IsStateAfter text history reader → has_read_none reader ≡ begins_with_tab text
@@ -284,11 +280,11 @@ same_place old new at before = ap (λ n. n == 0 && not (is_layout (before_view n
 -- a fault was read, by the lexemes before it
 read_fault : (text : Text) (whole : Outcome) (at : ℕ) (lexemes : List Lexeme) (new : Reader) (fault : Spanned grammar.Fault) (error : LexemeError) → whole ≡ record { lexemes = lexemes; fault = Some (moved at fault) }
     → fault_view error ≡ Some fault.node → new.stage ≡ stage.Fault (at + fault.begin) error (at + fault.end) → Hands text None new.pending lexemes → has_read_none new ≡ begins_with_tab text
-    → new.at ≤ length text → ((x remainder : ℕ) → IsCutBefore text x remainder → remainder < length lexemes → ⊥) → IsRead text whole None new
-read_fault text whole at lexemes new fault error left view is hands place inside none = record {
+    → new.at ≤ length text → IsStateAtFault text new → ((x remainder : ℕ) → IsCutBefore text x remainder → remainder < length lexemes → ⊥) → IsRead text whole None new
+read_fault text whole at lexemes new fault error left view is hands place inside state none = record {
   lexemes = lexemes;
   left = record { lexemes = []; fault = Some (moved at fault) };
-  is_left = subst (λ now. IsLeft text new now (record { lexemes = []; fault = Some (moved at fault) })) (sym is) (fault.node, view, refl, place, inside);
+  is_left = subst (λ now. IsLeft text new now (record { lexemes = []; fault = Some (moved at fault) })) (sym is) (fault.node, view, refl, place, inside, state);
   parts = ap (λ (o : Outcome). o.lexemes) left ∙ sym (append-nil lexemes);
   fault = ap (λ (o : Outcome). o.fault) left;
   is_pending = hands.0;
@@ -298,9 +294,12 @@ read_fault text whole at lexemes new fault error left view is hands place inside
 }
 
 pub failed : (text : Text) (history : History) (old new : Reader) (fault : Spanned grammar.Fault) (error : LexemeError) → IsStateAfter text history old → step_here text history old ≡ Fails fault → fault_view error ≡ Some fault.node
-    → new.stage ≡ stage.Fault (old.at + fault.begin) error (old.at + fault.end) → Hands text None new.pending [] → new.at ≡ old.at → new.before ≡ old.before → IsRead text (left_here text history old) None new
-failed text history old new fault error kept fails view is hands at before =
-    read_fault text (left_here text history old) old.at [] new fault error (onward_fails history old.at (drop old.at text) fault (begun text history old kept) fails) view is hands (same_place old new at before ∙ state_begun text history old kept) (omega (arith, at, kept.inside)) (λ x remainder cut most. omega (arith, most))
+    → new.stage ≡ stage.Fault (old.at + fault.begin) error (old.at + fault.end) → Hands text None new.pending [] → IsHere old new → IsRead text (left_here text history old) None new
+failed text history old new fault error kept fails view is hands here =
+    let whole = sym (history_fails history (drop old.at text) fault (begun text history old kept) fails) ∙ kept.onward in
+    let now = kept_here text history old new here kept in
+    read_fault text (left_here text history old) old.at [] new fault error (onward_fails history old.at (drop old.at text) fault (begun text history old kept) fails) view is hands
+    (same_place old new here.at here.before ∙ state_begun text history old kept) now.inside (λ untabbed. subst (λ (h : History). IsStateAfter text h new) whole now) (λ x remainder cut most. omega (arith, most))
 
 pub failed_first : (text : Text) (new : Reader) (fault : Spanned grammar.Fault) (error : LexemeError) → first_margin text ≡ Fails fault → fault_view error ≡ Some fault.node
     → new.stage ≡ stage.Fault (0 + fault.begin) error (0 + fault.end) → Hands text None new.pending (margin_of text).comments → new.at ≡ 0 → new.before ≡ sort.Other → IsRead text (outcome text) None new
@@ -308,7 +307,7 @@ failed_first text new fault error fails view is hands at before =
     let has = tab_of (margin_of text) fault fails in
     let tabbed : begins_with_tab text ≡ true = rw (has.content, has.is) refl in
     let none : has_read_none new ≡ true = rw (at, before) refl in
-    read_fault text (outcome text) 0 (margin_of text).comments new fault error (first_fails text fault fails) view is hands (none ∙ sym tabbed) (omega (arith, at)) (λ x remainder cut most. none_at_fault text fault fails x remainder cut)
+    read_fault text (outcome text) 0 (margin_of text).comments new fault error (first_fails text fault fails) view is hands (none ∙ sym tabbed) (omega (arith, at)) (λ untabbed. absurd (both_ways _ untabbed tabbed)) (λ x remainder cut most. none_at_fault text fault fails x remainder cut)
 
 -- The text's end
 
@@ -451,9 +450,10 @@ module _ (text : Text) (history : History) (old : Reader) (len : ℕ) (kept : Is
       (rw nesting (quiet_kept taken.piece.lexemes history.tokens old.nesting layout.tokens kept.nesting)) taken.open_now (ap before_view before ∙ sym layout.sort) (is_at ∙ ap (λ n. old.at + n) (sym taken.whole)) (rw nesting few) is_onward hands
 
   pub line_refused : (new : Reader) (error : LexemeError) (end : ℕ) → IsRefused text (line_end len (open_widths history.widths) (drop (old.at + len) text)) [] history.widths new.levels new.pending error end
-      → new.stage ≡ stage.Fault (old.at + 0) error (old.at + end) → new.at ≡ old.at → new.before ≡ old.before → IsRead text (left_here text history old) None new
-  line_refused new error end refused is at before =
-      failed text history old new (record { begin = 0; node = refused.node; end = end }) error kept (line_here ∙ refused.stands) refused.is is (hands_later text new.pending [] refused.is_pending refused.lexemes) at before
+      → new.stage ≡ stage.Fault (old.at + 0) error (old.at + end) → new.at ≡ old.at → new.nesting ≡ old.nesting → new.before ≡ old.before → IsRead text (left_here text history old) None new
+  line_refused new error end refused is at nesting before =
+      failed text history old new (record { begin = 0; node = refused.node; end = end }) error kept (line_here ∙ refused.stands) refused.is is (hands_later text new.pending [] refused.is_pending refused.lexemes)
+      (record { at = at; nesting = nesting; levels = refused.open_now ∙ sym kept.levels; before = before })
 
 -- a reader that has read nothing
 pub record IsNew (reader : Reader) : Type 0 where

@@ -1,6 +1,8 @@
 -- Numbers of reads of bytes, by what was read.
-use Rattle.std.specs.Prelude.{◌≡◌, ◌≤◌, ◌<◌, ◌+◌, ◌-◌, ◌*◌, if◌then◌else◌, Bool, true, false, ℕ, Option, None, Some, length, max}
-use Rattle.starlark_grammar.specs.AfterFaults.{is_tab, next_line, restart}
+use Rattle.std.specs.Prelude.{◌≡◌, ◌≤◌, ◌<◌, ◌+◌, ◌-◌, ◌*◌, if◌then◌else◌, Bool, true, false, ℕ, Option, None, Some, length, max, ⊤}
+use Rattle.starlark_grammar.specs.AfterFaults.{is_margin_tab, is_tab, next_line, restart}
+use Rattle.starlark_grammar.specs.Inner.KeptFaults.{may_keep}
+use Rattle.starlark_grammar.specs.Repairs.{repair_end}
 use Rattle.starlark_grammar.specs.Tokens.{Fault, Spanned}
 use Rattle.starlark_grammar.specs.Words.{Text}
 use Rattle.starlark_token.specs.Lexemes.{fault_view}
@@ -82,6 +84,17 @@ AreReadsAfter passed factor line extra (piece.FString opening len) before after 
 AreReadsAfter passed factor line extra (piece.Lexed step) before after = AreWordReads passed factor 2 line extra step before after
 AreReadsAfter passed factor line extra piece.End before after = ⊥
 
+-- the fault is as `P` says, as the grammar sees it
+abbrev pub AtFault : ℕ → LexemeError → ℕ → (Spanned Fault → Type 0) → Type 0
+AtFault begin fault end P = (node : Fault) → fault_view fault ≡ Some node → P (record { begin = begin; node = node; end = end })
+
+-- reads up to a fault that may keep its line, after `spent` others, leave one for each byte of its
+-- repair and one more: all are at most ten for each of these bytes
+abbrev pub LeavesReads : (spent : ℕ) → Text → Piece → (before after : ℕ) → Type 0
+LeavesReads spent text (piece.Lexed (step.Fault begin fault end)) before after =
+    AtFault begin fault end (λ spanned. may_keep spanned.node ≡ true → after + spent + (repair_end text spanned - begin) + 1 ≤ before + 10 * (repair_end text spanned - begin))
+LeavesReads spent text piece before after = ⊤
+
 -- the reader advanced to byte `at`, and read nothing
 abbrev pub IsPassedBy : ℕ → Reader → Reader → Type 0
 IsPassedBy at old new = (new.at ≡ at) × (new.reads ≡ old.reads) × (owed new.pending ≤ owed old.pending)
@@ -110,15 +123,16 @@ IsPassed old (step.Token token len) new = IsPassedBy (old.at + len) old new × (
 IsPassed old (step.Text text text_len stop len) new = IsPassedBy (old.at + (text_len + len)) old new × (new.stage ≡ stage.Onward)
 IsPassed old (step.Fault begin fault end) new = IsPassedBy old.at old new × (new.stage ≡ stage.Fault (old.at + begin) fault (old.at + end))
 
--- the fault is as `P` says, as the grammar sees it
-abbrev pub AtFault : ℕ → LexemeError → ℕ → (Spanned Fault → Type 0) → Type 0
-AtFault begin fault end P = (node : Fault) → fault_view fault ≡ Some node → P (record { begin = begin; node = node; end = end })
-
 -- reads at a fault and in the search after it, at most: ten for each byte up to where lexing begins
 -- again and ten more, beside `beside` others; or sixteen and sixteen more with no others, as in a
 -- text's first margin
 abbrev pub most_reads_to : Text → (beside : ℕ) → Spanned Fault → ℕ
 most_reads_to text beside fault = max (beside + 10 * (restart text fault + 1)) (16 * (restart text fault + 1))
+
+-- reads at a fault that keeps its line leave one for each byte of its repair and one more: all are
+-- at most ten for each byte up to the repair's end and two more, beside `beside` others
+abbrev pub LeavesRepair : (text : Text) (beside : ℕ) → Spanned Fault → (reads : ℕ) → Type 0
+LeavesRepair text beside fault reads = may_keep fault.node ≡ true → is_margin_tab text fault ≡ false → reads + (repair_end text fault - fault.begin) + 1 ≤ beside + 10 * repair_end text fault + 2
 
 -- the margin after a newline of `len` bytes was read; at its fault, the bound includes the search
 abbrev pub IsMarginRead : Text → ℕ → Reader → Reader → Stage → Type 0
@@ -126,16 +140,16 @@ IsMarginRead text len old new stage.Onward =
     AreReads (new.at - (old.at + len)) (5 * (new.at - (old.at + len)) + 2) old.reads new.reads × (old.at + len + owed new.pending ≤ new.at)
 IsMarginRead text len old new (stage.Fault begin fault end) =
     (begin ≡ old.at) × (more_reads old.reads 0 ≤ new.reads)
-    × AtFault begin fault end (λ spanned. (new.reads + search_reads text spanned + 5 * len ≤ old.reads + 10 * (restart text spanned - old.at) + 5) × (owed new.pending ≡ 0) × (old.at ≤ restart text spanned))
+    × AtFault begin fault end (λ spanned. (new.reads + search_reads text spanned + 5 * len ≤ old.reads + 10 * (restart text spanned - old.at) + 5) × (owed new.pending ≡ 0) × (old.at ≤ restart text spanned) × (may_keep spanned.node ≡ true → is_margin_tab text spanned ≡ true))
 IsMarginRead text len old new stage = ⊥
 
 -- the reads at a stage: one to ten for each byte passed, and `beside` others; at a fault one or more
 -- for each byte before it; the upper bound includes five for each byte of pending comments, and at a
--- fault the search after it
+-- fault the search after it, or its repair
 abbrev pub HasReadAt : (text : Text) (beside : ℕ) → Reader → Stage → Type 0
 HasReadAt text beside reader stage.Begin = (reader.at ≡ 0) × (reader.reads + 5 * owed reader.pending ≡ 0)
 HasReadAt text beside reader stage.Onward = (more_reads 0 reader.at ≤ reader.reads) × (reader.reads + 5 * owed reader.pending ≤ beside + 10 * reader.at + 2)
-HasReadAt text beside reader (stage.Fault begin fault end) = (more_reads 0 begin ≤ reader.reads) × AtFault begin fault end (λ spanned. reader.reads + search_reads text spanned + 5 * owed reader.pending ≤ most_reads_to text beside spanned)
+HasReadAt text beside reader (stage.Fault begin fault end) = (more_reads 0 begin ≤ reader.reads) × AtFault begin fault end (λ spanned. (reader.reads + search_reads text spanned + 5 * owed reader.pending ≤ most_reads_to text beside spanned) × LeavesRepair text beside spanned (reader.reads + 5 * owed reader.pending))
 HasReadAt text beside reader stage.Closed = (more_reads 0 (length text) ≤ reader.reads) × (reader.reads + 5 * owed reader.pending ≤ beside + 10 * length text + 9)
 
 abbrev pub HasRead : (text : Text) (beside : ℕ) → Reader → Type 0
@@ -143,5 +157,5 @@ HasRead text beside reader = HasReadAt text beside reader reader.stage
 
 -- the reads after the last lexeme, when the fault was taken or there is none
 abbrev pub HasReadLast : (text : Text) (beside : ℕ) → Option (ℕ × LexemeError × ℕ) → Reader → Type 0
-HasReadLast text beside (Some found) reader = (more_reads 0 found.0 ≤ reader.reads) × AtFault found.0 found.1 found.2 (λ spanned. reader.reads + search_reads text spanned ≤ most_reads_to text beside spanned)
+HasReadLast text beside (Some found) reader = (more_reads 0 found.0 ≤ reader.reads) × AtFault found.0 found.1 found.2 (λ spanned. (reader.reads + search_reads text spanned ≤ most_reads_to text beside spanned) × LeavesRepair text beside spanned reader.reads)
 HasReadLast text beside None reader = HasRead text beside reader × (more_reads 0 (length text) ≤ reader.reads) × (reader.reads < beside + 10 * (length text + 1))

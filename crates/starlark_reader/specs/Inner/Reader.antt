@@ -87,6 +87,10 @@ pub record IsStateAfter (text : Text) (history : History) (reader : Reader) : Ty
 abbrev pub begins_with_tab : Text → Bool
 begins_with_tab text = is_content (margin_of text).remainder && has_tab (margin_of text)
 
+-- at a fault the reader stores what the history of all pieces says, unless the fault is in the first margin
+abbrev pub IsStateAtFault : Text → Reader → Type 0
+IsStateAtFault text reader = begins_with_tab text ≡ false → IsStateAfter text (history_of text) reader
+
 -- whether no piece of a text was read
 abbrev pub has_read_none : Reader → Bool
 has_read_none reader = reader.at == 0 && not (is_layout (before_view reader.before))
@@ -96,7 +100,7 @@ has_read_none reader = reader.at == 0 && not (is_layout (before_view reader.befo
 abbrev pub IsLeft : Text → Reader → Stage → grammar.Outcome → Type 0
 IsLeft text reader stage.Begin left = (left ≡ outcome text) × (reader.at ≡ 0) × (Represents [] reader.nesting) × (reader.levels ≡ []) × (bracket_count reader.nesting ≡ 0) × (reader.before ≡ before.Other)
 IsLeft text reader stage.Onward left = (history : History) × IsStateAfter text history reader × (left ≡ remaining_outcome history reader.at (drop reader.at text))
-IsLeft text reader (stage.Fault begin fault end) left = (node : grammar.Fault) × (fault_view fault ≡ Some node) × (left ≡ record { lexemes = []; fault = Some (record { begin = begin; node = node; end = end }) }) × (has_read_none reader ≡ begins_with_tab text) × (reader.at ≤ length text)
+IsLeft text reader (stage.Fault begin fault end) left = (node : grammar.Fault) × (fault_view fault ≡ Some node) × (left ≡ record { lexemes = []; fault = Some (record { begin = begin; node = node; end = end }) }) × (has_read_none reader ≡ begins_with_tab text) × (reader.at ≤ length text) × IsStateAtFault text reader
 IsLeft text reader stage.Closed left = (left ≡ record { lexemes = []; fault = None }) × IsStateAfter text (history_of text) reader
 
 -- in a flat margin, if `pending.from` isn't the text's end: all lexemes before that byte were
@@ -201,7 +205,7 @@ IsRaw fault found = (found.0 ≡ fault.begin) × (fault_view found.1 ≡ Some fa
 
 -- what is returned after the last lexeme: the fault, if there is one
 abbrev pub IsLast : Text → List (grammar.Spanned TokenView) → Option (grammar.Spanned grammar.Fault) → Option (ℕ × LexemeError × ℕ) → Reader → Type 0
-IsLast text lexemes fault (Some found) reader = (lexemes ≡ []) × ((it : grammar.Spanned grammar.Fault) × (fault ≡ Some it) × IsRaw it found) × (has_read_none reader ≡ begins_with_tab text)
+IsLast text lexemes fault (Some found) reader = (lexemes ≡ []) × ((it : grammar.Spanned grammar.Fault) × (fault ≡ Some it) × IsRaw it found) × (has_read_none reader ≡ begins_with_tab text) × IsStateAtFault text reader
 IsLast text lexemes fault None reader = (lexemes ≡ []) × (fault ≡ None) × IsAhead text reader reader.stage [] None × IsStateAfter text (history_of text) reader
 
 -- the reader is in code or in an f-string expression

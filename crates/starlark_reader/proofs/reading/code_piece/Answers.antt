@@ -1,4 +1,4 @@
-use Rattle.std.proofs.Common.{◌≡◌, ℕ, Some, ap, sym, ◌∙◌, ◌+◌, ◌*◌, ◌≤◌, length, take, drop, arith}
+use Rattle.std.proofs.Common.{◌≡◌, ℕ, Some, ap, subst, sym, ◌∙◌, ◌+◌, ◌*◌, ◌≤◌, length, take, drop, arith}
 use Rattle.std.specs.Str.{IsUtf8, IsCharBoundary}
 use Rattle.starlark_grammar.specs.AfterFaults.{next_line}
 use Rattle.starlark_grammar.specs.Front.{language_front}
@@ -11,6 +11,8 @@ use Rattle.starlark_words.specs.Inner.Reads.{AreReads}
 use Rattle.starlark_reader.proofs.ReadLiterals.LiteralPieces.{if_ok}
 use Rattle.starlark_reader.proofs.NextLines.{front_line}
 use Rattle.starlark_reader.proofs.TakenPieces.PieceReads.{none_reads, piece_reads}
+use Rattle.starlark_reader.specs.Inner.ReadBounds.{LeavesReads}
+use Rattle.starlark_reader.proofs.TakenPieces.RepairReads.{front_leaves}
 use Rattle.starlark_reader.proofs.TakenPieces.CodePlaces.{in_code_front}
 use Rattle.starlark_reader.proofs.reading.code_piece.Goals as goal
 
@@ -60,3 +62,11 @@ returns-in-None-clause-piece c = if_ok _ _ c.wordless_piece.result (λ piece is 
 
 pub returns-in-None-clause-reads : goal.returns-in-None-clause-reads
 returns-in-None-clause-reads c = if_ok _ _ c.wordless_piece.result (λ piece is. none_reads c.args.text.now piece _ _ _ c.requires.some c.in-None.ensures.reads is) c.wordless_piece.ensures.reads
+
+pub returns-in-Some-clause-leaves : goal.returns-in-Some-clause-leaves
+returns-in-Some-clause-leaves c =
+    let text = c.args.text.now in
+    let front = c.split_at.result.0.now in
+    let read : c.first_word.new.reads ≤ c.args.reads.now + (5 * length front + 3) = omega (arith, c.in-Some.ensures.reads, c.split_at.ensures.front_len) in
+    if_ok _ _ c.word_piece.result (λ piece leaves. front_leaves c.in-Some.word.len (5 * length front + 3) text piece c.args.reads.now c.first_word.new.reads c.word_piece.new.reads read
+    (subst (λ (t : Text). LeavesReads (5 * length front + 3) t piece c.first_word.new.reads c.word_piece.new.reads) c.split_at.ensures.front leaves)) c.word_piece.ensures.leaves

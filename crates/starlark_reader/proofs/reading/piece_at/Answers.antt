@@ -3,7 +3,7 @@ use Rattle.std.specs.Prelude.{◌==◌}
 use Rattle.starlark_grammar.specs.AfterFaults.{next_line}
 use Rattle.starlark_grammar.specs.Inner.Openings.{opening_view}
 use Rattle.starlark_reader.specs.Inner.Nesting.{mode_view}
-use Rattle.starlark_grammar.specs.Pieces.{Situation, Ends, in_code, by_mode, step_at}
+use Rattle.starlark_grammar.specs.Pieces.{Situation, Ends, chunk, in_code, by_mode, step_at}
 use Rattle.starlark_reader.specs.Inner.PieceViews.{IsAfter}
 use Rattle.starlark_grammar.specs.Words.{Text, language}
 use Rattle.starlark_grammar.specs.declared.class.Opening as code
@@ -11,6 +11,7 @@ use Rattle.starlark_reader.specs.declared.nesting.LexerMode.{LexerMode}
 use Rattle.starlark_reader.specs.declared.nesting.LexerMode.TheVariants as modes
 use Rattle.starlark_reader.proofs.ReadLiterals.LiteralPieces.{if_ok}
 use Rattle.starlark_reader.proofs.TakenPieces.PieceReads.{chunk_reads}
+use Rattle.starlark_reader.proofs.TakenPieces.RepairReads.{chunk_keeps_none, no_repair}
 use Rattle.starlark_reader.proofs.TakenPieces.CodePlaces.{by_read, in_text}
 use Rattle.starlark_reader.proofs.reading.piece_at.Goals as goal
 
@@ -43,3 +44,8 @@ returns-clause-piece c = if_ok _ _ c.code_piece.result (λ piece is s here balan
 
 pub returns-in-InText-clause-reads : goal.returns-in-InText-clause-reads
 returns-in-InText-clause-reads c = chunk_reads (next_line c.args.text.now 0) c.in_ok-chunk_from.field-0 _ _ c.in_ok-chunk_from.ensures.reads
+
+pub returns-in-InText-clause-leaves : goal.returns-in-InText-clause-leaves
+returns-in-InText-clause-leaves c =
+    let opening = opening_view c.in-InText.opening in
+    no_repair 0 c.args.text.now (chunk opening c.args.text.now) c.in_ok-chunk_from.field-0 _ _ c.in_ok-chunk_from.ensures.step (chunk_keeps_none opening c.args.text.now)

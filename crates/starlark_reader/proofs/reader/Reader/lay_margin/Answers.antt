@@ -23,7 +23,7 @@ returns-then-not-branch-clause-read c = λ history kept stands.
     let refused = end_refused c.args.text.now c.args.self.now.at c.args.len c.args.self.now.levels c.take_margin.new.levels history.widths c.args.margin c.nothing-self.result kept.levels margin _ _ left (c.nothing-self.ensures c.args.text.now)
     c.margin_fault-fault.result.0 c.margin_fault-fault.result.1 (c.margin_fault-fault.ensures seen margin) in
     line_refused c.args.text.now history c.args.self.now c.args.len kept stands c.refuse.new.self c.margin_fault-fault.result.0 c.margin_fault-fault.result.1 (rw new refused)
-    (ap (λ (reader : Reader). reader.stage) new) (ap (λ (reader : Reader). reader.at) new) (ap (λ (reader : Reader). reader.before) new)
+    (ap (λ (reader : Reader). reader.stage) new) (ap (λ (reader : Reader). reader.at) new) (ap (λ (reader : Reader). reader.nesting) new) (ap (λ (reader : Reader). reader.before) new)
 
 pub returns-clause-read : goal.returns-clause-read
 unfolding token_view

@@ -2,7 +2,7 @@ use Rattle.std.proofs.Common.{◌≡◌, ◌+◌, ap, arith, drop, length, subst
 use Rattle.std.proofs.lemmas.List.{length-drop}
 use Rattle.starlark_grammar.specs.Words.{Text}
 use Rattle.starlark_grammar.specs.AfterFaults.{next_line}
-use Rattle.starlark_reader.specs.Inner.ReadBounds.{ArePieceReads, AreStepReads}
+use Rattle.starlark_reader.specs.Inner.ReadBounds.{ArePieceReads, AreStepReads, LeavesReads}
 use Rattle.starlark_reader.specs.declared.reading.Piece.{Piece}
 use Rattle.starlark_reader.proofs.TakenPieces.ReaderReads.{end_reads, line_reads, onward_reads, state_reads, step_reads}
 use Rattle.std.proofs.lemmas.Result.{IfOk-weaker, on_ok_weaker}
@@ -113,7 +113,10 @@ returns-in-Lexed-clause-reads c = λ beside has.
     let stands : IsPiece (open_widths left.0.widths) (drop c.args.self.now.at c.args.text.now) (step_here c.args.text.now left.0 c.args.self.now) (piece.Lexed c.in-Lexed.step) = subst (IsPiece (open_widths left.0.widths) (drop c.args.self.now.at c.args.text.now) (step_here c.args.text.now left.0 c.args.self.now)) c.in-Lexed.is (piece_read c.args.text.now left.0 c.args.self.now c.mode-mode.result c.is_balanced-is_balanced.result c.follows_gap-follows_gap.result c.range_from-rest.result.now c.in_ok-piece.piece c.range_from-rest.ensures.value left.1 c.mode-mode.ensures c.is_balanced-is_balanced.ensures c.follows_gap-follows_gap.ensures c.in_ok-piece.ensures.piece) in
     let read = subst (λ (p : Piece). ArePieceReads 10 6 c.range_from-rest.result.now p c.args.self.now.reads c.piece_at.new.reads) c.in-Lexed.is c.in_ok-piece.ensures.reads in
     let step : AreStepReads 0 10 (next_line (drop c.args.self.now.at c.args.text.now) 0) 6 c.in-Lexed.step c.args.self.now.reads c.piece_at.new.reads = rw (← c.range_from-rest.ensures.value) read in
-    step_reads c.args.text.now beside c.args.self.now.reads left.0 c.in-Lexed.step (record c.args.self.now { reads = c.piece_at.new.reads }) c.take.new.self (state_reads c.args.text.now left.0 c.args.self.now c.piece_at.new.reads left.1) stands has step c.take.ensures.passed
+    let leaves : LeavesReads 0 (drop c.args.self.now.at c.args.text.now) (piece.Lexed c.in-Lexed.step) c.args.self.now.reads c.piece_at.new.reads =
+    subst (λ (t : Text). LeavesReads 0 t (piece.Lexed c.in-Lexed.step) c.args.self.now.reads c.piece_at.new.reads) c.range_from-rest.ensures.value
+    (subst (λ (p : Piece). LeavesReads 0 c.range_from-rest.result.now p c.args.self.now.reads c.piece_at.new.reads) c.in-Lexed.is c.in_ok-piece.ensures.leaves) in
+    step_reads c.args.text.now beside c.args.self.now.reads left.0 c.in-Lexed.step (record c.args.self.now { reads = c.piece_at.new.reads }) c.take.new.self (state_reads c.args.text.now left.0 c.args.self.now c.piece_at.new.reads left.1) stands has step leaves c.take.ensures.passed
 
 pub returns-in-End-clause-reads : goal.returns-in-End-clause-reads
 returns-in-End-clause-reads c = λ beside has.

@@ -24,4 +24,4 @@ refuse-requires-clause-end c =
 pub returns-in-Fault-clause-read : goal.returns-in-Fault-clause-read
 returns-in-Fault-clause-read c = λ history kept stands.
     let fails : IsStep (step_here c.args.text.now history c.args.self.now) (step.Fault c.in-Fault.begin c.in-Fault.fault c.in-Fault.end) = subst (IsStep (step_here c.args.text.now history c.args.self.now)) c.in-Fault.is stands in
-    rw c.refuse.ensures (failed c.args.text.now history c.args.self.now _ (record { begin = c.in-Fault.begin; node = fails.0; end = c.in-Fault.end }) c.in-Fault.fault kept fails.2 fails.1 refl (hands_none c.args.text.now c.args.self.now.pending c.requires.idle) refl refl)
+    rw c.refuse.ensures (failed c.args.text.now history c.args.self.now _ (record { begin = c.in-Fault.begin; node = fails.0; end = c.in-Fault.end }) c.in-Fault.fault kept fails.2 fails.1 refl (hands_none c.args.text.now c.args.self.now.pending c.requires.idle) (record { at = refl; nesting = refl; levels = refl; before = refl }))

@@ -4,7 +4,7 @@ use Rattle.starlark_reader.proofs.reader.Reader.take_fault.Goals as goal
 
 pub returns-in-Fault-clause-last : goal.returns-in-Fault-clause-last
 returns-in-Fault-clause-last c = λ text lexemes fault end ahead.
-    fault_next text c.args.self.now lexemes fault c.in-Fault.begin c.in-Fault.fault c.in-Fault.end end.0 (sym c.replace.ensures.value ∙ c.in-Fault.is) ahead
+    fault_next text c.args.self.now _ lexemes fault c.in-Fault.begin c.in-Fault.fault c.in-Fault.end (record { at = refl; nesting = refl; levels = refl; before = refl }) end.0 (sym c.replace.ensures.value ∙ c.in-Fault.is) ahead
 
 pub returns-in_default-clause-last : goal.returns-in_default-clause-last
 returns-in_default-clause-last c = λ text lexemes fault end ahead.
