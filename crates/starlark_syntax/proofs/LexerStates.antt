@@ -3,11 +3,13 @@ use Rattle.std.proofs.Common.{◌≡◌, ◌<◌, ◌≤◌, ◌+◌, ◌*◌, �
 use Rattle.starlark_base.specs.Diagnostics.{Diagnosed}
 use Rattle.starlark_base.specs.Sources.{SourceFile}
 use Rattle.std.specs.Option.{is_some}
-use Rattle.std.specs.Prelude.{◌&&◌, Bool, not}
+use Rattle.std.specs.Prelude.{◌&&◌, Bool, List, drop, map, not}
+use Rattle.std.proofs.lemmas.List.{length-drop, length-map}
+use Rattle.starlark_token.specs.TokenViews.{TokenView}
 use Rattle.starlark_grammar.proofs.Order.Inside.{fault_within}
 use Rattle.starlark_grammar.specs.Reading.{outcome}
 use Rattle.starlark_reader.specs.Inner.Reader.{IsAhead}
-use Rattle.starlark_syntax.specs.Inner.LexerStates.{HasAnswered, HasGivenNext, HasThrown, IsLexing, StateView, has_fault, left_in, view_of}
+use Rattle.starlark_syntax.specs.Inner.LexerStates.{HasAnswered, HasGivenNext, HasThrown, IsLexing, IsLexingIn, StateView, has_fault, left_in, view_of}
 use Rattle.starlark_syntax.specs.Inner.Looked.{GoesOn, IsInReach, IsLooked}
 use Rattle.starlark_reader.specs.Inner.Reader.{IsAtEnd, IsLeft, IsOver, IsRaw, IsSomething, is_fault}
 use Rattle.starlark_reader.proofs.TakenPieces.NextLexeme.{nothing_next}
@@ -16,7 +18,7 @@ use Rattle.starlark_reader.specs.Inner.ReadBounds.{HasReadAt}
 use Rattle.starlark_reader.specs.declared.reader.Reader.{Reader}
 use Rattle.starlark_reader.specs.declared.reader.Stage.{Stage}
 use Rattle.starlark_reader.specs.declared.reader.Stage.TheVariants as stages
-use Rattle.starlark_grammar.specs.Tokens.{Fault, Outcome, Spanned}
+use Rattle.starlark_grammar.specs.Tokens.{Fault, Lexeme, Outcome, Spanned}
 use Rattle.starlark_token.specs.declared.lexeme_error.LexemeError.{LexemeError}
 use Rattle.std.proofs.lemmas.Bool.{and_parts, not-true}
 use Rattle.starlark_grammar.specs.Words.{Text}
@@ -27,7 +29,7 @@ use Rattle.starlark_syntax.specs.declared.error.kinds.ErrorKind.{ErrorKind}
 use Rattle.starlark_syntax.specs.declared.lexer_state.LexerState.{LexerState}
 use Rattle.starlark_text.specs.declared.or_memory.OrMemory.{OrMemory}
 use Rattle.starlark_text.specs.declared.or_memory.OrMemory.TheVariants.{Error, Memory}
-use Rattle.starlark_token.specs.Lexemes.{IsWithin}
+use Rattle.starlark_token.specs.Lexemes.{IsWithin, shown_lexeme}
 use Rattle.starlark_token.specs.TextItems.{LexerItem, items}
 use Rattle.starlark_token.specs.declared.tokens.Token.{Token}
 
@@ -113,6 +115,10 @@ pub thrown_read : (file : SourceFile) (state : LexerState) (refused : OrMemory (
 thrown_read file state (Error exception) new is = (is.1.most, is.1.reads)
 thrown_read file state Memory new is = tt
 
+-- where no lexeme is left, all were yielded
+pub none_dropped : (lexemes : List Lexeme) (n : ℕ) → drop n (map shown_lexeme lexemes) ≡ [] → length lexemes ≤ n
+none_dropped lexemes n none = omega (arith, ap (λ (l : List (Spanned TokenView)). length l) none, length-drop n (map shown_lexeme lexemes), length-map lexemes shown_lexeme)
+
 -- the place of a fault, by its offsets
 pub raw_place : (fault : Spanned Fault) (found : ℕ × LexemeError × ℕ) → IsRaw fault found → ◌≡◌ {A = Spanned Fault} (record { begin = found.0; node = fault.node; end = found.2 }) fault
 raw_place fault found raw = rw (raw.0, raw.2) refl
@@ -125,14 +131,17 @@ fault_going state has = not-true state.has_ended (and_parts (not state.has_ended
 read_at : (text : Text) (reader : Reader) (to beside : ℕ) (left : Outcome) → to ≤ length text + 1 → beside ≤ 6 * to → (stage : Stage) → IsLeft text reader stage left → HasReadAt text beside reader stage → reader.reads ≤ most_reads text
 read_at text reader to beside left near paid stages.Begin is has = omega (arith, near, paid, has.1)
 read_at text reader to beside left near paid stages.Onward is has = omega (arith, near, paid, has.1, is.1.inside)
-read_at text reader to beside left near paid (stages.Fault begin fault end) is has = let read = has.1 is.0 is.1 in omega (arith, near, paid, read, restart_inside text (record { begin = begin; node = is.0; end = end }))
+read_at text reader to beside left near paid (stages.Fault begin fault end) is has = let read = (has.1 is.0 is.1).0 in omega (arith, near, paid, read, restart_inside text (record { begin = begin; node = is.0; end = end }))
 read_at text reader to beside left near paid stages.Closed is has = omega (arith, near, paid, has.1)
 
-pub lexing_read : (state : LexerState) → IsLexing state → state.has_ended ≡ false → state.reader.reads ≤ most_reads state.text.now
-lexing_read state lexing going =
+pub lexing_read_in : (text : Text) (state : LexerState) → IsLexingIn text state → state.has_ended ≡ false → state.reader.reads ≤ most_reads text
+lexing_read_in text state lexing going =
     let ahead = (lexing.1 going).1 in
-    let paid = spared state.text.now state.reader state.looked_to state.lookahead (lexing.3 going) in
-    read_at state.text.now state.reader state.looked_to paid.0 ahead.left lexing.4.inside (omega (arith, paid.1)) state.reader.stage ahead.is_left paid.2
+    let paid = spared text state.reader state.looked_to state.lookahead (lexing.3 going) in
+    read_at text state.reader state.looked_to paid.0 ahead.left lexing.4.inside (omega (arith, paid.1)) state.reader.stage ahead.is_left paid.2
+
+pub lexing_read : (state : LexerState) → IsLexing state → state.has_ended ≡ false → state.reader.reads ≤ most_reads state.text.now
+lexing_read state lexing going = lexing_read_in state.text.now state lexing going
 
 -- so it is after each call that doesn't run out of memory
 pub answers_read : (old : LexerState) (answer : Option (Result (ℕ × Token × ℕ) (OrMemory (Diagnosed ErrorKind)))) (new : LexerState) → is_some answer ≡ true → old.has_ended ≡ false → HasAnswered old answer new → IsLexing new

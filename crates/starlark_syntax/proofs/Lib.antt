@@ -15,12 +15,16 @@
 -- Held: code maps: the code map of a text holds its outcome.
 -- RestartPlaces: the place: the next line begins at a character boundary.
 -- RestartReads: its reads: what a margin and the search of the next line take.
--- RecoveredItems: items: all items of a text, by its own and those of the rest.
+-- RecoveredItems: items: those of a text that are left, by its lexemes, its fault, and what is after that.
 -- NextItems: what is left: the first of it, which is answered next.
--- Lefts: what is left: before and after each answer.
+-- RepairedParts: the part of a text that is lexed, with one more repair.
+-- RecoveryStates: a lexer that goes on: what is left to it after each fault.
+-- RecoverySteps: its answers.
 -- ErrorRows: worked rows, by computing.
 -- LexerCuts: where a lexer may cut its text.
 -- Passes: a fault that was passed.
+-- MendedTexts: repairs in the copy of a text, and faults that are repaired.
+-- RepairedStates: a lexer that goes on in a repaired text.
 mod ErrorRows
 pub mod FoundWords
 pub mod LexerItems
@@ -35,5 +39,9 @@ pub mod RestartPlaces
 pub mod RestartReads
 pub mod Reaches
 pub mod NextItems
-pub mod Lefts
+pub mod RepairedParts
+pub mod RecoveryStates
+pub mod RecoverySteps
 pub mod Passes
+pub mod RepairedStates
+pub mod MendedTexts

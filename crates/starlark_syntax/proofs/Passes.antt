@@ -28,7 +28,7 @@ fault_of (Some node) = node
 fault_of None = grammar.Indentation
 
 -- the fault of a tab is that of the code
-tab_kind : (error : LexemeError) (node : Fault) → fault_view error ≡ Some node → is_tab_error error ≡ is_tab node
+pub tab_kind : (error : LexemeError) (node : Fault) → fault_view error ≡ Some node → is_tab_error error ≡ is_tab node
 tab_kind fault.Indentation node is = let same : grammar.Indentation ≡ node = cc in ap is_tab same
 tab_kind (fault.InvalidInput text) node is = let same : fault_of (fault_view (fault.InvalidInput text)) ≡ node = ap fault_of is in ap is_tab same
 tab_kind fault.InvalidTab node is = let same : grammar.InvalidTab ≡ node = cc in ap is_tab same

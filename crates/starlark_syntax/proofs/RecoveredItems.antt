@@ -1,44 +1,24 @@
 -- The items of a text that is lexed on after its faults.
-use Rattle.std.proofs.Common.{◌≡◌, ℕ, zero, suc, ◌+◌, ◌≤◌, List, [], ◌∷◌, ◌++◌, map, length, drop, refl, ap, sym, ◌∙◌, arith, None, Some, slice_get, option_to_list}
-use Rattle.std.proofs.lemmas.List.{append-nil}
+use Rattle.std.proofs.Common.{◌≡◌, ℕ, zero, suc, ◌+◌, true, false, List, [], ◌∷◌, ◌++◌, map, drop, refl, ap, sym, ◌∙◌, arith, None, Some}
+use Rattle.std.proofs.lemmas.List.{append-nil, drop-map}
 use Rattle.std.specs.Prelude.{Option}
+use Rattle.starlark_grammar.specs.Found as found
+use Rattle.starlark_grammar.specs.Found.{Item, found_after, found_past, passed_count}
 use Rattle.starlark_grammar.specs.Reading.{outcome}
-use Rattle.starlark_grammar.specs.Tokens.{Fault, Lexeme, Outcome, Spanned, moved}
+use Rattle.starlark_grammar.specs.Repairs.{keeps_line, repaired}
+use Rattle.starlark_grammar.specs.Tokens.{Fault, Lexeme, Spanned, moved}
 use Rattle.starlark_grammar.specs.Words.{Text}
-use Rattle.starlark_grammar.proofs.Recovery.TextOutcomes.{faultless, lexes_on}
-use Rattle.starlark_syntax.specs.Inner.Rests.{moved_item}
-use Rattle.starlark_syntax.specs.Recovery.{moved_outcome, outcomes, restart}
-use Rattle.starlark_syntax.specs.RecoveringLexer.{all_items, items_of, items_of_all}
+use Rattle.starlark_grammar.proofs.Found.FoundItems.{by_keeps, faultless_found, found_after_lines, found_after_repairs}
+use Rattle.starlark_syntax.specs.Inner.RecoveryStates.{items_after, items_past, moved_item}
+use Rattle.starlark_syntax.specs.Recovery.{restart}
+use Rattle.starlark_syntax.specs.RecoveringLexer.{shown_item}
 use Rattle.starlark_token.specs.Lexemes.{shown_lexeme}
-use Rattle.starlark_token.specs.TextItems.{Given, LexerItem, Refused, items}
+use Rattle.starlark_token.specs.TextItems.{Given, LexerItem, Refused}
 use Rattle.starlark_token.specs.TokenViews.{TokenView}
-
-abbrev given : Lexeme → LexerItem
-given lexeme = Given (shown_lexeme lexeme)
-
--- the items of a moved outcome are the moved items
 
 map-append : {A B : Type 0} (f : A → B) (xs ys : List A) → map f (xs ++ ys) ≡ map f xs ++ map f ys
 map-append f [] ys = refl
 map-append f (x ∷ xs) ys = ap (λ l. f x ∷ l) (map-append f xs ys)
-
-lexemes_moved : (n : ℕ) (lexemes : List Lexeme) → map given (map (moved n) lexemes) ≡ map (moved_item n) (map given lexemes)
-lexemes_moved n [] = refl
-lexemes_moved n (lexeme ∷ lexemes) = ap (λ l. given (moved n lexeme) ∷ l) (lexemes_moved n lexemes)
-
-items_moved : (n : ℕ) (found : Outcome) → items_of (moved_outcome n found) ≡ map (moved_item n) (items_of found)
-items_moved n found = by found.fault refl
-  where
-    by : (fault : Option (Spanned Fault)) → found.fault ≡ fault → items_of (moved_outcome n found) ≡ map (moved_item n) (items_of found)
-    by None is = rw is (ap (λ l. l ++ []) (lexemes_moved n found.lexemes) ∙ sym (map-append (moved_item n) (map given found.lexemes) []))
-    by (Some fault) is = rw is (ap (λ l. l ++ (Refused (moved n fault) ∷ [])) (lexemes_moved n found.lexemes) ∙ sym (map-append (moved_item n) (map given found.lexemes) (Refused fault ∷ [])))
-
-all_moved : (n : ℕ) (found : List Outcome) → items_of_all (map (moved_outcome n) found) ≡ map (moved_item n) (items_of_all found)
-all_moved n [] = refl
-all_moved n (one ∷ more) =
-    ap (λ l. l ++ items_of_all (map (moved_outcome n) more)) (items_moved n one)
-    ∙ ap (λ l. map (moved_item n) (items_of one) ++ l) (all_moved n more)
-    ∙ sym (map-append (moved_item n) (items_of one) (items_of_all more))
 
 -- moved twice is moved once
 moved_twice : (n m : ℕ) (item : LexerItem) → moved_item n (moved_item m item) ≡ moved_item (n + m) item
@@ -72,88 +52,79 @@ all_moved_by_none [] = refl
 all_moved_by_none (item ∷ more) =
     ap (λ i. i ∷ map (moved_item 0) more) (moved_by_none item) ∙ ap (λ l. item ∷ l) (all_moved_by_none more)
 
--- All items of a text: its own, and after its fault those of the rest.
-pub faultless_items : (text : Text) → (outcome text).fault ≡ None → all_items text ≡ items text
-unfolding all_items items
-faultless_items text none = ap items_of_all (faultless text none) ∙ append-nil (items_of (outcome text))
+-- What is left of a text: its lexemes but the first ones, and what is after them
 
-pub items_on : (text : Text) (fault : Spanned Fault) → (outcome text).fault ≡ Some fault
-    → all_items text ≡ items text ++ map (moved_item (restart text fault)) (all_items (drop (restart text fault) text))
-unfolding all_items items
-items_on text fault has =
-    ap items_of_all (lexes_on text fault has)
-    ∙ ap (λ l. items_of (outcome text) ++ l) (all_moved (restart text fault) (outcomes (drop (restart text fault) text)))
+-- the fault of a text and what is found after it
+abbrev after_lexemes : Text → Option (Spanned Fault) → List LexerItem
+after_lexemes text None = []
+after_lexemes text (Some fault) = Refused fault ∷ items_after text fault
 
-own_items_first : (text : Text) → (more : List LexerItem) × (all_items text ≡ items text ++ more)
-own_items_first text = by (outcome text).fault refl
+abbrev shown_given : List Lexeme → List LexerItem
+shown_given lexemes = map (λ lexeme. Given (shown_lexeme lexeme)) lexemes
+
+shown_list : (lexemes : List Lexeme) → map shown_item (found.given lexemes) ≡ shown_given lexemes
+shown_list [] = refl
+shown_list (lexeme ∷ lexemes) = ap (λ l. Given (shown_lexeme lexeme) ∷ l) (shown_list lexemes)
+
+items_are : (k : ℕ) (text : Text) → items_past k text ≡ shown_given (drop k (outcome text).lexemes) ++ after_lexemes text (outcome text).fault
+items_are k text = by (outcome text).fault refl
   where
-    by : (fault : Option (Spanned Fault)) → (outcome text).fault ≡ fault → (more : List LexerItem) × (all_items text ≡ items text ++ more)
-    by None is = ([], faultless_items text is ∙ sym (append-nil (items text)))
-    by (Some fault) is = (_, items_on text fault is)
+    by : (fault : Option (Spanned Fault)) → (outcome text).fault ≡ fault → items_past k text ≡ shown_given (drop k (outcome text).lexemes) ++ after_lexemes text (outcome text).fault
+    by None none =
+        rw none (ap (λ l. map shown_item l) (faultless_found k text none) ∙ shown_list (drop k (outcome text).lexemes) ∙ sym (append-nil (shown_given (drop k (outcome text).lexemes))))
+    by (Some fault) has =
+        let whole : found_past k text ≡ found.given (drop k (outcome text).lexemes) ++ (found.Refused fault ∷ found_after text fault (keeps_line text (outcome text).lexemes fault) found_past) =
+        by_keeps text fault
+        (λ keeps. found_after_repairs k text fault has keeps ∙ ap (λ b. found.given (drop k (outcome text).lexemes) ++ (found.Refused fault ∷ found_after text fault b found_past)) (sym keeps))
+        (λ loses. found_after_lines k text fault has loses ∙ ap (λ b. found.given (drop k (outcome text).lexemes) ++ (found.Refused fault ∷ found_after text fault b found_past)) (sym loses)) in
+        rw has (
+        ap (λ l. map shown_item l) whole
+        ∙ map-append shown_item (found.given (drop k (outcome text).lexemes)) (found.Refused fault ∷ found_after text fault (keeps_line text (outcome text).lexemes fault) found_past)
+        ∙ ap (λ l. l ++ (Refused fault ∷ items_after text fault)) (shown_list (drop k (outcome text).lexemes))
+        )
 
--- an item of a list, and what is left after it
-drop_at_item : {A : Type 0} (xs more : List A) (k : ℕ) (x : A) → slice_get xs k ≡ Some x → drop k (xs ++ more) ≡ x ∷ drop (k + 1) (xs ++ more)
-drop_at_item [] more zero x is = cc
-drop_at_item [] more (suc k) x is = cc
-drop_at_item (y ∷ ys) more zero x is =
-    let same : y ≡ x = cc in ap (λ z. z ∷ (ys ++ more)) same
-drop_at_item (y ∷ ys) more (suc k) x is =
-    let next : suc k + 1 ≡ suc (k + 1) = omega arith in
-    drop_at_item ys more k x is ∙ sym (ap (λ n. x ∷ drop n (y ∷ (ys ++ more))) next)
+-- one lexeme of a list, and those after it
+shown_drop : (lexemes : List Lexeme) (k : ℕ) (x : Spanned TokenView) (more : List (Spanned TokenView)) → drop k (map shown_lexeme lexemes) ≡ x ∷ more
+    → shown_given (drop k lexemes) ≡ Given x ∷ shown_given (drop (k + 1) lexemes)
+shown_drop lexemes k x more is = by lexemes k (sym (drop-map shown_lexeme k lexemes) ∙ is)
+  where
+    by : (lexemes : List Lexeme) (k : ℕ) → map shown_lexeme (drop k lexemes) ≡ x ∷ more → shown_given (drop k lexemes) ≡ Given x ∷ shown_given (drop (k + 1) lexemes)
+    by [] zero is = cc
+    by [] (suc k) is = cc
+    by (lexeme ∷ lexemes) zero is = let same : shown_lexeme lexeme ≡ x = cc in ap (λ v. Given v ∷ shown_given lexemes) same
+    by (lexeme ∷ lexemes) (suc k) is = let next : suc k + 1 ≡ suc (k + 1) = omega arith in by lexemes k is ∙ ap (λ n. Given x ∷ shown_given (drop n (lexeme ∷ lexemes))) (sym next)
 
--- an item of a text is the next of those that are left
-pub next_left : (text : Text) (k : ℕ) (item : LexerItem) → slice_get (items text) k ≡ Some item → drop k (all_items text) ≡ item ∷ drop (k + 1) (all_items text)
-next_left text k item is =
-    let first = own_items_first text in
-    rw first.1 (drop_at_item (items text) first.0 k item is)
+none_shown : (lexemes : List Lexeme) (k : ℕ) → drop k (map shown_lexeme lexemes) ≡ [] → shown_given (drop k lexemes) ≡ []
+none_shown lexemes k none = by (drop k lexemes) (sym (drop-map shown_lexeme k lexemes) ∙ none)
+  where
+    by : (lexemes : List Lexeme) → map shown_lexeme lexemes ≡ [] → shown_given lexemes ≡ []
+    by [] none = refl
+    by (lexeme ∷ lexemes) none = cc
 
--- of a lexeme that is left there are more than those before it
-given_inside : (lexemes : List Lexeme) (fault : Option (Spanned Fault)) (k : ℕ) (x : Spanned TokenView) → slice_get (map given lexemes ++ map Refused (option_to_list fault)) k ≡ Some (Given x) → k + 1 ≤ length lexemes
-given_inside [] None zero x is = cc
-given_inside [] None (suc k) x is = cc
-given_inside [] (Some fault) zero x is = cc
-given_inside [] (Some fault) (suc zero) x is = cc
-given_inside [] (Some fault) (suc (suc k)) x is = cc
-given_inside (lexeme ∷ lexemes) fault zero x is = omega arith
-given_inside (lexeme ∷ lexemes) fault (suc k) x is = let inner = given_inside lexemes fault k x is in omega (arith, inner)
+-- a lexeme is left, …
+pub items_given : (text : Text) (k : ℕ) (x : Spanned TokenView) (more : List (Spanned TokenView)) → drop k (map shown_lexeme (outcome text).lexemes) ≡ x ∷ more → items_past k text ≡ Given x ∷ items_past (k + 1) text
+items_given text k x more is =
+    items_are k text ∙ ap (λ l. l ++ after_lexemes text (outcome text).fault) (shown_drop (outcome text).lexemes k x more is) ∙ sym (ap (λ l. Given x ∷ l) (items_are (k + 1) text))
 
-pub given_counts : (text : Text) (k : ℕ) (x : Spanned TokenView) → slice_get (items text) k ≡ Some (Given x) → k + 1 ≤ length (outcome text).lexemes
-unfolding items
-given_counts text k x is = given_inside (outcome text).lexemes (outcome text).fault k x is
+-- … or the fault, …
+pub items_refused : (text : Text) (k : ℕ) (fault : Spanned Fault) → drop k (map shown_lexeme (outcome text).lexemes) ≡ [] → (outcome text).fault ≡ Some fault → items_past k text ≡ Refused fault ∷ items_after text fault
+items_refused text k fault none has = items_are k text ∙ ap (λ l. l ++ after_lexemes text (outcome text).fault) (none_shown (outcome text).lexemes k none) ∙ ap (after_lexemes text) has
 
--- after a fault that is left are the items of the rest
-refused_last : (lexemes : List Lexeme) (found : Option (Spanned Fault)) (k : ℕ) (fault : Spanned Fault) (more : List LexerItem) → slice_get (map given lexemes ++ map Refused (option_to_list found)) k ≡ Some (Refused fault)
-    → (found ≡ Some fault) × (drop (k + 1) ((map given lexemes ++ map Refused (option_to_list found)) ++ more) ≡ more)
-refused_last [] None zero fault more is = cc
-refused_last [] None (suc k) fault more is = cc
-refused_last [] (Some other) zero fault more is = (let same : other ≡ fault = cc in ap (λ f. Some f) same, refl)
-refused_last [] (Some other) (suc zero) fault more is = cc
-refused_last [] (Some other) (suc (suc k)) fault more is = cc
-refused_last (lexeme ∷ lexemes) found zero fault more is = cc
-refused_last (lexeme ∷ lexemes) found (suc k) fault more is =
-    let inner = refused_last lexemes found k fault more is in
-    let next : suc k + 1 ≡ suc (k + 1) = omega arith in
-    (inner.0, ap (λ n. drop n ((map given (lexeme ∷ lexemes) ++ map Refused (option_to_list found)) ++ more)) next ∙ inner.1)
+-- … or nothing
+pub items_none : (text : Text) (k : ℕ) → drop k (map shown_lexeme (outcome text).lexemes) ≡ [] → (outcome text).fault ≡ None → items_past k text ≡ []
+items_none text k none has = items_are k text ∙ ap (λ l. l ++ after_lexemes text (outcome text).fault) (none_shown (outcome text).lexemes k none) ∙ ap (after_lexemes text) has
 
-pub refused_counts : (text : Text) (k : ℕ) (fault : Spanned Fault) → slice_get (items text) k ≡ Some (Refused fault)
-    → ((outcome text).fault ≡ Some fault) × (drop (k + 1) (all_items text) ≡ map (moved_item (restart text fault)) (all_items (drop (restart text fault) text)))
-unfolding items
-refused_counts text k fault is =
-    let has = (refused_last (outcome text).lexemes (outcome text).fault k fault [] is).0 in
-    (has, rw (items_on text fault has) (refused_last (outcome text).lexemes (outcome text).fault k fault _ is).1)
+-- after a fault that keeps its line is left what the repaired text has after the repair, …
+pub items_repaired : (text : Text) (fault : Spanned Fault) → keeps_line text (outcome text).lexemes fault ≡ true → items_after text fault ≡ items_past (passed_count text fault) (repaired text fault)
+items_repaired text fault keeps = ap (λ b. map shown_item (found_after text fault b found_past)) keeps
 
--- where no item of a text is left, and no fault was passed, none is left at all
-none_inside : (lexemes : List Lexeme) (fault : Option (Spanned Fault)) (k : ℕ) → k ≤ length lexemes → slice_get (map given lexemes ++ map Refused (option_to_list fault)) k ≡ None
-    → (fault ≡ None) × (drop k (map given lexemes ++ map Refused (option_to_list fault)) ≡ [])
-none_inside [] None zero few is = (refl, refl)
-none_inside [] None (suc k) few is = absurd (omega (arith, few))
-none_inside [] (Some fault) zero few is = cc
-none_inside [] (Some fault) (suc k) few is = absurd (omega (arith, few))
-none_inside (lexeme ∷ lexemes) fault zero few is = cc
-none_inside (lexeme ∷ lexemes) fault (suc k) few is = none_inside lexemes fault k (omega (arith, few)) is
+shown_moved : (n : ℕ) (items : List Item) → map shown_item (map (found.moved_item n) items) ≡ map (moved_item n) (map shown_item items)
+shown_moved n [] = refl
+shown_moved n (found.Given lexeme ∷ items) = ap (λ l. Given (shown_lexeme (moved n lexeme)) ∷ l) (shown_moved n items)
+shown_moved n (found.Refused fault ∷ items) = ap (λ l. Refused (moved n fault) ∷ l) (shown_moved n items)
 
-pub none_left : (text : Text) (k : ℕ) → k ≤ length (outcome text).lexemes → slice_get (items text) k ≡ None → drop k (all_items text) ≡ []
-unfolding items
-none_left text k few is =
-    let both = none_inside (outcome text).lexemes (outcome text).fault k few is in
-    rw (faultless_items text both.0) both.1
+-- … and after any other what the text has from the next line on
+pub items_later : (text : Text) (fault : Spanned Fault) → keeps_line text (outcome text).lexemes fault ≡ false
+    → items_after text fault ≡ map (moved_item (restart text fault)) (items_past 0 (drop (restart text fault) text))
+items_later text fault loses =
+    ap (λ b. map shown_item (found_after text fault b found_past)) loses ∙ shown_moved (restart text fault) (found_past 0 (drop (restart text fault) text))

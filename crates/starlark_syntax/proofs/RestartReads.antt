@@ -10,7 +10,7 @@ use Rattle.starlark_grammar.specs.Words.{Text}
 use Rattle.starlark_reader.specs.Inner.MarginViews.{IsMargin}
 use Rattle.starlark_reader.specs.declared.margins.Margin.{Margin}
 use Rattle.starlark_grammar.specs.Tokens.{Fault, Spanned}
-use Rattle.starlark_reader.proofs.NextLines.{stopped_begin}
+use Rattle.starlark_grammar.proofs.Found.FoundItems.{stopped_past}
 use Rattle.starlark_reader.proofs.TakenPieces.SearchReads.{other_search, tab_search}
 use Rattle.starlark_syntax.specs.Lexer.{search_reads}
 use Rattle.starlark_syntax.specs.Recovery.{is_tab, next_line, restart, stopped_at}
@@ -60,7 +60,7 @@ pub within_search : (text : Text) (fault : Spanned Fault) (begin at before betwe
 unfolding restart
 within_search text fault begin at before between after true tab is_begin is_at order few more =
     let search = tab_search text fault (sym tab) in
-    let least = stopped_begin text fault in
+    let least = stopped_past text fault in
     omega (arith, search, least, is_begin, is_at, ap (next_line text) is_at, order, few, more)
 within_search text fault begin at before between after false other is_begin is_at order few more =
     let search = other_search text fault (sym other) in

@@ -4,4 +4,5 @@ pub mod Looked
 pub mod LexedTexts
 pub mod Passed
 pub mod RawItems
-pub mod Rests
+pub mod RecoveryStates
+pub mod MendedTexts

@@ -1,12 +1,12 @@
 -- Lexers that go on after faults, as their users see them, and the items that they yield.
-use Rattle.std.specs.Prelude.{◌≡◌, ◌≤◌, ℕ, ◌+◌, ◌*◌, ◌||◌, Bool, true, false, List, [], ◌∷◌, ◌++◌, map, length, drop, Option, Some, None, option_to_list, Result, Err, ⊤}
+use Rattle.std.specs.Prelude.{◌≡◌, ◌≤◌, ℕ, ◌+◌, ◌*◌, ◌||◌, Bool, true, false, List, [], map, length, drop, Option, Some, None, Result, Err, ⊤}
 use Rattle.std.specs.Iterator.{Count, at_most}
 use Rattle.std.specs.List.{slice_get}
 use Rattle.starlark_base.specs.Diagnostics.{Diagnosed}
 use Rattle.starlark_base.specs.Sources.{SourceFile}
-use Rattle.starlark_grammar.specs.Tokens.{Outcome}
+use Rattle.starlark_grammar.specs.Found as found
+use Rattle.starlark_grammar.specs.Found.{Item, found}
 use Rattle.starlark_grammar.specs.Words.{Text}
-use Rattle.starlark_syntax.specs.Recovery.{outcomes}
 use Rattle.starlark_syntax.specs.Lexer.{AnswersBetween, AnswersNext, AnswersWithin, Given, LexerItem, Refused}
 use Rattle.starlark_syntax.specs.declared.error.kinds.ErrorKind.{ErrorKind}
 use Rattle.starlark_text.specs.declared.or_memory.OrMemory.{OrMemory}
@@ -14,18 +14,14 @@ use Rattle.starlark_text.specs.declared.or_memory.OrMemory.TheVariants as refusa
 use Rattle.starlark_token.specs.Lexemes.{shown_lexeme}
 use Rattle.starlark_token.specs.declared.tokens.Token.{Token}
 
--- the items of an outcome: its lexemes, and then its fault if it has one
-abbrev pub items_of : Outcome → List LexerItem
-items_of found = map (λ lexeme. Given (shown_lexeme lexeme)) found.lexemes ++ map Refused (option_to_list found.fault)
-
--- the items of one outcome after another
-abbrev pub items_of_all : List Outcome → List LexerItem
-items_of_all [] = []
-items_of_all (found ∷ more) = items_of found ++ items_of_all more
+-- an item of a text, as the code shows it
+abbrev pub shown_item : Item → LexerItem
+shown_item (found.Given lexeme) = Given (shown_lexeme lexeme)
+shown_item (found.Refused fault) = Refused fault
 
 -- the items of a text that is lexed on after its faults: all lexemes and all faults, in order
 unfoldable pub all_items : Text → List LexerItem
-all_items text = items_of_all (outcomes text)
+all_items text = map shown_item (found text)
 
 -- a recovering lexer: its text, the code map of its faults, the items that are left, how many faults it has yielded,
 -- whether out of memory has ended it, and how often it has read bytes

@@ -4,28 +4,20 @@ ghost use Rattle.std.specs.Prelude.{◌≡◌, ◌≤◌, ◌+◌, ◌*◌, ◌^
 ghost use Rattle.std.specs.List.{slice_get};
 ghost use Rattle.starlark_syntax.specs.Lexer.{AnswersBetween, AnswersNext, AnswersWithin, HasReadFor, is_ended_by, most_reads, yielded_by};
 ghost use Rattle.starlark_syntax.specs.CutAfter.{IsCutAfter, KnowsCut};
-ghost use Rattle.starlark_syntax.specs.Inner.RawItems.{IsNextItem, OffsetsHold};
-ghost use Rattle.std.specs.Str.{IsCharBoundary};
-ghost use Rattle.starlark_token.specs.Lexemes.{IsWithin};
 ghost use Rattle.starlark_syntax.specs.PlainLexemes.{IsPlainIn, passed_by, plain_view};
 ghost use Rattle.starlark_token.specs.TextItems.{Given, items};
 
 use crate::eval_exception::EvalException;
-use crate::fault_exception::exception;
 use crate::lexer_state::{FastPath, LexerState};
 use crate::plain_lexeme::PlainLexeme;
 use starlark_base::codemap::{CodeMap, OrMemory, SourceTooLong};
 use starlark_base::dialect::Dialect;
-use starlark_token::lexeme_error::LexemeError;
 use starlark_token::tokens::Token;
 use std::alloc::Global;
 use std::marker::Model;
 
 /// An item of a lexer: begin in bytes, token, end in bytes; or the fault, or out of memory.
 pub type Lexeme = Result<(usize, Token, usize), OrMemory<EvalException>>;
-
-/// An item with the fault itself, between two offsets, in the place of its exception.
-pub(crate) type Item = Result<(usize, Token, usize), OrMemory<(usize, LexemeError, usize)>>;
 
 /// A lexer: an iterator over the lexemes of a text, up to its first fault if it has one.
 ///
@@ -109,45 +101,6 @@ impl<'a> Lexer<'a> {
             return item;
         }
         Some(Err(self.state.take_exception(&self.code_map)))
-    }
-
-    /// What `next` returns, with the fault itself in the place of its exception.
-    #[inline(always)]
-    pub(crate) fn next_item(&mut self) -> Option<Item>
-        ensures ended { self.old.has_ended ≡ true → IsNextItem None result }
-        ensures item { self.old.has_ended ≡ false → IsNextItem (slice_get (items self.old.text) self.old.yielded_count) result }
-        ensures within { OffsetsHold (IsWithin self.old.text) result }
-        ensures between { OffsetsHold (λ from to. IsCharBoundary self.old.text from × IsCharBoundary self.old.text to) result }
-        ensures after { self.new ≡ record self.old { yielded_count = self.old.yielded_count + yielded_by result; has_ended = self.old.has_ended || is_ended_by result; reads = self.new.reads; cut = self.new.cut } }
-        ensures reads { self.old.has_ended ≡ false → HasReadFor self.old.text result self.new.reads }
-    {
-        // The proof of `between` needs that the text is UTF-8, which the read of a `&str` says.
-        let _text = self.text();
-        match self.state.next() {
-            Some(Ok(lexeme)) => Some(Ok(lexeme)),
-            Some(Err(_)) => Some(Err(OrMemory::Memory)),
-            None if self.has_run_out => {
-                self.has_run_out = false;
-                Some(Err(OrMemory::Memory))
-            }
-            None => Some(Err(OrMemory::Error(self.state.take_fault()?))),
-        }
-    }
-
-    /// The code map of the fault.
-    pub(crate) fn code_map(&self) -> &CodeMap
-        ensures { result.now ≡ self.now.code_map }
-    {
-        &self.code_map
-    }
-
-    /// Lexes another text from its start on, with the same code map.
-    pub(crate) fn begin(&mut self, text: &'a str)
-        requires { length text.now < 2 ^ 32 }
-        ensures { self.new ≡ record { text = text.now; code_map = self.old.code_map; yielded_count = 0; has_ended = false; reads = 0; cut = None } }
-    {
-        self.state = LexerState::new(self.alloc, text);
-        self.has_run_out = false;
     }
 
     /// Passes the next lexeme if it is plain, and returns it. `None` where it isn't, and where there

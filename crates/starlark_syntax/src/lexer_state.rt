@@ -4,13 +4,21 @@
 ghost use Rattle.std.specs.Prelude.{◌≡◌, ◌<◌, ◌≤◌, ◌+◌, ◌-◌, ◌^◌, ◌&&◌, ◌||◌, ℕ, None, Some, codes, length, nat_eq, true, false, IfSome, IsSome, OnOk};
 ghost use Rattle.std.specs.List.{ends_with};
 ghost use Rattle.std.specs.Option.{is_some};
+ghost use Rattle.std.specs.Str.{IsCharBoundary};
 ghost use Rattle.starlark_grammar.specs.Cuts.{is_settled};
+ghost use Rattle.starlark_grammar.specs.Found.{passed_count as passed_lexemes};
+ghost use Rattle.starlark_grammar.specs.RepairLaws.{KeepsLine};
+ghost use Rattle.starlark_grammar.specs.Repairs.{repair_end, repaired};
+ghost use Rattle.starlark_grammar.specs.Tokens.{Fault, Spanned};
+ghost use Rattle.starlark_grammar.specs.Words.{Text};
 ghost use Rattle.starlark_grammar.specs.Reading.{History};
 ghost use Rattle.starlark_reader.specs.Inner.MarginCuts.{IsCutBefore};
 ghost use Rattle.starlark_reader.specs.Inner.Reader.{IsAtCode, IsAtEnd, IsReached, IsStateAfter, has_read_none};
-ghost use Rattle.starlark_syntax.specs.Inner.LexerStates.{HasAnswered, HasGivenNext, HasPassed, HasPassedNext, HasTaken, HasTakenLast, HasThrown, IsAtOpener, IsAtWord, IsBegun, IsLexing, IsOfMark, IsTakenNext, has_fault, is_none_waiting, is_out_of_memory, left_in, passed_as, passed_count, plain_comment, plain_string, taken_count, thrown_count, view_of};
+ghost use Rattle.starlark_syntax.specs.Inner.LexerStates.{HasAnswered, HasFound, HasGivenNext, HasPassed, HasPassedNext, HasTaken, HasTakenLast, HasThrown, IsAtFault, IsAtOpener, IsAtWord, IsBegun, IsLexing, IsLexingIn, IsOfMark, IsTakenNext, has_fault, is_none_waiting, is_out_of_memory, left_in, passed_as, passed_count, plain_comment, plain_string, taken_count, thrown_count, view_of};
 ghost use Rattle.starlark_syntax.specs.Lexer.{is_ended_by, most_reads, yielded_by};
+ghost use Rattle.starlark_syntax.specs.Inner.RawItems.{OffsetsHold};
 ghost use Rattle.starlark_syntax.specs.PlainLexemes.{IsPlainIn};
+ghost use Rattle.starlark_token.specs.Lexemes.{IsWithin};
 ghost use Rattle.starlark_reader.specs.Inner.Pending.{IsMark};
 ghost use Rattle.starlark_token.specs.TokenViews.{token_view};
 ghost use Rattle.starlark_syntax.specs.Inner.Looked.{HasOpened, HasSpared, IsFoundFurther, IsFoundInCode, IsFoundOut, IsLooked, is_front, is_nothing, is_text_opener, looked_len};
@@ -26,7 +34,10 @@ use starlark_token::tokens::Token;
 use starlark_words::scanner::{Class, LiteralKind, Terminal, Word};
 use std::alloc::{AllocError, Global};
 
-/// The state of lexing a text, which `Lexer` and `LexedText` share.
+/// An item with the fault itself, between two offsets, in the place of its exception.
+pub(crate) type Item = Result<(usize, Token, usize), OrMemory<(usize, LexemeError, usize)>>;
+
+/// The state of lexing a text, which all lexers and `LexedText` share.
 ///
 /// It yields the lexemes of the text one by one, and then its fault. Any error ends it. Below the offset `looked_to` lookahead has found no word, so the reader takes over there:
 /// no byte is looked ahead at twice. `passed_begin` and `passed_end` are the offsets of the lexeme that
@@ -639,6 +650,63 @@ impl<'a> LexerState<'a> {
             FastPath::OutOfMemory => Some(Err(OrMemory::Memory)),
             FastPath::Undecided => self.next_slowly(),
         }
+    }
+
+    /// The next lexeme, and after the last one the fault if the text has one; out of memory in the place
+    /// of either. `None` after all, and after any error.
+    #[inline(always)]
+    pub(crate) fn next_item(&mut self) -> Option<Item>
+        requires lexing { IsLexing self.old }
+        ensures ended { self.old.has_ended ≡ true → (result ≡ None) × (self.new ≡ self.old) }
+        ensures found { self.old.has_ended ≡ false → HasFound self.old.text.now self.old result self.new }
+        ensures lexing { IsLexing self.new }
+        ensures within { OffsetsHold (IsWithin self.old.text.now) result }
+        ensures between { OffsetsHold (λ from to. IsCharBoundary self.old.text.now from × IsCharBoundary self.old.text.now to) result }
+        ensures after { view_of self.new ≡ record (view_of self.old) { yielded_count = self.old.yielded_count + yielded_by result; has_ended = self.old.has_ended || is_ended_by result; reads = self.new.reader.reads } }
+    {
+        // The proof of `between` needs that the text is UTF-8, which the read of a `&str` says.
+        let _text = self.text();
+        match self.next() {
+            Some(Ok(lexeme)) => Some(Ok(lexeme)),
+            Some(Err(_)) => Some(Err(OrMemory::Memory)),
+            None => Some(Err(OrMemory::Error(self.take_fault()?))),
+        }
+    }
+
+    /// The same state over another text.
+    #[inline(always)]
+    pub(crate) fn over<'b>(self, text: &'b str) -> LexerState<'b>
+        ensures text { result.text.now ≡ text.now }
+        ensures same { result ≡ record self.entry { text = result.text } }
+    {
+        LexerState {
+            text,
+            yielded_count: self.yielded_count,
+            looked_to: self.looked_to,
+            lookahead: self.lookahead,
+            has_ended: self.has_ended,
+            reader: self.reader,
+            passed_begin: self.passed_begin,
+            passed_end: self.passed_end,
+            alloc: self.alloc,
+        }
+    }
+
+    /// Goes on after the fault that was taken, in the repaired text. The repair is between two
+    /// offsets.
+    pub(crate) fn go_on(&mut self, begin: usize, end: usize)
+        requires order { begin ≤ end }
+        requires fits { end < 2 ^ 32 }
+        requires some { 0 < self.old.yielded_count }
+        requires few { self.old.yielded_count ≤ 2 ^ 34 }
+        ensures lexing { (text : Text) (fault : Spanned Fault) → IsAtFault text fault self.old → KeepsLine text fault → begin ≡ fault.begin → end ≡ repair_end text fault → IsCharBoundary (repaired text fault) end → IsLexingIn (repaired text fault) self.new }
+        ensures count { (text : Text) (fault : Spanned Fault) → IsAtFault text fault self.old → begin ≡ fault.begin → end ≡ repair_end text fault → self.new.yielded_count ≡ passed_lexemes text fault }
+        ensures going { self.new.has_ended ≡ false }
+    {
+        self.yielded_count = self.yielded_count - 1 + (end - begin);
+        self.has_ended = false;
+        self.lookahead = Lookahead::All;
+        self.reader.go_on(begin, end);
     }
 
     /// Whether a fault is left after the last lexeme.

@@ -13,10 +13,13 @@ mod lexemes;
 pub mod lexer;
 mod lexer_state;
 mod meetings;
+mod mended_text;
 mod passed_faults;
 mod plain_lexeme;
 mod read_parts;
 mod recovering_lexer;
+mod recovery_state;
+mod repairs;
 pub mod restarts;
 mod tails;
 

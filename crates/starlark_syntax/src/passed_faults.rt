@@ -27,7 +27,7 @@ pub struct Passed {
 }
 
 /// Whether an error is that of a tab.
-fn is_tab(fault: &LexemeError) -> bool
+pub(crate) fn is_tab(fault: &LexemeError) -> bool
     ensures { result ≡ is_tab_error fault.now }
 {
     matches!(fault, LexemeError::InvalidTab)

@@ -5,8 +5,8 @@ ghost use Rattle.std.specs.List.{slice_get};
 ghost use Rattle.starlark_syntax.specs.RecoveringLexer.{HasReadOn, all_items, faults_by, is_memory, left_after};
 ghost use Rattle.starlark_syntax.specs.Lexer.{AnswersBetween, AnswersNext, AnswersWithin};
 
-use crate::lexemes::{Lexeme, Lexer};
-use crate::passed_faults::pass;
+use crate::lexemes::Lexeme;
+use crate::recovery_state::RecoveryState;
 use starlark_base::codemap::{CodeMap, OrMemory, SourceTooLong};
 use starlark_base::dialect::Dialect;
 use std::alloc::Global;
@@ -15,40 +15,26 @@ use std::marker::Model;
 /// A lexer that goes on after faults: an iterator over all lexemes and all faults of a text, in
 /// order.
 ///
-/// It yields what `Lexer` yields up to the first fault. Then it begins again at the next line, as if
-/// that began a text of its own: with no open bracket, f-string or block. Only out of memory ends it
-/// before the end of the text. In a contract it is its text, its code map, the items that are left,
-/// how many faults it has yielded, whether out of memory has ended it, and how often it has read
-/// bytes.
+/// It yields what `Lexer` yields up to the first fault. A reserved word, an integer with a leading 0,
+/// a character that begins no token, and a tab in code keep their lines: it goes on after them, with
+/// all brackets, f-strings and blocks open. After any other fault it begins again at the next line, as
+/// if that began a text of its own. Only out of memory ends it before the end of the text. In a
+/// contract it is its text, its code map, the items that are left, how many faults it has yielded,
+/// whether out of memory has ended it, and how often it has read bytes.
 #[derive(Drop)]
 pub struct RecoveringLexer<'a> {
-    alloc: Global,
-    text: &'a str,
-    begin: usize,
-    rest: Lexer<'a>,
-    fault_count: usize,
-    /// Number of reads before byte `begin`.
-    earlier_reads: u64,
+    state: RecoveryState<'a>,
 }
 
 impl<'a> Model for RecoveringLexer<'a> {
+    ghost use Rattle.starlark_syntax.specs.Inner.RecoveryStates.{IsRecovering, view_of};
     ghost use Rattle.starlark_syntax.specs.RecoveringLexer.{RecoveringView};
 
     ghost Value = { RecoveringView };
 
-    ghost use Rattle.starlark_syntax.specs.Inner.Rests.{HasReadBefore, IsRest, left_of};
-    ghost use Rattle.starlark_words.specs.Inner.Reads.{more_reads};
+    ghost view = { λ lexer. view_of lexer.state };
 
-    ghost view = { λ lexer. record {
-      text = lexer.text.now;
-      code_map = lexer.rest.code_map;
-      left = left_of lexer.begin lexer.rest;
-      fault_count = lexer.fault_count;
-      has_ended = lexer.rest.has_ended;
-      reads = more_reads lexer.earlier_reads lexer.rest.reads;
-    } };
-
-    ghost invariant = { λ lexer. IsRest lexer.text.now lexer.begin lexer.rest × HasReadBefore lexer.begin lexer.fault_count lexer.earlier_reads };
+    ghost invariant = { λ lexer. IsRecovering lexer.state };
 }
 
 impl<'a> RecoveringLexer<'a> {
@@ -59,20 +45,17 @@ impl<'a> RecoveringLexer<'a> {
     pub fn new(
         alloc: Global,
         input: &'a str,
-        dialect: &Dialect,
+        _dialect: &Dialect,
         code_map: CodeMap,
     ) -> Result<RecoveringLexer<'a>, SourceTooLong>
         ensures ok { IfOk result (λ lexer. lexer ≡ record { text = input.now; code_map = code_map; left = all_items input.now; fault_count = 0; has_ended = false; reads = 0 }) }
         ensures too_long { IsErr result ↔ (2 ^ 32 ≤ length input.now) }
     {
-        let rest = Lexer::new(alloc, input, dialect, code_map)?;
+        if input.len() > u32::MAX as usize {
+            return Err(SourceTooLong);
+        }
         Ok(RecoveringLexer {
-            alloc,
-            text: input,
-            begin: 0,
-            rest,
-            fault_count: 0,
-            earlier_reads: 0,
+            state: RecoveryState::new(alloc, input, code_map),
         })
     }
 
@@ -87,41 +70,25 @@ impl<'a> RecoveringLexer<'a> {
         ensures after { self.new ≡ record self.old { left = left_after result self.old.left; fault_count = self.old.fault_count + faults_by result; has_ended = self.old.has_ended || is_memory result; reads = self.new.reads } }
         ensures reads { self.old.has_ended ≡ false → HasReadOn self.old.text self.new.fault_count result self.new.reads }
     {
-        let begin = self.begin;
-        match self.rest.next_item()? {
-            Ok(lexeme) => Some(Ok((begin + lexeme.0, lexeme.1, begin + lexeme.2))),
-            Err(OrMemory::Memory) => Some(Err(OrMemory::Memory)),
-            Err(OrMemory::Error(fault)) => {
-                let file = self.rest.code_map();
-                let Ok(passed) = pass(self.alloc, self.text, begin, fault, file) else {
-                    return Some(Err(OrMemory::Memory));
-                };
-                let reads = self.rest.reads().saturating_add(passed.reads);
-                self.earlier_reads = self.earlier_reads.saturating_add(reads);
-                self.fault_count += 1;
-                self.begin = passed.begin;
-                self.rest.begin(&self.text[passed.begin..]);
-                Some(Err(OrMemory::Error(passed.fault)))
-            }
-        }
+        self.state.next()
     }
 
     /// Number of faults that were yielded so far.
     pub fn fault_count(&self) -> usize
         ensures { result ≡ self.now.fault_count }
     {
-        self.fault_count
+        self.state.fault_count()
     }
 
     /// Number of reads of bytes so far.
     ///
-    /// It counts as that of `Lexer` does, and has the reads that find where lexing begins again. After
+    /// It counts as that of `Lexer` does, and has the reads that find where lexing goes on. After
     /// `faults` faults of a text of `n` bytes it is at most `16 * (n + faults + 1)`, and at least
     /// `faults`. After out of memory nothing is promised.
     pub fn reads(&self) -> u64
         ensures { result ≡ self.now.reads }
     {
-        self.earlier_reads.saturating_add(self.rest.reads())
+        self.state.reads()
     }
 }
 

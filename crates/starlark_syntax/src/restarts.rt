@@ -122,8 +122,9 @@ pub(crate) fn counted_restart(
 /// of the text.
 ///
 /// The fault is from byte `begin` to byte `end`. `is_tab` says whether its error is `InvalidTab`:
-/// one in a margin is told at the line end before its line. `RecoveringLexer` goes on at the offset
-/// that is returned. It is for callers that lex each part of a text by themselves.
+/// one in a margin is told at the line end before its line. `RecoveringLexer` goes on at that offset
+/// after a fault that doesn't keep its line. It is for callers that lex each part of a text by
+/// themselves.
 pub fn restart(text: &str, begin: usize, end: usize, is_tab: bool) -> usize
     requires boundary { IsCharBoundary text.now begin }
     requires order { begin ≤ end }

@@ -15,7 +15,7 @@ use Rattle.starlark_grammar.specs.Pieces.{Fails}
 use Rattle.starlark_grammar.specs.Reading.{nothing, outcome, pieces_len, read}
 use Rattle.starlark_grammar.specs.Cuts.{is_clean_cut, is_kept_cut, tabbed, without_closing}
 use Rattle.starlark_grammar.specs.TextLaws.{HasFirstMargin}
-use Rattle.starlark_grammar.proofs.Recovery.ClosedTexts.{unmoved}
+use Rattle.starlark_grammar.proofs.Joining.Joined.{unmoved}
 use Rattle.starlark_grammar.proofs.Joining.CleanCuts.{cuts_join}
 use Rattle.starlark_grammar.proofs.Joining.Laws.{kept_cuts_keep}
 use Rattle.starlark_grammar.proofs.Joining.LineCuts.{kept_parts}

@@ -1,5 +1,5 @@
 -- What is ahead of a text that is lexed so far, and what a call answers of it.
-use Rattle.std.specs.Prelude.{◌≡◌, ◌≤◌, ◌<◌, ◌^◌, ◌+◌, ◌-◌, ◌&&◌, if◌then◌else◌, nat_lt, not, Bool, ⊤, ℕ, true, false, List, [], drop, length, map, Option, None, Some, Result, Ok, Err, IfOk, OnErr}
+use Rattle.std.specs.Prelude.{◌≡◌, ◌≤◌, ◌<◌, ◌^◌, ◌+◌, ◌-◌, ◌*◌, ◌&&◌, if◌then◌else◌, nat_lt, not, Bool, ⊤, ℕ, true, false, List, [], ◌∷◌, drop, length, map, Option, None, Some, Result, Ok, Err, IfOk, OnErr}
 use Rattle.starlark_base.specs.Diagnostics.{Diagnosed}
 use Rattle.starlark_base.specs.Sources.{SourceFile}
 use Rattle.starlark_words.specs.Inner.Reads.{more_reads}
@@ -9,8 +9,8 @@ use Rattle.starlark_grammar.specs.Tokens.{Fault, Spanned}
 use Rattle.starlark_grammar.specs.Words.{Text}
 use Rattle.starlark_grammar.specs.declared.class.Class.{Class}
 use Rattle.starlark_words.specs.declared.scanner.word.Word.{Word}
-use Rattle.starlark_reader.specs.Inner.Reader.{IsAhead, IsAheadAfter, IsAheadPast, IsAtEnd, IsRaw, IsSomething, IsStateAfter, IsTokenOf, IsWordHere, begins_with_tab, has_read_none, history_of, is_fault}
-use Rattle.starlark_reader.specs.Inner.ReadBounds.{HasRead}
+use Rattle.starlark_reader.specs.Inner.Reader.{IsAhead, IsAheadAfter, IsAheadPast, IsAtEnd, IsRaw, IsSomething, IsStateAfter, IsStateAtFault, IsTokenOf, IsWordHere, begins_with_tab, has_read_none, history_of, is_fault}
+use Rattle.starlark_reader.specs.Inner.ReadBounds.{HasRead, LeavesRepair}
 use Rattle.starlark_reader.specs.declared.reader.Before.{Before}
 use Rattle.starlark_reader.specs.declared.reader.Before.TheVariants as before
 use Rattle.starlark_reader.specs.declared.reader.Reader.{Reader}
@@ -61,16 +61,20 @@ reached_cut text reader stage before = None
 unfoldable pub known_cut : LexerState → Option ℕ
 known_cut state = if not state.has_ended && nat_lt 0 state.yielded_count then reached_cut state.text.now state.reader state.reader.stage state.reader.before else None
 
--- What the reader has ahead are the lexemes that weren't yielded yet, and the fault after them; and what was read is paid
--- for. After an error nothing of this is known.
-abbrev pub IsLexing : LexerState → Type 0
-IsLexing state =
-    (length state.text.now < 2 ^ 32)
-    × (state.has_ended ≡ false → (state.yielded_count ≤ length (outcome state.text.now).lexemes)
-    × IsAhead state.text.now state.reader state.reader.stage (left_in state) (outcome state.text.now).fault)
+-- What the reader has ahead are the lexemes of a text that weren't yielded yet, and the fault after them; and what was read
+-- is paid for. After an error nothing of this is known.
+abbrev pub IsLexingIn : Text → LexerState → Type 0
+IsLexingIn text state =
+    (length text < 2 ^ 32)
+    × (state.has_ended ≡ false → (state.yielded_count ≤ length (outcome text).lexemes)
+    × IsAhead text state.reader state.reader.stage (drop state.yielded_count (map shown_lexeme (outcome text).lexemes)) (outcome text).fault)
     × GoesOn state.lookahead state.has_ended
-    × (state.has_ended ≡ false → IsLooked state.text.now state.reader state.looked_to state.lookahead)
-    × IsInReach state.text.now state.looked_to
+    × (state.has_ended ≡ false → IsLooked text state.reader state.looked_to state.lookahead)
+    × IsInReach text state.looked_to
+
+-- So it is of the state's own text.
+abbrev pub IsLexing : LexerState → Type 0
+IsLexing state = IsLexingIn state.text.now state
 
 -- Lexing a text has begun, and nothing was looked at yet: the reader has all of any text ahead.
 pub record IsBegun (text : Text) (state : LexerState) : Type 0 where
@@ -92,6 +96,17 @@ HasAnswered old None new = IsAtEnd old.text.now new.reader
 abbrev pub has_fault : LexerState → Bool
 has_fault state = not state.has_ended && is_fault state.reader.stage
 
+-- The fault of a text was taken, and all lexemes before it were yielded. The reader stores what is open there, and its reads
+-- leave those of the fault's repair.
+pub record IsAtFault (text : Text) (fault : Spanned Fault) (state : LexerState) : Type 0 where
+  pub fits : length text < 2 ^ 32
+  pub has : (outcome text).fault ≡ Some fault
+  pub counted : state.yielded_count ≡ length (outcome text).lexemes + 1
+  pub stores : IsStateAtFault text state.reader
+  pub least : more_reads 0 fault.begin ≤ state.reader.reads
+  pub spared : (beside : ℕ) × (beside ≤ 6 * state.looked_to) × LeavesRepair text beside fault state.reader.reads
+  pub reach : IsInReach text state.looked_to
+
 -- What was read up to the fault of a text, which is all that is left of it.
 pub record HasReachedFault (old : LexerState) (fault : Spanned Fault) (new : LexerState) : Type 0 where
   pub none : left_in old ≡ []
@@ -99,6 +114,7 @@ pub record HasReachedFault (old : LexerState) (fault : Spanned Fault) (new : Lex
   pub tab : has_read_none new.reader ≡ begins_with_tab old.text.now
   pub most : new.reader.reads ≤ most_reads old.text.now
   pub reads : HasReadToFault old.text.now new.reader.reads
+  pub here : IsAtFault old.text.now fault new
 
 -- What is taken after the last lexeme: the fault, between two offsets, or nothing where the text has none.
 abbrev pub HasTakenLast : LexerState → Option (ℕ × LexemeError × ℕ) → LexerState → Type 0
@@ -106,6 +122,17 @@ HasTakenLast old (Some found) new = (fault : Spanned Fault) × HasReachedFault o
 HasTakenLast old None new =
     (left_in old ≡ []) × ((outcome old.text.now).fault ≡ None) × IsStateAfter old.text.now (history_of old.text.now) new.reader
     × (more_reads 0 (length old.text.now) ≤ new.reader.reads) × (new.reader.reads < most_reads old.text.now)
+
+-- What a call finds next in a text: the first lexeme that is left, after the last one the fault, or nothing where there is
+-- none; or out of memory in the place of either.
+abbrev pub HasFound : Text → LexerState → Option (Result (ℕ × Token × ℕ) (OrMemory (ℕ × LexemeError × ℕ))) → LexerState → Type 0
+HasFound text old (Some (Ok lexeme)) new =
+    (more : List (Spanned TokenView)) × (drop old.yielded_count (map shown_lexeme (outcome text).lexemes) ≡ lexeme_view lexeme ∷ more) × (new.reader.reads ≤ most_reads text)
+HasFound text old (Some (Err Memory)) new = IsSomething (drop old.yielded_count (map shown_lexeme (outcome text).lexemes)) (outcome text).fault
+HasFound text old (Some (Err (Error found))) new =
+    (fault : Spanned Fault) × (drop old.yielded_count (map shown_lexeme (outcome text).lexemes) ≡ []) × IsAtFault text fault new × HasReadToFault text new.reader.reads × IsRaw fault found
+HasFound text old None new =
+    (drop old.yielded_count (map shown_lexeme (outcome text).lexemes) ≡ []) × ((outcome text).fault ≡ None) × (length text ≤ new.reader.reads) × (new.reader.reads ≤ most_reads text)
 
 -- The exception of the fault after the last lexeme, or out of memory in its place.
 abbrev pub HasThrown : SourceFile → LexerState → OrMemory (Diagnosed ErrorKind) → LexerState → Type 0

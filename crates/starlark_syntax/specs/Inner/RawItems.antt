@@ -1,26 +1,11 @@
 -- Items of a text with their faults, not exceptions of them.
-use Rattle.std.specs.Prelude.{◌≡◌, ℕ, Option, Some, None, Result, Ok, Err, ⊤}
+use Rattle.std.specs.Prelude.{ℕ, Option, Some, None, Result, Ok, Err, ⊤}
 use Rattle.starlark_grammar.specs.Tokens.{Fault, Spanned}
 use Rattle.starlark_reader.specs.Inner.Reader.{IsRaw}
 use Rattle.starlark_text.specs.declared.or_memory.OrMemory.{OrMemory}
 use Rattle.starlark_text.specs.declared.or_memory.OrMemory.TheVariants as refusal
-use Rattle.starlark_token.specs.Lexemes.{lexeme_view}
-use Rattle.starlark_token.specs.TextItems.{LexerItem, Given, Refused}
 use Rattle.starlark_token.specs.declared.lexeme_error.LexemeError.{LexemeError}
 use Rattle.starlark_token.specs.declared.tokens.Token.{Token}
-
--- what a call returns for an item: a lexeme, the fault between two offsets, or out of memory in their place
-abbrev pub IsItem : LexerItem → Result (ℕ × Token × ℕ) (OrMemory (ℕ × LexemeError × ℕ)) → Type 0
-IsItem item (Err refusal.Memory) = ⊤
-IsItem (Given lexeme) (Ok found) = lexeme_view found ≡ lexeme
-IsItem (Refused fault) (Err (refusal.Error found)) = IsRaw fault found
-IsItem item answer = ⊥
-
--- a call returns `None` exactly if no item is left
-abbrev pub IsNextItem : Option LexerItem → Option (Result (ℕ × Token × ℕ) (OrMemory (ℕ × LexemeError × ℕ))) → Type 0
-IsNextItem None None = ⊤
-IsNextItem (Some item) (Some answer) = IsItem item answer
-IsNextItem item answer = ⊥
 
 -- it holds of both offsets of a lexeme or a fault
 abbrev pub OffsetsHold : (ℕ → ℕ → Type 0) → Option (Result (ℕ × Token × ℕ) (OrMemory (ℕ × LexemeError × ℕ))) → Type 0

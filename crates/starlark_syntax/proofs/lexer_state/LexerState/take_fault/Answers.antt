@@ -1,4 +1,4 @@
-use Rattle.std.proofs.Common.{◌≡◌, ◌+◌, ◌≤◌, ◌^◌, arith, ap, Some, rules, sym, ◌∙◌}
+use Rattle.std.proofs.Common.{◌≡◌, ◌+◌, ◌≤◌, ◌^◌, arith, ap, subst, Some, rules, sym, ◌∙◌}
 use Rattle.starlark_grammar.specs.AfterFaults.{restart}
 use Rattle.starlark_grammar.specs.Reading.{outcome}
 use Rattle.starlark_grammar.specs.Tokens.{Fault, Spanned}
@@ -8,7 +8,8 @@ use Rattle.starlark_reader.specs.Searches.{search_reads}
 use Rattle.starlark_syntax.specs.Inner.LexerStates.{left_in}
 use Rattle.starlark_syntax.proofs.FoundWords.{one_more_fits}
 use Rattle.starlark_syntax.proofs.LexerReads.{spared}
-use Rattle.starlark_syntax.proofs.LexerStates.{raw_place}
+use Rattle.starlark_syntax.proofs.LexerStates.{none_dropped, raw_place}
+use Rattle.starlark_reader.specs.Inner.ReadBounds.{LeavesRepair}
 use Rattle.starlark_syntax.proofs.lexer_state.LexerState.take_fault.Goals as goal
 
 pub returns-in_err-fault-clause-last : goal.returns-in_err-fault-clause-last
@@ -50,19 +51,29 @@ returns-clause-last c = λ going.
     let it : Spanned Fault = is.1.0 in
     let raw = is.1.2 in
     let few = read.1 it.node raw.1 in
-    let here = raw_place it c.in_ok-fault.fault raw in
+    let place = raw_place it c.in_ok-fault.fault raw in
     let within = fault_within text it is.1.1 in
-    let reach = c.requires.lexing.4 in (
+    let reach = c.requires.lexing.4 in
+    let all = none_dropped (outcome text).lexemes c.args.self.now.yielded_count is.0 in (
       it,
       record {
         none = is.0;
         has = is.1.1;
         tab = is.2;
-        most = omega (arith, paid.1, few, reach.inside, restart_inside text it, ap (restart text) here, ap (search_reads text) here);
+        most = omega (arith, paid.1, few.0, reach.inside, restart_inside text it, ap (restart text) place, ap (search_reads text) place);
         reads = λ fault has.
             let both : Some it ≡ Some fault = sym is.1.1 ∙ has in
             let same : it ≡ fault = cc in
-            (omega (arith, read.0, raw.0, within.0, within.1, c.requires.lexing.0, ap (λ (f : Spanned Fault). f.begin) same), omega (arith, paid.1, few, reach.fault fault has, ap (restart text) (here ∙ same), ap (search_reads text) (here ∙ same)));
+            (omega (arith, read.0, raw.0, within.0, within.1, c.requires.lexing.0, ap (λ (f : Spanned Fault). f.begin) same), omega (arith, paid.1, few.0, reach.fault fault has, ap (restart text) (place ∙ same), ap (search_reads text) (place ∙ same)));
+        here = record {
+          fits = c.requires.lexing.0;
+          has = is.1.1;
+          counted = omega (arith, inv.0, all);
+          stores = is.3;
+          least = omega (arith, read.0, raw.0);
+          spared = (paid.0, omega (arith, paid.1), subst (λ (f : Spanned Fault). LeavesRepair text paid.0 f c.take_fault.new.self.reads) place few.1);
+          reach = reach;
+        };
       },
       raw,
     )
