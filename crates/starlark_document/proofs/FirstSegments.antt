@@ -1,12 +1,10 @@
 -- What is found in the first segment of a text.
-use Rattle.std.proofs.Common.{◌≡◌, ℕ, zero, suc, ◌<◌, Bool, true, false, List, [], ◌∷◌, ◌++◌, map, take, drop, length, refl, ap, sym, subst, ◌∙◌, Some, None, append_assoc, append-nil, arith, count_by, length-drop}
-use Rattle.std.specs.Prelude.{◌==◌, Result, slice_get}
+use Rattle.std.proofs.Common.{◌≡◌, ℕ, zero, suc, ◌<◌, Bool, true, false, List, [], ◌∷◌, ◌++◌, map, take, drop, length, refl, ap, sym, subst, ◌∙◌, append_assoc, append-nil, arith, count_by, length-drop}
+use Rattle.std.specs.Prelude.{◌==◌}
 use Rattle.std.specs.List.{AllByRecursion}
 use Rattle.std.proofs.lemmas.Bool.{eqb-true}
 use Rattle.std.proofs.lemmas.List.{length-take-le, take_all}
-use Rattle.starlark_base.specs.Diagnostics.{Diagnosed}
 use Rattle.starlark_base.specs.Places.{is_lf}
-use Rattle.starlark_base.specs.Sources.{SourceFile}
 use Rattle.starlark_document.specs.Inner.LexedFronts.{IsFirstSegment, IsLexedFront, given_of, is_dedent_item, refused_of, without_newline}
 use Rattle.starlark_document.specs.Inner.Segments.{AreFaults, text_in}
 use Rattle.starlark_document.specs.declared.lexed_fronts.LexedFront.{LexedFront}
@@ -15,15 +13,11 @@ use Rattle.starlark_document.proofs.FrontItems.{refused_both}
 use Rattle.starlark_document.proofs.SegmentLaws.{items_are_found, items_close, items_cut}
 use Rattle.starlark_document.proofs.LineEndings.{without_shown}
 use Rattle.starlark_grammar.specs.Words.{Text}
-use Rattle.starlark_syntax.specs.Joining.{begins_plainly, is_closed, is_closed_from, without_last_newline}
-use Rattle.starlark_syntax.specs.Recovery.{recovered}
+use Rattle.starlark_syntax.specs.Joining.{begins_plainly, without_last_newline}
+use Rattle.starlark_grammar.specs.Found.{Empty, IsClosed, faults_in, found, lexemes_in}
 use Rattle.starlark_syntax.specs.RecoveringLexer.{all_items}
-use Rattle.starlark_syntax.specs.Lexer.{Answers, AnswersNext}
-use Rattle.starlark_syntax.specs.declared.error.kinds.ErrorKind.{ErrorKind}
-use Rattle.starlark_text.specs.declared.or_memory.OrMemory.{OrMemory}
 use Rattle.starlark_token.specs.Lexemes.{lexeme_view, shown_lexeme}
 use Rattle.starlark_token.specs.TextItems.{LexerItem, Given, Refused}
-use Rattle.starlark_token.specs.declared.tokens.Token.{Token}
 
 -- a text that begins plainly isn't empty
 plain_some : (text : Text) → begins_plainly text ≡ true → 0 < length text
@@ -39,16 +33,15 @@ pub zero_of : (n : ℕ) → true ≡ (n == 0) → n ≡ 0
 zero_of n e = eqb-true n 0 (sym e)
 
 -- an empty text is closed
-pub empty_closed : (text : Text) → length text ≡ 0 → is_closed text ≡ true
-unfolding is_closed is_closed_from
-empty_closed [] e = refl
+pub empty_closed : (text : Text) → length text ≡ 0 → IsClosed text
+empty_closed [] e = Empty
 empty_closed (b ∷ bs) e = absurd (omega (arith, e))
 
 -- a text that ends with a newline of some bytes is closed
-pub line_closed : (text : Text) (front : LexedFront) → IsLexedFront text (all_items text) front → front.line_end ≡ length text → is_closed text ≡ true
+pub line_closed : (text : Text) (front : LexedFront) → IsLexedFront text (all_items text) front → front.line_end ≡ length text → IsClosed text
 line_closed text front is end = by_length (length text) refl
   where
-    by_length : (n : ℕ) → length text ≡ n → is_closed text ≡ true
+    by_length : (n : ℕ) → length text ≡ n → IsClosed text
     by_length zero e = empty_closed text e
     by_length (suc n) e =
         let ends = is.line_end (omega (arith, e, end)) in
@@ -80,7 +73,7 @@ whole_last text front segment is same len lines lexemes faults = record {
 }
 
 -- the segment of a whole text that others follow
-pub whole_open : (text : Text) (front rest : LexedFront) (segment : Segment) → IsLexedFront text (all_items text) front → is_closed text ≡ true
+pub whole_open : (text : Text) (front rest : LexedFront) (segment : Segment) → IsLexedFront text (all_items text) front → IsClosed text
     → map lexeme_view rest.lexemes.items ≡ without_newline (map lexeme_view front.lexemes.items) → rest.faults ≡ front.faults
     → text_in segment ≡ text → segment.len ≡ length text → segment.lines ≡ count_by is_lf text → segment.content.value.lexemes.items ≡ rest.lexemes.items → segment.content.value.faults ≡ rest.faults
     → IsFirstSegment text false segment
@@ -94,7 +87,7 @@ whole_open text front rest segment is closed taken kept same len lines lexemes f
   inner = λ e f. record {
     is_closed = rw same closed;
     lexed = record {
-      lexemes = rw (same, lexemes) (taken ∙ ap without_newline (is.lexemes ∙ (items_are_found text).0) ∙ without_shown (recovered text).lexemes);
+      lexemes = rw (same, lexemes) (taken ∙ ap without_newline (is.lexemes ∙ (items_are_found text).0) ∙ without_shown (lexemes_in (found text)));
       faults = rw (same, faults, kept) (subst (λ fs. AreFaults fs front.faults.items) (items_are_found text).1 is.faults);
       len = len ∙ sym (ap length same);
       lines = lines ∙ sym (ap (count_by is_lf) same);
@@ -111,13 +104,13 @@ cut_first text is_last items item more front segment all is is_cut other same le
     let ends = is.cut is_cut in
     let below = plain_below text front.line_end ends.plain in
     let split : all_items text ≡ ends.front ++ (Given ends.newline ∷ (ends.dedents ++ (item ∷ more))) = all ∙ ap (λ xs. xs ++ (item ∷ more)) ends.items ∙ append_assoc ends.front (Given ends.newline ∷ ends.dedents) (item ∷ more) in
-    let found = items_cut text ends.front ends.newline ends.dedents (item ∷ more) split ends.is_line_end ends.are_dedents other (subst (λ n. begins_plainly (drop n text) ≡ true) (sym ends.end) ends.plain) in
-    let closed : is_closed (take front.line_end text) ≡ true = subst (λ n. is_closed (take n text) ≡ true) ends.end found.0 in
-    let given : map shown_lexeme (without_last_newline (recovered (take front.line_end text)).lexemes) ≡ given_of (ends.front ++ (Given ends.newline ∷ ends.dedents)) =
-    subst (λ n. map shown_lexeme (without_last_newline (recovered (take n text)).lexemes) ≡ given_of (ends.front ++ (Given ends.newline ∷ ends.dedents))) ends.end found.1 in
+    let cut = items_cut text ends.front ends.newline ends.dedents (item ∷ more) split ends.is_line_end ends.are_dedents other (subst (λ n. begins_plainly (drop n text) ≡ true) (sym ends.end) ends.plain) in
+    let closed : IsClosed (take front.line_end text) = subst (λ n. IsClosed (take n text)) ends.end cut.0 in
+    let given : map shown_lexeme (without_last_newline (lexemes_in (found (take front.line_end text)))) ≡ given_of (ends.front ++ (Given ends.newline ∷ ends.dedents)) =
+    subst (λ n. map shown_lexeme (without_last_newline (lexemes_in (found (take n text)))) ≡ given_of (ends.front ++ (Given ends.newline ∷ ends.dedents))) ends.end cut.1 in
     let len_in : segment.len ≡ length (text_in segment) = len ∙ sym (length-take-le front.line_end text is.within) ∙ sym (ap length same) in
-    let refused : (recovered (take front.line_end text)).faults ≡ refused_of items =
-    subst (λ n. (recovered (take n text)).faults ≡ refused_of ends.front) ends.end found.2 ∙ sym (ap refused_of ends.items ∙ refused_both ends.front (Given ends.newline ∷ ends.dedents) ∙ ap (λ fs. refused_of ends.front ++ fs) (no_faults ends.dedents ends.are_dedents) ∙ append-nil (refused_of ends.front)) in
+    let refused : faults_in (found (take front.line_end text)) ≡ refused_of items =
+    subst (λ n. faults_in (found (take n text)) ≡ refused_of ends.front) ends.end cut.2 ∙ sym (ap refused_of ends.items ∙ refused_both ends.front (Given ends.newline ∷ ends.dedents) ∙ ap (λ fs. refused_of ends.front ++ fs) (no_faults ends.dedents ends.are_dedents) ∙ append-nil (refused_of ends.front)) in
     record {
       within = omega (arith, len, is.within);
       text = rw len same;

@@ -3,8 +3,7 @@ use Rattle.std.proofs.Common.{◌≡◌, ℕ, ◌+◌, ◌≤◌, Bool, true, fa
 use Rattle.std.proofs.lemmas.List.{map-append}
 use Rattle.std.specs.List.{AllByRecursion}
 use Rattle.std.specs.Prelude.{◌<◌, ◌^◌}
-use Rattle.starlark_grammar.proofs.Recovery.ClosedTexts.{unmoved}
-use Rattle.starlark_document.proofs.SegmentLaws.{closed_texts}
+use Rattle.starlark_grammar.proofs.Joining.Joined.{unmoved}
 use Rattle.starlark_document.specs.Documents.{faults_of, lexemes_of}
 use Rattle.starlark_document.specs.Inner.Segments.{AreBounded, AreFaults, AreLaid, Follows, IsBounded, IsLexedAs, IsOpen, faults_along, lexemes_along, text_in, text_of}
 use Rattle.starlark_document.specs.declared.segments.PlacedFault.{PlacedFault}
@@ -13,9 +12,12 @@ use Rattle.starlark_grammar.proofs.Joining.Joined.{moved_both}
 use Rattle.starlark_grammar.specs.Cuts.{is_newline}
 use Rattle.starlark_grammar.specs.Tokens.{Fault, Lexeme, Spanned, moved}
 use Rattle.starlark_grammar.specs.Words.{Text}
-use Rattle.starlark_grammar.proofs.Recovery.Order.{faults_in_order, lexemes_inside}
+use Rattle.starlark_grammar.proofs.Found.JoinedTexts.{found_joins}
+use Rattle.starlark_grammar.proofs.Found.Order.{found_faults_in_order, found_lexemes_in_order}
+use Rattle.starlark_grammar.proofs.Recovery.Order.{order_inside}
 use Rattle.starlark_syntax.specs.Joining.{begins_plainly, has_newline, recovered_joined, without_last_newline}
-use Rattle.starlark_syntax.specs.Recovery.{Recovered, recovered}
+use Rattle.starlark_grammar.specs.Found.{faults_in, found, lexemes_in, parted}
+use Rattle.starlark_grammar.specs.Recovery.{Recovered}
 use Rattle.starlark_syntax.specs.RecoveryLaws.{AreInOrder, IsInside}
 use Rattle.starlark_token.specs.Lexemes.{lexeme_view, shown_lexeme}
 use Rattle.starlark_token.specs.declared.tokens.Token.{Token}
@@ -42,9 +44,9 @@ follows_laid is_first segment [] laid = laid.0
 follows_laid is_first segment (next ∷ more) laid = laid.0
 
 joined : (segment next : Segment) (more : List Segment) → IsOpen segment → AreLaid false (next ∷ more)
-    → recovered (text_of (segment ∷ (next ∷ more))) ≡ recovered_joined (length (text_in segment)) (recovered (text_in segment)) (recovered (text_of (next ∷ more)))
+    → parted (found (text_of (segment ∷ (next ∷ more)))) ≡ recovered_joined (length (text_in segment)) (parted (found (text_in segment))) (parted (found (text_of (next ∷ more))))
 joined segment next more is_open laid =
-    closed_texts (text_in segment) (text_of (next ∷ more)) is_open.is_closed (plain_append (text_in next) (text_of more) (follows_laid false next more laid))
+    found_joins (text_in segment) (text_of (next ∷ more)) is_open.is_closed (plain_append (text_in next) (text_of more) (follows_laid false next more laid))
 
 -- Lexemes and faults, so many bytes later
 
@@ -58,11 +60,11 @@ lexemes_later is_first n (segment ∷ (next ∷ more)) laid =
     let is_open : IsOpen segment = laid.1 in
     let at : ℕ = length (text_in segment) in
     let rest : Text = text_of (next ∷ more) in
-    let own : List Lexeme = without_last_newline (recovered (text_in segment)).lexemes in
+    let own : List Lexeme = without_last_newline (lexemes_in (found (text_in segment))) in
     ap (λ (r : Recovered). map (moved n) (map shown_lexeme r.lexemes)) (joined segment next more is_open laid.2)
-    ∙ ap (λ ls. map (moved n) ls) (map-append shown_lexeme own (map (moved at) (recovered rest).lexemes))
-    ∙ map-append (moved n) (map shown_lexeme own) (map shown_lexeme (map (moved at) (recovered rest).lexemes))
-    ∙ ap (λ ls. map (moved n) (map shown_lexeme own) ++ map (moved n) ls) (map_shown at (recovered rest).lexemes)
+    ∙ ap (λ ls. map (moved n) ls) (map-append shown_lexeme own (map (moved at) (lexemes_in (found rest))))
+    ∙ map-append (moved n) (map shown_lexeme own) (map shown_lexeme (map (moved at) (lexemes_in (found rest))))
+    ∙ ap (λ ls. map (moved n) (map shown_lexeme own) ++ map (moved n) ls) (map_shown at (lexemes_in (found rest)))
     ∙ ap (λ ls. map (moved n) (map shown_lexeme own) ++ ls) (map_moved n at (lexemes_of rest))
     ∙ ap (λ ls. map (moved n) ls ++ map (moved (n + at)) (lexemes_of rest)) (sym is_open.lexed.lexemes)
     ∙ ap (λ k. map (moved n) (map lexeme_view segment.content.value.lexemes.items) ++ map (moved (n + k)) (lexemes_of rest)) (sym is_open.lexed.len)
@@ -100,6 +102,9 @@ all_without P (lexeme ∷ lexemes) all = go (has_newline lexemes) (is_newline le
     go true first e f more = rw e (all.0, more)
     go false true e f more = rw (e, f) all.1
     go false false e f more = rw (e, f) all
+
+lexemes_inside : (text : Text) → AllByRecursion (IsInside text) (lexemes_in (found text))
+lexemes_inside text = order_inside text 0 (lexemes_in (found text)) (found_lexemes_in_order text)
 
 abbrev IsPlacedIn : ℕ → ℕ × Token × ℕ → Type 0
 IsPlacedIn len lexeme = (lexeme.0 ≤ len) × (lexeme.2 ≤ len)
@@ -144,21 +149,21 @@ faults_placed len to (fault ∷ faults) (one ∷ placed) same are all =
     let inside = all.0.1 in
     ((omega (arith, same, begin, order), omega (arith, same, end, inside)), faults_placed len to faults placed same are.1 all.1)
 
-bounded : (segment : Segment) (found : List Lexeme) → IsLexedAs found segment → AllByRecursion (IsInside (text_in segment)) found → IsBounded segment
-bounded segment found lexed all = record {
+bounded : (segment : Segment) (own : List Lexeme) → IsLexedAs own segment → AllByRecursion (IsInside (text_in segment)) own → IsBounded segment
+bounded segment own lexed all = record {
   len = lexed.len;
-  lexemes = lexemes_placed (text_in segment) segment.len segment.content.value.lexemes.items found lexed.len lexed.lexemes all;
+  lexemes = lexemes_placed (text_in segment) segment.len segment.content.value.lexemes.items own lexed.len lexed.lexemes all;
   faults = lexed.faults;
-  inside = faults_placed segment.len (length (text_in segment)) (recovered (text_in segment)).faults segment.content.value.faults.items lexed.len lexed.faults
-      (faults_by 0 (length (text_in segment)) (recovered (text_in segment)).faults (faults_in_order (text_in segment)));
+  inside = faults_placed segment.len (length (text_in segment)) (faults_in (found (text_in segment))) segment.content.value.faults.items lexed.len lexed.faults
+      (faults_by 0 (length (text_in segment)) (faults_in (found (text_in segment))) (found_faults_in_order (text_in segment)));
 }
 
 pub all_bounded : (is_first : Bool) (segments : List Segment) → AreLaid is_first segments → AllByRecursion IsBounded segments
 all_bounded is_first [] laid = absurd laid
-all_bounded is_first (segment ∷ []) laid = (bounded segment (recovered (text_in segment)).lexemes laid.1 (lexemes_inside (text_in segment)), tt)
+all_bounded is_first (segment ∷ []) laid = (bounded segment (lexemes_in (found (text_in segment))) laid.1 (lexemes_inside (text_in segment)), tt)
 all_bounded is_first (segment ∷ (next ∷ more)) laid = (
-  bounded segment (without_last_newline (recovered (text_in segment)).lexemes) laid.1.lexed
-      (all_without (IsInside (text_in segment)) (recovered (text_in segment)).lexemes (lexemes_inside (text_in segment))),
+  bounded segment (without_last_newline (lexemes_in (found (text_in segment)))) laid.1.lexed
+      (all_without (IsInside (text_in segment)) (lexemes_in (found (text_in segment))) (lexemes_inside (text_in segment))),
   all_bounded false (next ∷ more) laid.2,
 )
 

@@ -8,7 +8,7 @@ use Rattle.starlark_document.specs.Inner.Segments.{AreBounded, AreFaults, IsBoun
 use Rattle.starlark_document.specs.declared.segments.PlacedFault.{PlacedFault}
 use Rattle.starlark_document.specs.declared.segments.Segment.{Segment}
 use Rattle.starlark_grammar.specs.Tokens.{Fault, Spanned, moved}
-use Rattle.starlark_syntax.specs.Recovery.{recovered}
+use Rattle.starlark_grammar.specs.Found.{faults_in, found}
 
 pub lexemes_from-start : (begin : ℕ) (segments : List Segment) → lexemes_from begin 0 segments ≡ lexemes_along begin segments
 lexemes_from-start begin [] = refl
@@ -40,8 +40,8 @@ pub next_fault : (begin at : ℕ) (segments : List Segment) (segment : Segment) 
 next_fault begin at [] segment one first all is = absurd (cc)
 next_fault begin at (head ∷ more) segment one first all is =
     let there : slice_get head.content.value.faults.items at ≡ Some one = subst (λ (x : Segment). slice_get x.content.value.faults.items at ≡ Some one) (sym (same_Some head segment first)) is in
-    let found = fault_at (recovered (text_in head)).faults head.content.value.faults.items at one all.0.faults there in
-    (found.0, found.2, ap (λ (xs : List (Spanned Fault)). map (moved begin) xs ++ faults_along (begin + head.len) more) (drop_at (recovered (text_in head)).faults at found.0 found.1))
+    let here = fault_at (faults_in (found (text_in head))) head.content.value.faults.items at one all.0.faults there in
+    (here.0, here.2, ap (λ (xs : List (Spanned Fault)). map (moved begin) xs ++ faults_along (begin + head.len) more) (drop_at (faults_in (found (text_in head))) at here.0 here.1))
 
 -- where no fault of the first segment is left, those of the others are
 pub faults_passed : (begin at : ℕ) (segments : List Segment) (segment : Segment) → slice_get segments 0 ≡ Some segment → AllByRecursion IsBounded segments
@@ -49,7 +49,7 @@ pub faults_passed : (begin at : ℕ) (segments : List Segment) (segment : Segmen
 faults_passed begin at [] segment first all within = absurd (cc)
 faults_passed begin at (head ∷ more) segment first all within =
     let passed : length head.content.value.faults.items ≤ at = subst (λ (x : Segment). length x.content.value.faults.items ≤ at) (sym (same_Some head segment first)) within in
-    let none = drop_all at (recovered (text_in head)).faults (omega (arith, passed, length-AreFaults (recovered (text_in head)).faults head.content.value.faults.items all.0.faults)) in
+    let none = drop_all at (faults_in (found (text_in head))) (omega (arith, passed, length-AreFaults (faults_in (found (text_in head))) head.content.value.faults.items all.0.faults)) in
     ap (λ (xs : List (Spanned Fault)). map (moved begin) xs ++ faults_along (begin + head.len) more) none
     ∙ ap (λ (x : Segment). faults_along (begin + x.len) more) (same_Some head segment first)
     ∙ sym (faults_from-start (begin + segment.len) more)

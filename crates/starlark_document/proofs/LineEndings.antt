@@ -6,8 +6,8 @@ use Rattle.starlark_document.specs.Inner.LexedFronts.{has_newline_view, last_new
 use Rattle.starlark_grammar.specs.Cuts.{is_newline}
 use Rattle.starlark_grammar.specs.Tokens as grammar
 use Rattle.starlark_syntax.specs.Joining.{has_newline, without_last_newline}
-use Rattle.starlark_token.specs.Lexemes.{lexeme_view, shown, shown_lexeme}
-use Rattle.starlark_token.specs.TokenViews.{Whole, is_newline_view, token_view}
+use Rattle.starlark_token.specs.Lexemes.{lexeme_view, shown_lexeme}
+use Rattle.starlark_token.specs.TokenViews.{is_newline_view, token_view}
 use Rattle.starlark_token.specs.declared.tokens.Token.{Token}
 use Rattle.starlark_syntax.proofs.LexedTexts.LastNewlines.{same_newline}
 

@@ -22,8 +22,8 @@ use Rattle.starlark_document.proofs.LaidSegments.{laid_around}
 use Rattle.starlark_document.proofs.SegmentOffsets.{HaveLens-laid, IsUtf8-text_of, all_at, len_at, text_of-at, text_of-more}
 use Rattle.starlark_grammar.specs.Words.{Text}
 use Rattle.starlark_grammar.proofs.Joining.Followed.{ends_line, ends_line_of}
-use Rattle.starlark_syntax.specs.Joining.{is_closed}
-use Rattle.starlark_grammar.proofs.Recovery.ClosedTexts.{closed_ends}
+use Rattle.starlark_grammar.specs.Found.{IsClosed}
+use Rattle.starlark_grammar.proofs.Found.ClosedTexts.{closed_ends}
 use Rattle.starlark_base.specs.Positions.{pairs_before, pairs_in_line, position_at}
 use Rattle.starlark_base.specs.declared.position.Position.{Position}
 use Rattle.starlark_base.proofs.NewlineCounts.{lines-append}
@@ -75,10 +75,10 @@ ends_line_front (b ∷ (c ∷ bs)) ends =
     (b ∷ more.0, ap (λ (t : Text). b ∷ t) more.1)
 
 -- a closed text does
-pub closed_lines : (text : Text) → is_closed text ≡ true → EndsLines text
+pub closed_lines : (text : Text) → IsClosed text → EndsLines text
 unfolding EndsLines
 closed_lines [] closed = inl refl
-closed_lines (b ∷ bs) closed = inr (ends_line_front (b ∷ bs) (ends_line_of (b ∷ bs) (closed_ends (b ∷ bs) (omega arith) closed)))
+closed_lines (b ∷ bs) closed = inr (ends_line_front (b ∷ bs) (ends_line_of (b ∷ bs) (closed_ends (b ∷ bs) closed (omega arith))))
 
 lines_joined : (first second : Text) → EndsLines first → EndsLines second → EndsLines (first ++ second)
 unfolding EndsLines

@@ -8,8 +8,8 @@ use Rattle.starlark_document.specs.Inner.Segments.{AreLaid, IsBounded, faults_al
 use Rattle.starlark_document.specs.declared.segments.Segment.{Segment}
 use Rattle.starlark_grammar.specs.Tokens.{Fault, Spanned, moved}
 use Rattle.starlark_grammar.specs.Words.{Text}
-use Rattle.starlark_grammar.proofs.Recovery.Order.{faults_in_order}
-use Rattle.starlark_syntax.specs.Recovery.{recovered}
+use Rattle.starlark_grammar.proofs.Found.Order.{found_faults_in_order}
+use Rattle.starlark_grammar.specs.Found.{faults_in, found}
 use Rattle.starlark_token.specs.Lexemes.{lexeme_view}
 use Rattle.starlark_token.specs.TokenViews.{TokenView}
 use Rattle.starlark_token.specs.declared.tokens.Token.{Token}
@@ -36,7 +36,7 @@ abbrev segment_lexemes : SpansIn TokenView
 segment_lexemes segment = map lexeme_view segment.content.value.lexemes.items
 
 abbrev segment_faults : SpansIn Fault
-segment_faults segment = (recovered (text_in segment)).faults
+segment_faults segment = faults_in (found (text_in segment))
 
 lexemes_are_along : (n : ℕ) (segments : List Segment) → lexemes_along n segments ≡ along segment_lexemes n segments
 lexemes_are_along n [] = refl
@@ -58,7 +58,7 @@ lexemes_end_in (segment ∷ more) all = ((all.0.len, ends segment.len (length (t
 faults_end_in : (segments : List Segment) → AllByRecursion IsBounded segments → AllByRecursion (EndsIn segment_faults) segments
 faults_end_in [] all = tt
 faults_end_in (segment ∷ more) all = (
-  (all.0.len, ends (length (text_in segment)) (segment_faults segment) (faults_by 0 (length (text_in segment)) (segment_faults segment) (faults_in_order (text_in segment)))),
+  (all.0.len, ends (length (text_in segment)) (segment_faults segment) (faults_by 0 (length (text_in segment)) (segment_faults segment) (found_faults_in_order (text_in segment)))),
   faults_end_in more all.1,
 )
   where

@@ -1,14 +1,6 @@
 -- The laws that segments rest on.
 use Rattle.starlark_document.specs.Inner.LexedFronts.{ItemsAreFound, ItemsClose, ItemsCut}
 use Rattle.starlark_document.proofs.FoundItems as items
-use Rattle.starlark_syntax.specs.Joining.{ClosedOfJoined, ClosedTextsJoin}
-use Rattle.starlark_grammar.proofs.Recovery.ClosedTexts.{closed_of_joined, closed_texts_join}
-
-pub closed_texts : ClosedTextsJoin
-closed_texts = closed_texts_join
-
-pub closed_joined : ClosedOfJoined
-closed_joined = closed_of_joined
 
 pub items_cut : ItemsCut
 items_cut = items.items_cut

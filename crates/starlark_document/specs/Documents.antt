@@ -10,7 +10,7 @@ use Rattle.starlark_document.specs.declared.document.EditError.{EditError}
 use Rattle.starlark_document.specs.declared.document.EditError.TheVariants.{BadRange, TooLong, Memory}
 use Rattle.starlark_grammar.specs.Tokens as grammar
 use Rattle.starlark_grammar.specs.Words.{Text}
-use Rattle.starlark_syntax.specs.Recovery.{recovered}
+use Rattle.starlark_grammar.specs.Found.{faults_in, found, lexemes_in}
 use Rattle.starlark_syntax.specs.RecoveringLexer.{most_reads_on}
 use Rattle.starlark_syntax.specs.declared.error.kinds.ErrorKind.{ErrorKind}
 use Rattle.starlark_syntax.specs.declared.error.kinds.ErrorKind.TheVariants.{Parser}
@@ -58,11 +58,11 @@ pub record IsStop (text : Text) (edits : List (ℕ × ℕ × Text)) (at : ℕ) (
 
 -- all lexemes of a text that is lexed on after its faults, as the code shows them
 abbrev pub lexemes_of : Text → List (grammar.Spanned TokenView)
-lexemes_of text = map shown_lexeme (recovered text).lexemes
+lexemes_of text = map shown_lexeme (lexemes_in (found text))
 
 -- all faults of a text that is lexed on after its faults
 abbrev pub faults_of : Text → List (grammar.Spanned grammar.Fault)
-faults_of text = (recovered text).faults
+faults_of text = faults_in (found text)
 
 -- the span ends at or before an offset
 abbrev pub ends_by : {A : Type 0} → ℕ → grammar.Spanned A → Bool

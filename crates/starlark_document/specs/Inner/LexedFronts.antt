@@ -7,8 +7,8 @@ use Rattle.starlark_document.specs.declared.lexed_fronts.LexedFront.{LexedFront}
 use Rattle.starlark_document.specs.declared.segments.Segment.{Segment}
 use Rattle.starlark_grammar.specs.Tokens as grammar
 use Rattle.starlark_grammar.specs.Words.{Text}
-use Rattle.starlark_syntax.specs.Joining.{begins_plainly, is_closed, without_last_newline}
-use Rattle.starlark_syntax.specs.Recovery.{recovered}
+use Rattle.starlark_syntax.specs.Joining.{begins_plainly, without_last_newline}
+use Rattle.starlark_grammar.specs.Found.{IsClosed, faults_in, found, lexemes_in}
 use Rattle.starlark_syntax.specs.RecoveringLexer.{all_items}
 use Rattle.starlark_token.specs.Lexemes.{lexeme_view, shown_lexeme}
 use Rattle.starlark_token.specs.TextItems.{LexerItem, Given, Refused}
@@ -97,18 +97,18 @@ abbrev pub ItemsCut : Type 0
 ItemsCut = (text : Text) (front : List LexerItem) (newline : grammar.Spanned TokenView) (dedents more : List LexerItem)
     → all_items text ≡ front ++ (Given newline ∷ (dedents ++ more)) → IsLineEnd newline
     → AllByRecursion (λ item. is_dedent_item item ≡ true) dedents → BeginUndented more → begins_plainly (drop newline.end text) ≡ true
-    → (is_closed (take newline.end text) ≡ true)
-    × (map shown_lexeme (without_last_newline (recovered (take newline.end text)).lexemes) ≡ given_of (front ++ (Given newline ∷ dedents)))
-    × ((recovered (take newline.end text)).faults ≡ refused_of front)
+    → IsClosed (take newline.end text)
+    × (map shown_lexeme (without_last_newline (lexemes_in (found (take newline.end text)))) ≡ given_of (front ++ (Given newline ∷ dedents)))
+    × (faults_in (found (take newline.end text)) ≡ refused_of front)
 
 -- A text that ends with a newline of some bytes is closed.
 abbrev pub ItemsClose : Type 0
 ItemsClose = (text : Text) (front : List LexerItem) (newline : grammar.Spanned TokenView) (more : List LexerItem)
-    → all_items text ≡ front ++ (Given newline ∷ more) → IsLineEnd newline → newline.end ≡ length text → is_closed text ≡ true
+    → all_items text ≡ front ++ (Given newline ∷ more) → IsLineEnd newline → newline.end ≡ length text → IsClosed text
 
 -- The lexemes and faults of all items of a text are those that are found in it.
 abbrev pub ItemsAreFound : Type 0
-ItemsAreFound = (text : Text) → (given_of (all_items text) ≡ map shown_lexeme (recovered text).lexemes) × (refused_of (all_items text) ≡ (recovered text).faults)
+ItemsAreFound = (text : Text) → (given_of (all_items text) ≡ map shown_lexeme (lexemes_in (found text))) × (refused_of (all_items text) ≡ faults_in (found text))
 
 -- the first segment of a text: up to where it can be cut, or the whole text, which is the document's last or not
 pub record IsFirstSegment (whole : Text) (is_last : Bool) (segment : Segment) : Type 0 where

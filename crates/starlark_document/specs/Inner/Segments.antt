@@ -7,8 +7,8 @@ use Rattle.starlark_document.specs.declared.segments.PlacedFault.{PlacedFault}
 use Rattle.starlark_document.specs.declared.segments.Segment.{Segment}
 use Rattle.starlark_grammar.specs.Tokens as grammar
 use Rattle.starlark_grammar.specs.Words.{Text}
-use Rattle.starlark_syntax.specs.Joining.{begins_plainly, is_closed, without_last_newline}
-use Rattle.starlark_syntax.specs.Recovery.{recovered}
+use Rattle.starlark_syntax.specs.Joining.{begins_plainly, without_last_newline}
+use Rattle.starlark_grammar.specs.Found.{IsClosed, faults_in, found, lexemes_in}
 use Rattle.starlark_token.specs.Lexemes.{lexeme_view, shown_lexeme}
 use Rattle.starlark_token.specs.TokenViews.{TokenView}
 use Rattle.starlark_token.specs.declared.tokens.Token.{Token}
@@ -35,20 +35,20 @@ AreFaults (fault ∷ faults) (placed ∷ more) = IsPlaced fault placed × AreFau
 AreFaults faults placed = ⊥
 
 -- the segment has these lexemes, and the faults of its text
-pub record IsLexedAs (found : List grammar.Lexeme) (segment : Segment) : Type 0 where
-  pub lexemes : map lexeme_view segment.content.value.lexemes.items ≡ map shown_lexeme found
-  pub faults : AreFaults (recovered (text_in segment)).faults segment.content.value.faults.items
+pub record IsLexedAs (own : List grammar.Lexeme) (segment : Segment) : Type 0 where
+  pub lexemes : map lexeme_view segment.content.value.lexemes.items ≡ map shown_lexeme own
+  pub faults : AreFaults (faults_in (found (text_in segment))) segment.content.value.faults.items
   pub len : segment.len ≡ length (text_in segment)
   pub lines : segment.lines ≡ count_by is_lf (text_in segment)
 
 -- the last segment of a text: it has all lexemes of its text
 abbrev pub IsWhole : Segment → Type 0
-IsWhole segment = IsLexedAs (recovered (text_in segment)).lexemes segment
+IsWhole segment = IsLexedAs (lexemes_in (found (text_in segment))) segment
 
 -- a segment that another one follows: its text is closed, and it has all lexemes but the closing `Newline`
 pub record IsOpen (segment : Segment) : Type 0 where
-  pub is_closed : is_closed (text_in segment) ≡ true
-  pub lexed : IsLexedAs (without_last_newline (recovered (text_in segment)).lexemes) segment
+  pub is_closed : IsClosed (text_in segment)
+  pub lexed : IsLexedAs (without_last_newline (lexemes_in (found (text_in segment)))) segment
 
 -- a segment begins plainly, unless it is the first of the text
 abbrev pub Follows : Bool → Segment → Type 0
@@ -79,7 +79,7 @@ HaveLines segments = AllByRecursion (λ (segment : Segment). segment.lines ≡ c
 pub record IsBounded (segment : Segment) : Type 0 where
   pub len : segment.len ≡ length (text_in segment)
   pub lexemes : AllByRecursion (λ (lexeme : ℕ × Token × ℕ). (lexeme.0 ≤ segment.len) × (lexeme.2 ≤ segment.len)) segment.content.value.lexemes.items
-  pub faults : AreFaults (recovered (text_in segment)).faults segment.content.value.faults.items
+  pub faults : AreFaults (faults_in (found (text_in segment))) segment.content.value.faults.items
   pub inside : AllByRecursion (λ (fault : PlacedFault). (fault.begin ≤ segment.len) × (fault.end ≤ segment.len)) segment.content.value.faults.items
 
 abbrev pub AreBounded : ℕ → List Segment → Type 0
@@ -100,9 +100,9 @@ lexemes_from begin at (segment ∷ more) =
 -- the faults of segments, the first of which begins at an offset
 abbrev pub faults_along : ℕ → List Segment → List (grammar.Spanned grammar.Fault)
 faults_along begin [] = []
-faults_along begin (segment ∷ more) = map (grammar.moved begin) (recovered (text_in segment)).faults ++ faults_along (begin + segment.len) more
+faults_along begin (segment ∷ more) = map (grammar.moved begin) (faults_in (found (text_in segment))) ++ faults_along (begin + segment.len) more
 
 -- the faults of segments, without the first `at` of the first one, which begins at an offset
 abbrev pub faults_from : ℕ → ℕ → List Segment → List (grammar.Spanned grammar.Fault)
 faults_from begin at [] = []
-faults_from begin at (segment ∷ more) = map (grammar.moved begin) (drop at (recovered (text_in segment)).faults) ++ faults_along (begin + segment.len) more
+faults_from begin at (segment ∷ more) = map (grammar.moved begin) (drop at (faults_in (found (text_in segment)))) ++ faults_along (begin + segment.len) more

@@ -1,9 +1,10 @@
-use Rattle.std.proofs.Common.{◌≡◌, ◌≤◌, ◌∷◌, ◌++◌, ℕ, List, Some, [], ap, append_assoc, arith, drop, length, refl, subst, sym, ◌∙◌}
+use Rattle.std.proofs.Common.{◌≡◌, ◌≤◌, ◌∷◌, ◌++◌, ℕ, List, Some, [], ap, append-nil, append_assoc, arith, drop, length, refl, subst, sym, ◌∙◌}
 use Rattle.starlark_syntax.specs.RecoveringLexer.{AreReadsOn, HasReadOn, RecoveringView, all_items, is_memory}
 use Rattle.starlark_document.proofs.Costs.{goes_on, reads_on, some_anyhow}
 use Rattle.starlark_document.specs.Inner.Costs.{IsTextCost}
+use Rattle.starlark_document.specs.Inner.LexedFronts.{IsLexedFront}
 use Rattle.starlark_document.proofs.FirstSegments.{cut_first, plain_below}
-use Rattle.starlark_syntax.proofs.NextItems.{next_item}
+use Rattle.starlark_syntax.proofs.NextItems.{next_item, next_none}
 use Rattle.starlark_document.specs.declared.segment_lexing.LexingCost.{LexingCost}
 use Rattle.starlark_document.specs.declared.segments.Segment.{Segment}
 use Rattle.starlark_document.proofs.segment_lexing.lex_segment.Goals as goal
@@ -68,6 +69,14 @@ returns-then-branch-clause-whole c = λ whole one.
     let ends = found.2.cut (c.in_ok-ends_before.ensures.cut c.if-branch.true) in
     let below = plain_below c.args.text.now c.loop-item.front.line_end ends.plain in
     absurd (omega (arith, below, whole, c.in_ok-cut_segment.ensures.len))
+
+pub whole_segment-requires : goal.whole_segment-requires
+whole_segment-requires c =
+    let found = c.loop-item.invariant.found in
+    let old = c.loop-item.lexer in
+    let none = next_none old.code_map old.left c.in_default.ensures.item in
+    let whole : all_items c.args.text.now ≡ found.0 = found.1 ∙ ap (λ xs. found.0 ++ xs) none ∙ append-nil found.0 in
+    record { front = subst (λ items. IsLexedFront c.args.text.now items c.loop-item.front) (sym whole) found.2 }
 
 pub cost_of-requires-2 : goal.cost_of-requires-2
 cost_of-requires-2 c =

@@ -1,5 +1,5 @@
-use Rattle.std.proofs.Common.{◌≡◌, length, true}
-use Rattle.starlark_syntax.specs.Joining.{is_closed}
+use Rattle.std.proofs.Common.{length}
+use Rattle.starlark_grammar.specs.Found.{IsClosed}
 use Rattle.starlark_document.proofs.FirstSegments.{empty_closed, line_closed, whole_last, whole_open, zero_of}
 use Rattle.starlark_document.proofs.segment_lexing.whole_segment.Goals as goal
 use Rattle.starlark_document.proofs.segment_lexing.whole_segment.Goals.{then-is_empty-via-then-is_empty, then-is_empty-via-else-is_empty+then-front-text}
@@ -13,7 +13,7 @@ pub returns-then-is_empty-clause-segment : goal.returns-then-is_empty-clause-seg
 returns-then-is_empty-clause-segment c =
     let found = c.in_ok-segment-2.ensures in
     let text = c.args.text.now in
-    let closed : is_closed text ≡ true = elim c.then-is_empty.branch [
+    let closed : IsClosed text = elim c.then-is_empty.branch [
       | then-is_empty-via-then-is_empty w ↦ empty_closed text (zero_of (length text) w.if-is_empty.ensures)
       | then-is_empty-via-else-is_empty+then-front-text w ↦ line_closed text c.args.front c.requires.front w.if-front-text.true
     ] in
