@@ -13,10 +13,10 @@ use Rattle.starlark_c.specs.declared.recovered_endings.Counts.{Counts}
 use Rattle.starlark_c.proofs.AddedItems.{have_more, need}
 use Rattle.starlark_c.proofs.Recovered.{IsDone, held_before, lacking}
 use Rattle.starlark_document.specs.Documents.{faults_of, lexemes_of}
-use Rattle.starlark_grammar.proofs.Recovery.Order.{faults_in_order, lexemes_in_order}
+use Rattle.starlark_grammar.proofs.Found.Order.{found_faults_in_order, found_lexemes_in_order}
+use Rattle.starlark_grammar.specs.Found.{found, lexemes_in}
 use Rattle.starlark_grammar.specs.Tokens.{Fault, Spanned}
 use Rattle.starlark_grammar.specs.Words.{Text}
-use Rattle.starlark_syntax.specs.Recovery.{recovered}
 use Rattle.starlark_syntax.specs.RecoveryLaws.{AreInOrder}
 use Rattle.starlark_token.specs.Lexemes.{shown_lexeme}
 use Rattle.starlark_token.specs.TextItems.{LexerItem, Refused}
@@ -170,10 +170,10 @@ shown_in_order f start end (x ∷ xs) same order =
 
 pub lexemes_within : (text : Text) → length text < 2 ^ 32 → AreWithin (lexemes_of text)
 lexemes_within text fits =
-    (0, length text, fits, shown_in_order shown_lexeme 0 (length text) (recovered text).lexemes (λ x. (refl, refl)) (lexemes_in_order text))
+    (0, length text, fits, shown_in_order shown_lexeme 0 (length text) (lexemes_in (found text)) (λ x. (refl, refl)) (found_lexemes_in_order text))
 
 pub faults_within : (text : Text) → length text < 2 ^ 32 → AreWithin (faults_of text)
-faults_within text fits = (0, length text, fits, faults_in_order text)
+faults_within text fits = (0, length text, fits, found_faults_in_order text)
 
 -- What is wanted
 
