@@ -88,7 +88,7 @@ impl Linter {
         self.keep_width(&token, width)
     }
 
-    /// Stores a fault. No block is open after it.
+    /// Stores a fault, and forgets the open blocks.
     fn keep_fault(&mut self, fault: EvalException) -> Result<(), AllocError> {
         self.widths.clear();
         self.faults.push(fault)?;
