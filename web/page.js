@@ -15,6 +15,7 @@ const LONG_TEXT = 200_000;
 const SLOW_LEXING = 40;
 const PAUSE = 300;
 const GROUPS = "keyword number string insert comment operator punctuation layout".split(" ");
+const NOT_CODE = new Set(["Comment", "Indent", "Dedent"]);
 const THEMES = { auto: "light dark", light: "light", dark: "dark" };
 
 const part = (id) => document.getElementById(id);
@@ -47,25 +48,16 @@ const { text } = editor;
 // Lexing
 
 /** Offsets where the text may be cut: a line of code begins there, and no block, bracket or f-string is
- * open. Outside of brackets and f-strings a line end is a `Newline`. */
-function cutsOf(tokens, faults) {
+ * open. Outside of brackets and f-strings a line end is a `Newline`, and code without indentation is in
+ * no block. */
+function cutsOf(tokens) {
     const found = [];
-    let depth = 0;
     let lineStart = 0;
-    let fault = 0;
     for (let index = 0; index < tokens.length; index++) {
         const kind = tokens.kind(index);
-        if (faults[fault]?.tokensBefore === index) {
-            depth = 0;
-            fault++;
-        }
         if (kind === "Newline") {
             lineStart = tokens.end(index);
-        } else if (kind === "Indent") {
-            depth++;
-        } else if (kind === "Dedent") {
-            depth--;
-        } else if (depth === 0 && tokens.start(index) === lineStart && kind !== "Comment") {
+        } else if (tokens.start(index) === lineStart && !NOT_CODE.has(kind)) {
             found.push(lineStart);
         }
     }
@@ -110,7 +102,7 @@ function lexAll() {
     part("time").dataset.milliseconds = milliseconds;
     part("time").textContent = `lexed in ${milliseconds < 0.1 ? "< 0.1" : milliseconds.toFixed(1)} ms`;
     marks = lexed.faults.map((fault) => markOf(whole, fault));
-    cuts = whole.length > LONG_TEXT ? cutsOf(lexed.tokens, lexed.faults) : [];
+    cuts = whole.length > LONG_TEXT ? cutsOf(lexed.tokens) : [];
     coloured = { tokens: lexed.tokens, base: 0 };
     isWhole = true;
     list.tokens = lexed.tokens;

@@ -311,7 +311,12 @@ bool starlark_fault_is_final(const uint8_t *front, size_t front_len, uint32_t fa
  * With STARLARK_STATUS_WHOLE the buffers have all lexemes and all faults of the text, each in
  * order, and their values. The values are one after another in the order of the text: what a fault
  * names is after the values of the lexemes before it. All offsets count from the first byte of the
- * text. After a fault lexing begins again where starlark_restart says.
+ * text.
+ *
+ * A reserved word, an integer with a leading 0, a character that begins no token, and a tab in code
+ * keep their lines: lexing goes on after them, with all brackets, f-strings and blocks open. After
+ * any other fault it begins again at the next line, as if that began a text of its own. Each such
+ * fault but the tab names its text: so a caller may take a reserved word as a name.
  *
  * With STARLARK_STATUS_FULL one of the buffers has no room for all. A next call with buffers of the
  * wanted sizes has room. So one call with empty buffers tells how much a text needs. The buffers
@@ -319,7 +324,8 @@ bool starlark_fault_is_final(const uint8_t *front, size_t front_len, uint32_t fa
  * STARLARK_STATUS_MEMORY they have the first lexemes and faults of the text. After what they have
  * they are as they were.
  *
- * The call tests once that the bytes are UTF-8, and lexes each byte once. */
+ * The call tests once that the bytes are UTF-8, and lexes each byte once. Of a text with a fault
+ * that keeps its line it allocates a copy, which it frees before it returns. */
 uint32_t starlark_lex_recovering(const uint8_t *text, size_t text_len,
                                  starlark_lexeme *lexemes, size_t lexemes_cap,
                                  uint8_t *values, size_t values_cap,
@@ -329,14 +335,14 @@ uint32_t starlark_lex_recovering(const uint8_t *text, size_t text_len,
 /* What starlark_restart returns where no fault of the text has the numbers. */
 #define STARLARK_NO_RESTART SIZE_MAX
 
-/* Returns the offset where lexing begins again after a fault: the start of a later line, or the end
- * of the text. What comes from there on is lexed as a text of its own, with no open bracket, block
- * or f-string.
+/* Returns the offset at which a caller begins anew after a fault, without a state: the start of a
+ * later line, or the end of the text. What comes from there on is lexed as a text of its own, with
+ * no open bracket, block or f-string.
  *
  * The text is the one that the call of starlark_lex was given, and the numbers are those of its
  * outcome. For others it returns STARLARK_NO_RESTART: where the text is not UTF-8, where an offset
- * is past its end, inside a character or out of order, or where no fault has the number. So all
- * lexemes and all faults of a text are found by
+ * is past its end, inside a character or out of order, or where no fault has the number. So buffers
+ * of a fixed size serve a text with faults by
  *
  *     size_t from = 0;
  *     do {
@@ -353,9 +359,10 @@ uint32_t starlark_lex_recovering(const uint8_t *text, size_t text_len,
  *              || (outcome.status == STARLARK_STATUS_FULL && outcome.next > 0));
  *
  * where offsets of lexemes and faults count from `from`. With STARLARK_STATUS_FULL and `next` 0
- * larger buffers are wanted. Both calls test that all bytes from there on are UTF-8. So a text with
- * n faults, far from each other, is read n times. starlark_lex_recovering finds the same in one
- * call, and reads the text once. */
+ * larger buffers are wanted. The loop leaves out what is on the line after a fault. Both calls test
+ * that all bytes from there on are UTF-8. So a text with n faults, far from each other, is read n
+ * times. starlark_lex_recovering reads the text once, and finds more: it goes on within the line
+ * after a fault that keeps its line. */
 size_t starlark_restart(const uint8_t *text, size_t text_len,
                         uint32_t fault_begin, uint32_t fault_end, uint32_t fault_kind);
 

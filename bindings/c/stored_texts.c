@@ -7,12 +7,15 @@
  * nothing is compared. Each text of at most 64 bytes is also lexed in pieces, with buffers of each
  * smaller size: the pieces joined have to be the whole, what a call says it wants has to be enough
  * for the next one, and nothing may be written outside of what a call tells. Each text is also
- * lexed front by front, a short one with fronts of each length.
+ * lexed front by front, a short one with fronts of each length. Up to the first fault of each text
+ * starlark_lex_recovering has to find what starlark_lex finds. After each of its faults, where a
+ * caller begins anew there, starlark_restart has to return the next line.
  *
- * Their parts `recovered` are texts that are lexed on after their faults, with buffers of each size
- * from 0 to what the whole text needs: by starlark_lex and starlark_restart, and by
- * starlark_lex_recovering. That call also lexes each text of the parts `texts`, up to whose first
- * fault it has to find what starlark_lex finds. */
+ * Their parts `recovered` are texts that are lexed on after their faults by
+ * starlark_lex_recovering, with buffers of several sizes. Up to the first fault starlark_lex has to
+ * find the same, with buffers of each size from 0 to what the whole text needs. A function with a
+ * reserved word on each line has to have the layout and the other lexemes of one with names there.
+ */
 #include "starlark_lex.h"
 
 #include <inttypes.h>
@@ -24,6 +27,7 @@
 #define SMALL_TEXT 64
 #define GUARD 16
 #define UNTOUCHED 0xA5
+#define RESERVED_WORDS 8000
 
 _Static_assert(sizeof(size_t) != 8 || sizeof(starlark_lexeme) == 32, "a lexeme has 32 bytes");
 _Static_assert(sizeof(size_t) != 8 || sizeof(starlark_found_fault) == 40,
@@ -637,12 +641,83 @@ static bool is_recovered(const lexed *whole)
     return is_right;
 }
 
+/* The end of the line at an offset. */
+static size_t line_end(bytes from, size_t at)
+{
+    const uint8_t *end = memchr(from.at + at, '\n', from.len - at);
+    if (end == NULL)
+        stop("a last line without its end");
+    return (size_t)(end - from.at) + 1;
+}
+
+/* Whether the line at an offset has nothing but a comment. */
+static bool is_comment_only(bytes source, size_t at)
+{
+    while (at < source.len
+           && (source.at[at] == ' ' || source.at[at] == '\t' || source.at[at] == '\r'))
+        at++;
+    return at < source.len && source.at[at] == '#';
+}
+
+/* The offset of the tab of a fault that begins at an offset. In a margin it comes after a line end
+ * and comment-only lines. */
+static size_t tab_of(bytes source, size_t begin)
+{
+    if (begin > 0 && source.at[begin] == '\t')
+        return begin;
+    size_t line = begin + (source.at[begin] == '\r');
+    line += source.at[line] == '\n';
+    while (is_comment_only(source, line))
+        line = line_end(source, line);
+    const uint8_t *tab = memchr(source.at + line, '\t', source.len - line);
+    if (tab == NULL)
+        stop("the fault of a tab without a tab");
+    return (size_t)(tab - source.at);
+}
+
+/* Where a caller begins anew after the fault of an outcome. It has to be the next line: after the
+ * first LF from the fault's last byte on, or from the tab on; or the end of the text. */
+static size_t restart_of(bytes source, const starlark_outcome *outcome)
+{
+    size_t last = outcome->fault_begin;
+    if (outcome->fault_kind == STARLARK_FAULT_INVALID_TAB)
+        last = tab_of(source, last);
+    else if (outcome->fault_end > last)
+        last = outcome->fault_end - 1;
+    const uint8_t *lf = memchr(source.at + last, '\n', source.len - last);
+    size_t wanted = lf == NULL ? source.len : (size_t)(lf - source.at) + 1;
+    if (starlark_restart(source.at, source.len, outcome->fault_begin, outcome->fault_end,
+                         outcome->fault_kind)
+        != wanted)
+        stop("a caller begins anew at another offset than the next line");
+    return wanted;
+}
+
+/* Begins anew after each fault of a text. Returns how many there are. */
+static size_t begin_anew(bytes source)
+{
+    size_t from = 0;
+    for (size_t faults = 0;; faults++) {
+        bytes rest = {source.at + from, source.len - from};
+        buffers into = buffers_of(2 * rest.len + 1, 2 * rest.len);
+        starlark_outcome outcome = lex(rest, into);
+        release(into);
+        if (outcome.status == STARLARK_STATUS_WHOLE
+            || (from == 0 && outcome.status == STARLARK_STATUS_NOT_UTF8))
+            return faults;
+        if (outcome.status != STARLARK_STATUS_FAULT)
+            stop("a text is lexed to no end after a fault");
+        from += restart_of(rest, &outcome);
+    }
+}
+
 /* The counts of what was compared. */
 typedef struct tally {
     size_t texts;
     size_t lexemes;
     size_t calls;
     size_t cuts;
+    size_t faults;
 } tally;
 
 /* Lexes a text, and returns the end of its lines in what has to be printed. */
@@ -662,6 +737,7 @@ static size_t compare(bytes source, size_t number, bytes printed, size_t at, tal
     }
     counts->texts++;
     counts->lexemes += outcome.lexemes;
+    counts->faults += begin_anew(source);
     lexed whole = {source, into, outcome};
     if (source.len <= SMALL_TEXT && outcome.status <= STARLARK_STATUS_FAULT
         && !are_all_pieces(&whole, &counts->calls)) {
@@ -685,15 +761,6 @@ static size_t compare(bytes source, size_t number, bytes printed, size_t at, tal
     return at + line.len;
 }
 
-/* The end of the line at an offset. */
-static size_t line_end(bytes from, size_t at)
-{
-    const uint8_t *end = memchr(from.at + at, '\n', from.len - at);
-    if (end == NULL)
-        stop("a last line without its end");
-    return (size_t)(end - from.at) + 1;
-}
-
 /* The offset of the first line of a later record. */
 static size_t skip_record(bytes printed, size_t at, size_t number)
 {
@@ -706,42 +773,29 @@ static size_t skip_record(bytes printed, size_t at, size_t number)
     return at;
 }
 
-/* Where the call after an outcome begins, counted from where the call itself began. */
-static size_t next_call(bytes rest, const starlark_outcome *outcome)
-{
-    if (outcome->status != STARLARK_STATUS_FAULT)
-        return outcome->next;
-    size_t next = starlark_restart(rest.at, rest.len, outcome->fault_begin, outcome->fault_end,
-                                   outcome->fault_kind);
-    if (next > rest.len || next == 0)
-        stop("lexing doesn't begin again after a fault");
-    return next;
-}
-
-/* Appends the lines of all lexemes and all faults of a text, by buffers of a size. Where a piece
- * needs more, it gets what it wants. Returns how many calls there were. */
-static size_t add_recovered(text *line, bytes source, size_t lexemes, size_t values)
+/* Appends the lines of a text up to its first fault, by buffers of a size. Where a piece needs
+ * more, it gets what it wants. Returns whether the text has no fault, and adds to the number of
+ * calls. */
+static bool add_up_to_fault(text *line, bytes source, size_t lexemes, size_t values, size_t *calls)
 {
     size_t from = 0;
-    size_t calls = 0;
-    uint32_t status = STARLARK_STATUS_FAULT;
+    uint32_t status = STARLARK_STATUS_FULL;
     buffers into = buffers_of(lexemes, values);
-    while (status == STARLARK_STATUS_FAULT || status == STARLARK_STATUS_FULL) {
-        bytes rest = {source.at + from, source.len - from};
-        starlark_outcome outcome = lex(rest, into);
+    while (status == STARLARK_STATUS_FULL) {
+        starlark_outcome outcome = lex((bytes){source.at + from, source.len - from}, into);
         status = outcome.status;
-        calls++;
+        ++*calls;
         add_found(line, source, from, &outcome, into.lexemes, into.values);
-        from += next_call(rest, &outcome);
+        from += outcome.next;
         bool is_larger = status == STARLARK_STATUS_FULL && outcome.next == 0;
         release(into);
         into = is_larger ? buffers_of(outcome.wanted_lexemes, outcome.wanted_values)
                          : buffers_of(lexemes, values);
     }
     release(into);
-    if (status != STARLARK_STATUS_WHOLE)
+    if (status != STARLARK_STATUS_WHOLE && status != STARLARK_STATUS_FAULT)
         stop("a text is lexed to no end");
-    return calls;
+    return status == STARLARK_STATUS_WHOLE;
 }
 
 /* The first line of a text with a number. */
@@ -766,14 +820,15 @@ static size_t compare_lines(text line, size_t number, bytes printed, size_t at)
     return at + line.len;
 }
 
-/* Lexes a text on after its faults by buffers of a size, and returns the end of its lines in what
- * has to be printed. */
-static size_t compare_recovered(bytes source, size_t number, bytes printed, size_t at,
-                                size_t lexemes, size_t values, tally *counts)
+/* Lexes a text up to its first fault by buffers of a size. Its lines have to be the first of those
+ * that have to be printed, and all of them only without a fault. */
+static void compare_up_to_fault(bytes source, size_t number, bytes printed, size_t lexemes,
+                                size_t values, size_t *calls)
 {
     text line = numbered(number);
-    counts->calls += add_recovered(&line, source, lexemes, values);
-    return compare_lines(line, number, printed, at);
+    bool is_all = add_up_to_fault(&line, source, lexemes, values, calls);
+    if ((compare_lines(line, number, printed, 0) == printed.len) != is_all)
+        stop("a text is lexed on after a fault, or not to its end");
 }
 
 /* Appends the lines of all lexemes and all faults that a call found. */
@@ -830,26 +885,89 @@ static size_t compare_recovering(bytes source, size_t number, bytes printed, siz
 /* Compares all texts that are lexed on after their faults. */
 static void compare_all_recovered(bytes stored, bytes printed)
 {
-    tally counts = {0, 0, 0, 0};
+    tally counts = {0, 0, 0, 0, 0};
     size_t out = 0;
     for (size_t at = 0; at < stored.len; counts.texts++) {
         size_t begin = line_end(stored, at);
         bytes source = {stored.at + begin, strtoul((char *)stored.at + at, NULL, 10)};
         size_t end = compare_recovering(source, counts.texts + 1, printed, out);
-        for (size_t room = 0; room <= 2 * source.len + 1; room++)
-            if (compare_recovered(source, counts.texts + 1, printed, out, room, 2 * source.len,
-                                  &counts)
-                    != end
-                || compare_recovered(source, counts.texts + 1, printed, out, 2 * source.len + 1,
-                                     room, &counts)
-                       != end)
-                stop("a text has more lines with other buffers");
+        bytes lines = {printed.at + out, end - out};
+        size_t most = 2 * source.len + 1;
+        for (size_t room = 0; room <= most; room++) {
+            compare_up_to_fault(source, counts.texts + 1, lines, room, most, &counts.calls);
+            compare_up_to_fault(source, counts.texts + 1, lines, most, room, &counts.calls);
+        }
+        counts.faults += begin_anew(source);
         out = end;
         at = begin + source.len + 1;
     }
     if (out != printed.len)
         stop("there are more lines of faults than texts");
-    printf("%zu texts lexed on after faults, %zu calls\n", counts.texts, counts.calls);
+    printf("%zu texts lexed on after faults, %zu calls up to the first, %zu faults after which a "
+           "caller begins anew\n",
+           counts.texts, counts.calls, counts.faults);
+}
+
+/* A function that calls another one, of a name, on each of its lines. */
+static text calls_of(const char *name)
+{
+    text body = {NULL, 0, 0};
+    add_word(&body, "def f():\n");
+    for (size_t line = 0; line < RESERVED_WORDS; line++) {
+        add_word(&body, "    ");
+        add_word(&body, name);
+        add_word(&body, "(x)\n");
+    }
+    return body;
+}
+
+/* Whether a fault is that of a reserved word, and lies where a lexeme is a name. */
+static bool is_reserved(const starlark_found_fault *fault, const uint8_t *values, const char *word,
+                        const starlark_lexeme *name)
+{
+    return fault->kind == STARLARK_FAULT_RESERVED_KEYWORD && fault->value_len == strlen(word)
+           && memcmp(values + fault->value_begin, word, fault->value_len) == 0
+           && name->kind == STARLARK_KIND_IDENTIFIER && fault->begin == name->begin
+           && fault->end == name->end;
+}
+
+/* Whether one call finds a reserved word where another finds a name, and else the same lexemes. */
+static bool has_reserved(const recovery *call, const char *word, const recovery *names)
+{
+    size_t at = 0;
+    size_t fault = 0;
+    while (at + fault < names->outcome.lexemes) {
+        const starlark_lexeme *wanted = &names->into.lexemes[at + fault];
+        if (fault < call->outcome.faults && call->faults[fault].lexemes_before == at) {
+            if (!is_reserved(&call->faults[fault++], call->into.values, word, wanted))
+                return false;
+            continue;
+        }
+        const starlark_lexeme *found = &call->into.lexemes[at++];
+        if (at > call->outcome.lexemes || found->kind != wanted->kind
+            || found->begin != wanted->begin || found->end != wanted->end)
+            return false;
+    }
+    return at == call->outcome.lexemes && fault == call->outcome.faults;
+}
+
+/* Lexes a function with a reserved word on each line, which costs that word alone: the layout and
+ * all other lexemes are those of the function with names. */
+static void pass_reserved_words(void)
+{
+    text words = calls_of("assert");
+    text names = calls_of("asserx");
+    sizes room = {2 * words.len + 1, words.len, words.len};
+    recovery call = recover((bytes){(uint8_t *)words.at, words.len}, room);
+    recovery wanted = recover((bytes){(uint8_t *)names.at, names.len}, room);
+    if (wanted.outcome.faults != 0 || call.outcome.faults != RESERVED_WORDS
+        || !has_reserved(&call, "assert", &wanted))
+        stop("a reserved word costs more than itself");
+    printf("%zu reserved words as names\n", call.outcome.faults);
+    release_recovery(call);
+    release_recovery(wanted);
+    free(words.at);
+    free(names.at);
 }
 
 /* Whether there is nowhere to begin again after a fault of these numbers. */
@@ -920,7 +1038,7 @@ static void cut_fronts(void)
 /* Compares all texts. */
 static void compare_all(bytes stored, bytes printed)
 {
-    tally counts = {0, 0, 0, 0};
+    tally counts = {0, 0, 0, 0, 0};
     size_t at = 0;
     size_t out = 0;
     for (size_t number = 1; at < stored.len; number++) {
@@ -935,8 +1053,9 @@ static void compare_all(bytes stored, bytes printed)
     }
     if (out != printed.len)
         stop("there are more lines than texts");
-    printf("%zu texts, %zu lexemes, %zu calls with small buffers and fronts, %zu cuts\n",
-           counts.texts, counts.lexemes, counts.calls, counts.cuts);
+    printf("%zu texts, %zu lexemes, %zu calls with small buffers and fronts, %zu cuts, %zu faults "
+           "after which a caller begins anew\n",
+           counts.texts, counts.lexemes, counts.calls, counts.cuts, counts.faults);
 }
 
 /* The part of a name in a file, which is a list of parts: a line `part NAME LEN`, and LEN bytes. */
@@ -968,6 +1087,7 @@ int main(int count, char **words)
     refuse_numbers();
     cut_fronts();
     compare_all_recovered(part_of(stored, "recovered"), part_of(printed, "recovered"));
+    pass_reserved_words();
     free(stored.at);
     free(printed.at);
     return 0;

@@ -176,8 +176,10 @@ export declare class Lexer {
     /** The tokens of a text up to its first fault, and that fault if there is one. */
     lex(text: Source): Lexed;
     /**
-     * All tokens and all faults of a text. After each fault lexing begins again at a later line, as
-     * if that began a text of its own.
+     * All tokens and all faults of a text. A reserved word, an integer with a leading 0, a
+     * character that begins no token, and a tab in code keep their lines: lexing goes on after
+     * them, with all brackets, f-strings and blocks open. After any other fault it begins again at
+     * the next line, as if that began a text of its own.
      */
     lexRecovering(text: Source): Lexed;
     /** All faults of a text, as `lexRecovering` finds them. */

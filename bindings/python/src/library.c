@@ -206,20 +206,23 @@ static PyMethodDef methods[] = {
          "tokenize(source, recover=False)\n--\n\n"
          "The tokens of a text, in order: an iterator.\n\n"
          "It raises `StarlarkFault` after the tokens before the first fault. With `recover` it\n"
-         "raises no fault: after each one it begins again at a later line, as if that began a\n"
-         "text of its own. The call itself raises `TypeError` for what is neither `str` nor\n"
-         "`bytes`, `UnicodeError` for what isn't UTF-8, and `ValueError` for more than\n"
-         "4294967295 bytes."),
+         "raises no fault. A reserved word, an integer with a leading 0, a character that\n"
+         "begins no token, and a tab in code keep their lines: it goes on after them, with all\n"
+         "brackets, f-strings and blocks open. After any other fault it begins again at the next\n"
+         "line, as if that began a text of its own.\n\n"
+         "The call itself raises `TypeError` for what is neither `str` nor `bytes`, `UnicodeError`\n"
+         "for what isn't UTF-8, and `ValueError` for more than 4294967295 bytes."),
     CALL(lex,
          "lex(source)\n--\n\n"
          "All tokens of a text and None, or the tokens before its first fault and that fault."),
     CALL(lex_all,
          "lex_all(source)\n--\n\n"
-         "All tokens and all faults of a text, in two lists. After each fault lexing begins again\n"
-         "at a later line."),
+         "All tokens and all faults of a text, in two lists.\n\n"
+         "Lexing goes on after each fault as that of `tokenize` does with `recover`."),
     CALL(faults,
          "faults(source)\n--\n\n"
-         "All faults of a text, in order. After each one lexing begins again at a later line."),
+         "All faults of a text, in order.\n\n"
+         "Lexing goes on after each one as that of `tokenize` does with `recover`."),
     CALL(lex_items,
          "lex_items(source)\n--\n\n"
          "All tokens and all faults of a text in one list, in order."),

@@ -132,7 +132,7 @@ class RecoveredTexts(unittest.TestCase):
         printed = read_part("stdout", "recovered").decode()
         texts = [source for _, _, source in stored_texts("recovered")]
         parts = [part.partition("\n")[2] for part in ("\n" + printed).split("\ntext ")[1:]]
-        self.assertEqual((len(texts), len(parts)), (119, 119))
+        self.assertEqual((len(texts), len(parts)), (139, 139))
         for source, part in zip(texts, parts):
             lines = [line + "\n" for line in re.split(r"\n(?=(?:fault )?\d+-\d+ )", part.rstrip("\n"))]
             tokens, all_faults = lex_all(source)
@@ -250,22 +250,32 @@ class Faults(unittest.TestCase):
     def test_all(self) -> None:
         source = "f(\n  'é\nb\n\tc\nd = 01\n"
         tokens, all_faults = lex_all(source)
-        self.assertEqual([token.string for token in tokens], ["f", "(", "b", "d", "=", ""])
+        self.assertEqual([token.string for token in tokens], ["f", "(", "b", "d", "=", "\n", ""])
         self.assertEqual([fault.type for fault in all_faults], [4, 3, 8])
         self.assertEqual([fault.start for fault in all_faults], [(2, 2), (3, 1), (5, 4)])
         self.assertEqual([fault.span for fault in all_faults], [(5, 8), (10, 10), (18, 20)])
         self.assertEqual([fault.line for fault in all_faults], ["  'é\n", "b\n", "d = 01\n"])
         self.assertEqual(tokens[3].span, (14, 15))
 
+    def test_a_reserved_word_as_a_name(self) -> None:
+        source = "def f():\n  assert.eq(x,\ny)\n"
+        tokens, (fault,) = lex_all(source)
+        names, none = lex_all(source.replace("assert", "asserx"))
+        (name,) = (token for token in names if token.string == "asserx")
+        found, wanted = ([(token.type, token.span) for token in some if token != name] for some in (tokens, names))
+        self.assertEqual(found, wanted)
+        self.assertEqual((fault.type, fault.span, none), (FaultKind.RESERVED_KEYWORD, name.span, []))
+        self.assertEqual(fault.line[fault.start[1] : fault.end[1]], "assert")
+
     def test_a_fault_on_each_line(self) -> None:
         tokens, all_faults = lex_all("a = !\n" * 1000)
-        self.assertEqual(len(tokens), 2001)
+        self.assertEqual(len(tokens), 3001)
         self.assertEqual([fault.start for fault in all_faults], [(line, 4) for line in range(1, 1001)])
 
     def test_many_faults_take_no_longer(self) -> None:
         lines = (
-            ("name = 'é汉🔬' ! # ü\n", "!", FaultKind.INVALID_INPUT, "invalid input `!`"),
-            ("name = 'é汉🔬' 01 'é\n", "01", FaultKind.STARTS_ZERO, "integer cannot have leading 0, got `01`"),
+            ("name = 'é汉🔬' !\n", "!", FaultKind.INVALID_INPUT, "invalid input `!`"),
+            ("name = 'é汉🔬' 01\n", "01", FaultKind.STARTS_ZERO, "integer cannot have leading 0, got `01`"),
         )
         wanted_tokens: List[Token] = []
         wanted_faults: List[Fault] = []
@@ -279,7 +289,10 @@ class Faults(unittest.TestCase):
                 Token(Kind.STRING, "'é汉🔬'", places[7], places[12], line, "é汉🔬", (at + 7, at + 18)),
             ]
             span = at + 19, at + 19 + len(word)
-            wanted_faults.append(Fault(kind, "Parse error: " + message, places[13], places[13 + len(word)], line, span))
+            after = places[13 + len(word)]
+            wanted_faults.append(Fault(kind, "Parse error: " + message, places[13], after, line, span))
+            end_of_line = span[1], span[1] + 1
+            wanted_tokens.append(Token(Kind.NEWLINE, "\n", after, (number + 1, 0), line, None, end_of_line))
             at += len(line.encode())
         end = 20001, 0
         wanted_tokens.append(Token(Kind.NEWLINE, "", end, end, "", None, (at, at)))
@@ -336,7 +349,7 @@ class Printed(unittest.TestCase):
         _, *found, _ = [json.loads(line) for line in out.splitlines()]
         self.assertEqual(status, 1)
         values = [(item["kind"], item["value"]) for item in found if item["kind"] != "Fault"]
-        self.assertEqual(values, [("Bytes", "ff"), ("Newline", None)])
+        self.assertEqual(values, [("Bytes", "ff"), ("Newline", None), ("Newline", None)])
         spans = [(item["code"], item["begin"], item["end"]) for item in found if item["kind"] == "Fault"]
         self.assertEqual(spans, [("SL008", 8, 10), ("SL002", 11, 12)])
 

@@ -49,7 +49,7 @@ class Files(unittest.TestCase):
     def test_several_files(self) -> None:
         done = run(self.good, "-", self.bad, source=b"z")
         names = [line.partition(b":")[0].decode() for line in done.stdout.splitlines()]
-        self.assertEqual(names, [str(self.good)] * 3 + ["<stdin>"] * 2 + [str(self.bad)] * 2)
+        self.assertEqual(names, [str(self.good)] * 3 + ["<stdin>"] * 2 + [str(self.bad)] * 3)
         self.assertEqual((done.returncode, done.stderr.count(b"\n")), (1, 1))
 
     def test_a_file_that_is_missing(self) -> None:
@@ -164,6 +164,8 @@ class Json(unittest.TestCase):
                 '{"file":"<stdin>","kind":"Fault","begin":2,"end":4,"line":1,"column":3,"end_line":1,'
                 '"end_column":5,"utf16_column":3,"value":"Parse error: integer cannot have leading 0, got `01`",'
                 '"code":"SL008"}',
+                '{"file":"<stdin>","kind":"Newline","begin":4,"end":5,"line":1,"column":5,"end_line":2,'
+                '"end_column":1,"utf16_column":5,"value":null}',
                 '{"file":"<stdin>","kind":"Newline","begin":5,"end":5,"line":2,"column":1,"end_line":2,'
                 '"end_column":1,"utf16_column":1,"value":null}',
                 '{"kind":"Summary","files":1,"faulty_files":1,"faults":1,"unreadable":0}',

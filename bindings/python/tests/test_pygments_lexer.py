@@ -184,11 +184,14 @@ class Errors(unittest.TestCase):
 
     def test_characters(self) -> None:
         found = errors("x = '汉 a\ny = 01 !\nz ?")
-        self.assertEqual(found, [(4, "'汉 a"), (13, "01"), (20, "?")])
+        self.assertEqual(found, [(4, "'汉 a"), (13, "01"), (16, "!"), (20, "?")])
 
     def test_rest_of_the_line(self) -> None:
-        parts = [("Name", "x"), ("Error", "!"), ("Text", " 1 'é'\n"), ("Name", "y")]
-        self.assertEqual(named_parts("x ! 1 'é'\ny"), parts)
+        begin, end = ("Name", "x"), ("Name", "y")
+        kept = [begin, ("Error", "!"), ("Literal.Number.Integer", "1"), ("Literal.String", "'é'"), end]
+        self.assertEqual(named_parts("x ! 1 'é'\ny"), kept)
+        lost = [begin, ("Text", " '"), ("Error", "\\xg"), ("Text", "' 1 'é'\n"), end]
+        self.assertEqual(named_parts("x '\\xg' 1 'é'\ny"), lost)
 
     def test_tabs(self) -> None:
         tabs = {"a\tb": 1, "x\n\ty": 2, "x\r\n \ty": 4, "x\n# a\tb\n \ty": 9, "  \t# c\n\tx\ny": 7}

@@ -156,14 +156,6 @@ extern "C" {
 
     fn starlark_place(text: *const u8, text_len: usize, at: usize, place: *mut TextPlace) -> bool;
 
-    fn starlark_restart(
-        text: *const u8,
-        text_len: usize,
-        fault_begin: u32,
-        fault_end: u32,
-        fault_kind: u32,
-    ) -> usize;
-
     fn starlark_fault_message(
         kind: u32,
         named: *const u8,
@@ -655,23 +647,6 @@ impl Drop for OpenDocument {
         // SAFETY: the document is open, and nothing calls with it after this.
         unsafe { starlark_document_close(self.0.get()) }
     }
-}
-
-/// The offset where lexing begins again after a fault of a text, which is the text that was lexed.
-pub(crate) fn restart(text: &str, fault: &FaultRecord) -> usize {
-    // SAFETY: `text` is readable for its length, and its pointer isn't null. Each number may be
-    // asked for.
-    let at = unsafe {
-        starlark_restart(
-            text.as_ptr(),
-            text.len(),
-            fault.begin,
-            fault.end,
-            fault.kind,
-        )
-    };
-    assert!(at <= text.len(), "the fault is not one of this text");
-    at
 }
 
 /// The place of an offset in a text. `None` past its end, and inside a character.

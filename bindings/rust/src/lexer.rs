@@ -1,6 +1,6 @@
 //! The lexer: an iterator over a text's lexemes.
 
-use crate::ffi::{self, Buffers, Ending, FaultRecord};
+use crate::ffi::{Buffers, Ending, FaultRecord};
 use crate::piece::Piece;
 use crate::{Fault, FaultKind, Lexeme, TooLong};
 use std::iter::FusedIterator;
@@ -24,7 +24,7 @@ enum After {
     /// The text's fault.
     Fault(FaultRecord),
     /// Nothing, since the text's fault was yielded.
-    Passed(FaultRecord),
+    Passed,
     /// Nothing.
     End,
 }
@@ -104,15 +104,18 @@ impl<'a> Lexer<'a> {
         self.text
     }
 
-    /// Goes on after a fault that was yielded: at the next line, as a text of its own, to the end of
-    /// the text. The buffers have all lexemes and faults from there on then.
+    /// Goes on after a fault that was yielded, to the end of the text, and tells whether one was. The
+    /// buffers have all lexemes and faults of the piece and of what comes after it then; those that
+    /// were yielded are the first.
     ///
     /// Nothing changes where none was.
     #[inline]
-    pub(crate) fn pass_fault(&mut self) {
-        if let After::Passed(record) = self.after {
-            self.lex_recovering(&record);
+    pub(crate) fn pass_fault(&mut self) -> bool {
+        let is_passed = matches!(self.after, After::Passed);
+        if is_passed {
+            self.lex_recovering();
         }
+        is_passed
     }
 
     /// The fault with an index among those that the buffers have, if it comes next.
@@ -135,10 +138,10 @@ impl<'a> Lexer<'a> {
                     self.lex(from);
                 }
                 After::Fault(record) => {
-                    self.after = After::Passed(record);
+                    self.after = After::Passed;
                     return Err(Some(self.fault(&record)));
                 }
-                After::Passed(_) | After::End => return Err(None),
+                After::Passed | After::End => return Err(None),
             }
         }
         Ok(())
@@ -170,13 +173,9 @@ impl<'a> Lexer<'a> {
         };
     }
 
-    /// Fills the buffers with all lexemes and faults that come after a fault of the piece.
+    /// Fills the buffers with all lexemes and faults from where the piece begins.
     #[cold]
-    fn lex_recovering(&mut self, record: &FaultRecord) {
-        let at = ffi::restart(self.piece.text, record);
-        self.piece.from += at as u32;
-        self.piece.text = &self.piece.text[at..];
-        self.index = 0;
+    fn lex_recovering(&mut self) {
         self.after = After::End;
         self.piece.buffers.lex_recovering(self.piece.text);
     }

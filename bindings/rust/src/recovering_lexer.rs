@@ -5,9 +5,11 @@ use std::iter::FusedIterator;
 
 /// All lexemes and all faults of a text, in order.
 ///
-/// It yields what a [`Lexer`] yields up to the first fault. Then it begins again at the next line,
-/// as if that began a text of its own: with no open bracket, f-string or block. So an editor keeps
-/// its colours after an open quote, and a linter shows each fault of a file.
+/// It yields what a [`Lexer`] yields up to the first fault. A reserved word, an integer with a
+/// leading 0, a character that begins no token, and a tab in code keep their lines: it goes on after
+/// them, with all brackets, f-strings and blocks open. After any other fault it begins again at the
+/// next line, as if that began a text of its own. So an editor keeps its colours after an open
+/// quote, and a linter shows each fault of a file.
 ///
 /// What comes after the first fault is lexed at once, and kept until it is yielded: 32 bytes for each
 /// lexeme, and 40 for each fault. So a text with many faults takes no longer than one with few.
@@ -35,7 +37,7 @@ use std::iter::FusedIterator;
 #[derive(Clone, Debug)]
 pub struct RecoveringLexer<'a> {
     lexer: Lexer<'a>,
-    /// How many faults were yielded of those after the lexer's own.
+    /// How many faults were yielded of those that the buffers have. The first is the lexer's own.
     faults: usize,
 }
 
@@ -80,7 +82,9 @@ impl<'a> Iterator for RecoveringLexer<'a> {
 
     #[inline]
     fn next(&mut self) -> Option<Self::Item> {
-        self.lexer.pass_fault();
+        if self.lexer.pass_fault() {
+            self.faults = 1;
+        }
         match self.lexer.next_fault(self.faults) {
             Some(fault) => {
                 self.faults += 1;

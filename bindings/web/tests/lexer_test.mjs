@@ -61,7 +61,7 @@ test("each stored text has the lines of the program", () => {
 
 test("each stored text with faults has the lines of the lexer that goes on after them", () => {
     const texts = recoveredTexts();
-    assert.equal(texts.length, 119);
+    assert.equal(texts.length, 139);
     for (const { source, lines } of texts) {
         assert.equal(linesOfText(lexRecovering, source).trimEnd(), lines.trimEnd(), source.toString());
         assert.deepEqual(faults(source), lexRecovering(source).faults);
@@ -136,7 +136,7 @@ test("a fault has its code, its kind, its message and its place", () => {
         end: 17,
         startByte: 18,
         endByte: 20,
-        tokensBefore: 3,
+        tokensBefore: 6,
     });
     const kinds = ["InvalidInput", "StartsZero", "UnfinishedStringLiteral", "InvalidEscapeSequence", "ReservedKeyword"];
     assert.deepEqual(found.map((fault) => fault.kind), kinds);
