@@ -21,8 +21,8 @@ import random
 import re
 import sys
 
-from shared.plain_lexer import items_of
 from shared.random_texts import INSERTIONS, random_texts
+from shared.repairs import items_of
 from shared.stored import printed_for, read_part, write_part
 
 PART = "documents"

@@ -14,8 +14,7 @@ What is in backquotes is compared, but for blocks of code, and for words of a pa
 - a link to a file has to lead to one;
 - any other name of a program has to be a word of the sources, of the scripts or of `bindings/`.
 
-A page may not count edits, functions or pages: scripts/edits.py and others print the number that is so now. Nor may it have
-a sentence of `EXPIRED`: these were right once, and no name in them shows that they aren't.
+scripts/page_claims.py checks what the pages say of these names.
 """
 
 import functools
@@ -23,11 +22,9 @@ import re
 import sys
 from pathlib import Path
 
+from shared.page_text import NAME, SOURCES, SPAN, files, named_in, paths_of, pieces_of, print_findings, text_of, words_of
 from shared.programs import TOP
 
-SPAN = r"`([^`\n]+)`"
-NAME = re.compile(r"[A-Za-z_]\w*")
-SOURCES = {".rt", ".antt", ".py", ".sh", ".rs", ".c", ".h", ".toml", ".js", ".mjs", ".html", ".yml"}
 # What is built, the reader's, or the kit's: no file of the repository.
 MADE = re.compile(r"^(out|target|crates/\w+/out|\.git)\b|^/dev/|^//|^(ketchupcrag|crates/my_tool)\b|^(src/main\.rs|FROM_RUST\.md|PROVED\.txt|rattle|lib/pkgconfig)$")
 PLACEHOLDER = re.compile(r"NAME|-VERSION|CRATE|WHAT|FILE|DIR|PROGRAM|FOLDER|PAGE|COPY|BUILD|\.\.\.|<|>|\*|\$|\bX\b")
@@ -41,34 +38,22 @@ FOREIGN = set(
     io str char u8 u32 u64 usize i32 f64 bool Vec Box Rc String HashMap Option Result Some None Ok Err Iterator
     """.split()
 )
-COUNTED = re.compile(r"\b(?:some )?\d[\d,]* (?:further )?(?:must-fail )?(?:edits|functions are public|pages)\b(?! (?:of documents|twice))")
-EXPIRED = re.compile(r"x never asks|have had none yet|x \| a function of its own: else", re.IGNORECASE)
+# The scripts on pages, whose examples are no names.
+CHECKS = {"page_names.py", "page_claims.py", "try_page_checks.py"}
 
 
 @functools.cache
-def files():
-    """All files of the repository but what was built."""
-    found = [path for path in TOP.rglob("*") if path.is_file()]
-    return [path for path in found if not {"out", ".git", "__pycache__", "target", "node_modules"} & set(path.relative_to(TOP).parts)]
-
-
-@functools.cache
-def words_of(path):
-    """The words of a file, and its name without suffix."""
-    text = path.read_text(encoding="utf-8", errors="replace")
-    return frozenset(NAME.findall(text)) | {path.stem}
+def sources():
+    """The files whose words are names."""
+    named = ("crates.txt", "run", "starlark_lex", "starlark_tokens")
+    return [path for path in files() if path.name not in CHECKS and (path.suffix in SOURCES or path.name in named)]
 
 
 @functools.cache
 def all_words():
     """The words of all sources, the names of all files, and the folders."""
     words = {part for path in files() for part in path.relative_to(TOP).parts} | {path.stem for path in files()}
-    for path in files():
-        if path == Path(__file__).resolve():
-            continue
-        if path.suffix in SOURCES or path.name in ("crates.txt", "run", "starlark_lex", "starlark_tokens"):
-            words |= words_of(path)
-    return words
+    return words.union(*(words_of(path) for path in sources()))
 
 
 @functools.cache
@@ -78,28 +63,6 @@ def words_of_crate(crate):
     inside = [path for path in files() if path.is_relative_to(folder)]
     words = {part for path in inside for part in path.relative_to(folder).parts} | {path.stem for path in inside}
     return words.union(*(words_of(path) for path in inside if path.suffix in (".rt", ".antt")))
-
-
-@functools.cache
-def by_path():
-    """The files and folders by the ends of their paths; those of .rt and .antt without suffix, too."""
-    found = {}
-    for path in {*files(), *(folder for path in files() for folder in path.parents if folder.is_relative_to(TOP))}:
-        parts = path.relative_to(TOP).parts
-        for at in range(len(parts)):
-            end = "/".join(parts[at:])
-            for name in {end, end.removesuffix(".rt"), end.removesuffix(".antt")}:
-                found.setdefault(name, []).append(path)
-    return found
-
-
-def paths_of(name, page, crate=None):
-    """The files and folders that a name means: from the page, or by the end of a path, in a crate where one is given."""
-    found = by_path().get(name.rstrip("/"), [])
-    if crate:
-        return [path for path in found if path.is_relative_to(TOP / "crates" / crate)]
-    beside = (page.parent / name).resolve()
-    return [*found, beside] if beside.exists() else found
 
 
 def is_path(span):
@@ -125,8 +88,7 @@ def lacks_member(span):
         return True
     if not name:
         return False
-    owners = [path for path in files() if path.suffix in SOURCES and owner in words_of(path)]
-    return not any(name.group() in words_of(path) for path in owners)
+    return not any({owner, name.group()} <= words_of(path) for path in sources())
 
 
 def unknown_names(span):
@@ -140,25 +102,11 @@ def unknown_names(span):
     return [name for name in names if name not in FOREIGN and name not in all_words()]
 
 
-def named_in(text):
-    """Each span of a paragraph or row, with the file or crate that is named with it."""
-    owners = {}
-    for found in re.finditer(rf"((?:{SPAN}(?:, | and |, and |; ))*{SPAN}) \({SPAN}(?: of {SPAN})?\)", text):
-        file = re.findall(SPAN, found.group())[-1 if not found.group().endswith("`)") or found.group(5) is None else -2]
-        for name in re.findall(SPAN, found.group(1)):
-            owners[name] = ("file", file)
-    for found in re.finditer(rf"((?:{SPAN}(?: → |, | and |, and ))*{SPAN}) of (?:the )?`(starlark_\w+)`", text):
-        for name in re.findall(SPAN, found.group(1)):
-            owners.setdefault(name, ("crate", found.groups()[-1]))
-    for span in re.findall(SPAN, text):
-        yield span, owners.get(span)
-
-
 @functools.cache
 def files_with(function):
     """The files that define a function."""
     head = re.compile(rf"\bfn {function}\b")
-    return [path for path in files() if path.suffix == ".rt" and head.search(path.read_text(encoding="utf-8"))]
+    return [path for path in files() if path.suffix == ".rt" and head.search(text_of(path))]
 
 
 def missing_clauses(text):
@@ -200,46 +148,14 @@ def findings_in(text, page):
         if not (page.parent / link).exists():
             yield f"a link leads to no file: {link}"
     yield from missing_clauses(text)
-    bare = re.sub(SPAN, "x", text)
-    if found := COUNTED.search(bare):
-        yield f"a count that a script prints: {found.group()}"
-    if found := EXPIRED.search(bare):
-        yield f"a sentence that was right once: {found.group()}"
 
 
-def pieces_of(page):
-    """The paragraphs and rows of a page, each with its line; blocks of code are left out."""
-    piece, first, fenced = [], 0, False
-    for number, line in enumerate(page.read_text(encoding="utf-8").splitlines(), 1):
-        if line.startswith("```"):
-            fenced = not fenced
-        is_code = fenced or line.startswith(("```", "    ")) and not (piece and piece[-1].startswith(("- ", "  ")))
-        if piece and (is_code or not line.strip() or line.startswith(("|", "- ", "#"))):
-            yield first, " ".join(piece)
-            piece = []
-        if line.strip() and not is_code:
-            first = first if piece else number
-            piece.append(line.strip())
-    if piece:
-        yield first, " ".join(piece)
-
-
-def pages():
-    """The pages that are read."""
-    named = [Path(name).resolve() for name in sys.argv[1:]]
-    return named or [TOP / "README.md", *sorted((TOP / "docs").glob("*.md")), *sorted((TOP / "docs/use").glob("*.md"))]
-
-
-def main():
-    count = 0
-    for page in pages():
-        for number, text in pieces_of(page):
-            for said in dict.fromkeys(findings_in(text, page)):
-                count += 1
-                print(f"{page.name}:{number}: {said}")
-    print(f"names in pages: {count} that aren't there" if count else "names in pages: each is there")
-    return 1 if count else 0
+def findings(text, page):
+    """What a page with this text names and isn't there, each with its line."""
+    for line, piece in pieces_of(text):
+        for said in dict.fromkeys(findings_in(piece, page)):
+            yield line, said
 
 
 if __name__ == "__main__":
-    sys.exit(main())
+    sys.exit(print_findings(findings, "names in pages", "aren't there"))

@@ -19,8 +19,9 @@ import argparse
 import re
 import sys
 
-from shared.plain_lexer import fault_line, items_of, lexeme_line
+from shared.plain_lexer import fault_line, lexeme_line
 from shared.random_texts import LONGEST, is_utf8, random_texts
+from shared.repairs import items_of
 from shared.stored import TEXTS, printed_for, read_part, records_of, write_part
 
 PART = "recovered"

@@ -33,9 +33,10 @@ import warnings
 from pathlib import Path
 from typing import NamedTuple
 
-from shared.plain_lexer import items_of, line_and_column
+from shared.plain_lexer import line_and_column
 from shared.programs import built
 from shared.random_texts import random_texts
+from shared.repairs import items_of
 
 TOP = Path(__file__).resolve().parent.parent
 DATA = TOP / "crates/starlark_tokens/data"

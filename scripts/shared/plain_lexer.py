@@ -505,26 +505,12 @@ def restart(text, fault):
     return next_line(text, max(fault.begin, fault.end - 1))
 
 
-# -- What is found in a text that is lexed on after its faults
+# -- Lexemes of a part of a text
 
 
 def moved_lexeme(lexeme, base):
     """A lexeme moved by `base` bytes."""
     return lexeme._replace(begin=base + lexeme.begin, end=base + lexeme.end)
-
-
-def items_of(text):
-    """All lexemes and all faults of a text, in order, each with what it is."""
-    base = 0
-    while True:
-        lexemes, fault = outcome(text[base:])
-        yield from (("lexeme", moved_lexeme(lexeme, base)) for lexeme in lexemes)
-        if not fault:
-            return
-        later = restart(text[base:], fault)
-        fault.begin, fault.end = base + fault.begin, base + fault.end
-        yield "fault", fault
-        base += later
 
 
 # -- What starlark_lex prints

@@ -95,14 +95,41 @@ def pass_piece(text, offset, situation, lexemes, faults):
     return end
 
 
-def found_in(text, part=passed_part):
-    """All lexemes and all faults of a text, each in order: part after part, each lexed as a text of its own."""
-    all_lexemes, all_faults, base = [], [], 0
+def in_order(lexemes, faults):
+    """Lexemes and the faults that keep their lines, in order, each with what it is: a fault before the lexemes after its repair."""
+    passed = 0
+    for fault in faults:
+        while passed < len(lexemes) and lexemes[passed].begin <= fault.begin:
+            yield "lexeme", lexemes[passed]
+            passed += 1
+        yield "fault", fault
+    yield from (("lexeme", lexeme) for lexeme in lexemes[passed:])
+
+
+def moved_item(what, item, base):
+    """An item moved by `base` bytes."""
+    if what == "lexeme":
+        return what, moved_lexeme(item, base)
+    item.begin, item.end = base + item.begin, base + item.end
+    return what, item
+
+
+def items_of(text, part=passed_part):
+    """All lexemes and all faults of a text, in order, each with what it is."""
+    base = 0
     while True:
         rest = text[base:]
         lexemes, faults, last = part(rest)
-        all_lexemes += [moved_lexeme(lexeme, base) for lexeme in lexemes]
-        all_faults += [(base + fault.begin, base + fault.end, fault.message) for fault in faults + [last] * bool(last)]
+        yield from (moved_item(what, item, base) for what, item in in_order(lexemes, faults))
         if not last:
-            return all_lexemes, all_faults
-        base += restart(rest, last)
+            return
+        later = restart(rest, last)
+        yield moved_item("fault", last, base)
+        base += later
+
+
+def found_in(text, part=passed_part):
+    """All lexemes and all faults of a text."""
+    items = list(items_of(text, part))
+    faults = [(fault.begin, fault.end, fault.message) for what, fault in items if what == "fault"]
+    return [lexeme for what, lexeme in items if what == "lexeme"], faults
