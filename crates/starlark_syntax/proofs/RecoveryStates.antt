@@ -150,7 +150,7 @@ module _ (old : RecoveryState) (fault : Spanned Fault) (stopped : IsStopped old 
     (bytes : bytes_of mended ≡ filled (old.begin + fault.begin) (old.begin + repair_end (part_of old) fault) (bytes_of old.mended)) (some : mended.copy ≡ None → ⊥)
     (lexing : IsLexingIn (repaired (part_of old) fault) state) (count : state.yielded_count ≡ passed_count (part_of old) fault) (going : state.has_ended ≡ false) (reads : earlier ≡ more_reads old.earlier_reads 2) where
   abbrev on : RecoveryState
-  on = record old { mended = mended; state = state; comment_end = None; fault_count = old.fault_count + 1; earlier_reads = earlier }
+  on = record old { mended = mended; state = state; comment = None; fault_count = old.fault_count + 1; earlier_reads = earlier }
 
   abbrev last : ℕ
   last = repair_end (part_of old) fault
@@ -206,6 +206,7 @@ module _ (old : RecoveryState) (fault : Spanned Fault) (stopped : IsStopped old 
             (subst (λ n. AllByRecursion (λ (lexeme : Lexeme). last ≤ lexeme.begin) (drop n (outcome (repaired (part_of old) fault)).lexemes)) (sym count) (left_later (part_of old) fault keeps));
         fault = subst (λ (t : Text). IfSome (outcome t).fault (λ later. (last ≤ later.begin) × (last < length t))) (sym part_is) (fault_later (part_of old) fault keeps);
         comment = λ at. ap (λ (t : Text). ends_by_comment at (take state.yielded_count (outcome t).lexemes)) part_is ∙ ap (λ n. ends_by_comment at (take n (outcome (repaired (part_of old) fault)).lexemes)) count ∙ no_comment (part_of old) fault keeps at;
+        earlier = tt;
         reads = reads_on;
       }
 
@@ -300,7 +301,7 @@ module _ (old : RecoveryState) (fault : Spanned Fault) (stopped : IsStopped old 
   line = restart (part_of old) fault
 
   abbrev again : RecoveryState
-  again = record old { begin = passed.begin; state = state; comment_end = None; fault_count = old.fault_count + 1; earlier_reads = earlier }
+  again = record old { begin = passed.begin; state = state; comment = None; fault_count = old.fault_count + 1; earlier_reads = earlier }
 
   begun_text : state.text.now ≡ drop passed.begin old.mended.text.now
   begun_text = ap (λ (v : StateView). v.text) begun.view
@@ -354,6 +355,7 @@ module _ (old : RecoveryState) (fault : Spanned Fault) (stopped : IsStopped old 
         lexemes = all_from_none (drop state.yielded_count (outcome (part_of again)).lexemes);
         fault = some_bytes (part_of again);
         comment = λ at. ap (λ n. ends_by_comment at (take n (outcome (part_of again)).lexemes)) begun_count;
+        earlier = tt;
         reads = reads_again;
       }
 

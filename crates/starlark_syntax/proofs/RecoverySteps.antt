@@ -1,5 +1,6 @@
 -- The answers of a lexer that goes on after faults.
-use Rattle.std.proofs.Common.{◌≡◌, ◌≤◌, ◌<◌, ◌+◌, ◌||◌, ℕ, zero, suc, Bool, true, false, List, [], ◌∷◌, ◌++◌, map, length, drop, take, refl, ap, sym, subst, ◌∙◌, arith, Ok, Err, None, Some, IfSome, slice_get}
+use Rattle.std.proofs.Common.{◌≡◌, ◌≤◌, ◌<◌, ◌+◌, ◌||◌, ◌&&◌, ◌==◌, ℕ, zero, suc, Bool, true, false, List, [], ◌∷◌, ◌++◌, map, length, drop, take, refl, ap, sym, subst, ◌∙◌, arith, Ok, Err, None, Some, IfSome, slice_get}
+use Rattle.std.proofs.lemmas.Bool.{eq-eqb, ne_eqb}
 use Rattle.std.proofs.lemmas.List.{take_all}
 use Rattle.std.proofs.lemmas.Str.{IsCharBoundary-start}
 use Rattle.std.specs.List.{AllByRecursion}
@@ -20,7 +21,7 @@ use Rattle.starlark_syntax.specs.Inner.LexerStates as lexing
 use Rattle.starlark_syntax.specs.Inner.LexerStates.{HasFound, IsBegun, IsLexingIn, StateView}
 use Rattle.starlark_syntax.specs.Inner.MendedTexts.{bytes_of, copied}
 use Rattle.starlark_syntax.specs.Inner.RawItems.{OffsetsHold}
-use Rattle.starlark_syntax.specs.Inner.RecoveryStates.{HasPassedOn, HasReadBefore, IsAdvanced, IsMended, IsOnward, IsPart, IsRecovering, IsStopped, comment_end, is_end, items_after, items_past, left_of, moved_item, part_of, view_of}
+use Rattle.starlark_syntax.specs.Inner.RecoveryStates.{HasPassedOn, HasReadBefore, IsAdvanced, IsMended, IsOnward, IsPart, IsRecovering, IsStopped, is_comment, is_end, items_after, items_past, last_comment, left_of, moved_item, part_of, view_of}
 use Rattle.starlark_syntax.specs.Lexer.{AnswersNext, is_ended_by, yielded_by}
 use Rattle.starlark_syntax.specs.RecoveringLexer.{AreReadsOn, HasReadOn, IsNextOf, RecoveringView, all_items}
 use Rattle.starlark_syntax.specs.declared.error.kinds.ErrorKind.{ErrorKind}
@@ -52,7 +53,7 @@ views text whole file left more n m ended other reads all t l c e r =
 -- The start of a text
 
 module _ (new : RecoveryState) (text : Text) (file : SourceFile) (utf8 : IsUtf8 text) (fits : length text < 2 ^ 32) (same : new.mended.text.now ≡ text) (none : new.mended.copy ≡ None) (start : new.begin ≡ 0)
-    (begun : IsBegun text new.state) (count : new.fault_count ≡ 0) (comment : new.comment_end ≡ None) (earlier : new.earlier_reads ≡ 0) where
+    (begun : IsBegun text new.state) (count : new.fault_count ≡ 0) (comment : new.comment ≡ None) (earlier : new.earlier_reads ≡ 0) where
   bytes : bytes_of new.mended ≡ text
   bytes = ap (copied new.mended.text.now) none ∙ same
 
@@ -81,7 +82,8 @@ module _ (new : RecoveryState) (text : Text) (file : SourceFile) (utf8 : IsUtf8 
       mended = record { inside = omega arith; same = part ∙ sym same ∙ ap (λ n. drop n new.mended.text.now) (let zero : 0 ≡ new.begin + 0 = omega (arith, start) in zero) };
       lexemes = all_from_none (drop new.state.yielded_count (outcome (part_of new)).lexemes);
       fault = some_bytes (part_of new);
-      comment = λ at. ap (λ n. ends_by_comment at (take n (outcome (part_of new)).lexemes)) yielded ∙ sym (ap (λ end. is_end end at) comment);
+      comment = λ at. ap (λ n. ends_by_comment at (take n (outcome (part_of new)).lexemes)) yielded ∙ sym (ap (λ last. is_end last new.state.yielded_count at) comment);
+      earlier = rw comment tt;
       reads = record { few = omega (arith, count); first = λ h. start; least = omega (arith, count); most = omega (arith, earlier) };
     };
   }
@@ -133,24 +135,36 @@ ends_last at [] lexeme = refl
 ends_last at (first ∷ []) lexeme = refl
 ends_last at (first ∷ second ∷ lexemes) lexeme = ends_last at (second ∷ lexemes) lexeme
 
+-- a comment before the last lexeme is not the last
+not_last : (comment : Option (ℕ × ℕ)) (k at : ℕ) → IfSome comment (λ comment. comment.0 ≤ k) → is_end comment (k + 1) at ≡ false
+not_last None k at before = refl
+not_last (Some comment) k at before = ap (λ b. b && comment.1 == at) (ne_eqb comment.0 (k + 1) (λ same. absurd (omega (arith, before, same))))
+
 -- the code sees the same comments
-comment_shown : (at begin : ℕ) (node : grammar.Token) (end : ℕ) → is_end (comment_end (Whole (shown node)) end) at ≡ is_comment_to at (record { begin = begin; node = node; end = end })
-comment_shown at begin (grammar.Comment text) end = refl
-comment_shown at begin grammar.Indent end = refl
-comment_shown at begin grammar.Dedent end = refl
-comment_shown at begin grammar.Newline end = refl
-comment_shown at begin (grammar.Identifier name) end = refl
-comment_shown at begin (grammar.Int value) end = refl
-comment_shown at begin (grammar.Float text) end = refl
-comment_shown at begin (grammar.String value) end = refl
-comment_shown at begin (grammar.Bytes value) end = refl
-comment_shown at begin (grammar.FStringStart opening) end = refl
-comment_shown at begin (grammar.FStringText value) end = refl
-comment_shown at begin grammar.FStringExprStart end = refl
-comment_shown at begin grammar.FStringExprEnd end = refl
-comment_shown at begin grammar.FStringBang end = refl
-comment_shown at begin grammar.FStringEnd end = refl
-comment_shown at begin (grammar.Word terminal) end = refl
+comment_shown : (before : Option (ℕ × ℕ)) (k at begin : ℕ) (node : grammar.Token) (end : ℕ) → IfSome before (λ comment. comment.0 ≤ k)
+    → is_end (last_comment (Whole (shown node)) (k + 1) end before) (k + 1) at ≡ is_comment_to at (record { begin = begin; node = node; end = end })
+comment_shown before k at begin (grammar.Comment text) end less = ap (λ b. b && end == at) (eq-eqb (k + 1) (k + 1) refl)
+comment_shown before k at begin grammar.Indent end less = not_last before k at less
+comment_shown before k at begin grammar.Dedent end less = not_last before k at less
+comment_shown before k at begin grammar.Newline end less = not_last before k at less
+comment_shown before k at begin (grammar.Identifier name) end less = not_last before k at less
+comment_shown before k at begin (grammar.Int value) end less = not_last before k at less
+comment_shown before k at begin (grammar.Float text) end less = not_last before k at less
+comment_shown before k at begin (grammar.String value) end less = not_last before k at less
+comment_shown before k at begin (grammar.Bytes value) end less = not_last before k at less
+comment_shown before k at begin (grammar.FStringStart opening) end less = not_last before k at less
+comment_shown before k at begin (grammar.FStringText value) end less = not_last before k at less
+comment_shown before k at begin grammar.FStringExprStart end less = not_last before k at less
+comment_shown before k at begin grammar.FStringExprEnd end less = not_last before k at less
+comment_shown before k at begin grammar.FStringBang end less = not_last before k at less
+comment_shown before k at begin grammar.FStringEnd end less = not_last before k at less
+comment_shown before k at begin (grammar.Word terminal) end less = not_last before k at less
+
+-- what is recorded was yielded
+recorded : (is_comment : Bool) (before : Option (ℕ × ℕ)) (k end : ℕ) → IfSome before (λ comment. comment.0 ≤ k) → IfSome (if is_comment then Some (k + 1, end) else before) (λ comment. comment.0 ≤ k + 1)
+recorded true before k end less = omega arith
+recorded false None k end less = tt
+recorded false (Some comment) k end less = omega (arith, less)
 
 -- What is left before an answer
 
@@ -179,12 +193,13 @@ onward_same old state count is =
       mended = record { inside = mended.inside; same = mended.same };
       lexemes = subst (λ n. AllByRecursion (λ (lexeme : Lexeme). is.to ≤ lexeme.begin) (drop n (outcome (part_of old)).lexemes)) (sym count) lexemes;
       fault = is.fault;
-      comment = λ at. ap (λ n. ends_by_comment at (take n (outcome (part_of old)).lexemes)) count ∙ is.comment at;
+      comment = λ at. ap (λ n. ends_by_comment at (take n (outcome (part_of old)).lexemes)) count ∙ is.comment at ∙ sym (ap (λ n. is_end old.comment n at) count);
+      earlier = subst (λ n. IfSome old.comment (λ comment. comment.0 ≤ n)) (sym count) is.earlier;
       reads = is.reads;
     }
 
-part_same : (old : RecoveryState) (state : LexerState) (end : Option ℕ) → IsPart old → IsLexingIn (part_of old) state → (old.mended.copy ≡ None → state.text.now ≡ part_of old) → IsPart (record old { state = state; comment_end = end })
-part_same old state end is lexing own = record { fits = is.fits; utf8 = is.utf8; len = is.len; boundary = is.boundary; whole = is.whole; lexing = lexing; own = own }
+part_same : (old : RecoveryState) (state : LexerState) (comment : Option (ℕ × ℕ)) → IsPart old → IsLexingIn (part_of old) state → (old.mended.copy ≡ None → state.text.now ≡ part_of old) → IsPart (record old { state = state; comment = comment })
+part_same old state comment is lexing own = record { fits = is.fits; utf8 = is.utf8; len = is.len; boundary = is.boundary; whole = is.whole; lexing = lexing; own = own }
 
 -- where what is left ends, of the whole text
 inside_text : (old : RecoveryState) (is : IsPart old) (to : ℕ) → to ≤ length (part_of old) → old.begin + to ≤ length old.mended.text.now
@@ -210,6 +225,23 @@ reads_now old is state lexing going to n inside before =
     let fits = is.fits in
     on_reads old.mended.text.now old.begin to n old.earlier_reads state.reader.reads (inside_text old is to inside) fits before (omega (arith, few, part_len old is))
 
+-- the same state, with another lexeme held
+pub recovering_held : (old : RecoveryState) (held : Option (Result (ℕ × Token × ℕ) (OrMemory (Diagnosed ErrorKind)))) → IsRecovering old → IsRecovering (record old { held = held })
+recovering_held old held is =
+    let part = is.is_part in
+    record {
+      is_part = record { fits = part.fits; utf8 = part.utf8; len = part.len; boundary = part.boundary; whole = part.whole; lexing = part.lexing; own = part.own };
+      onward = λ goes. let on = is.onward goes in record {
+        to = on.to;
+        mended = record { inside = on.mended.inside; same = on.mended.same };
+        lexemes = on.lexemes;
+        fault = on.fault;
+        comment = on.comment;
+        earlier = on.earlier;
+        reads = on.reads;
+      };
+    }
+
 -- Nothing is left
 
 module _ (old : RecoveryState) (is : IsRecovering old) (state : LexerState) (ended : old.state.has_ended ≡ true → state.reader ≡ old.state.reader) (found : old.state.has_ended ≡ false → HasFound (part_of old) old.state None state)
@@ -228,7 +260,7 @@ module _ (old : RecoveryState) (is : IsRecovering old) (state : LexerState) (end
       by false e = let none = found e in left_goes old e ∙ ap (map (moved_item old.begin)) (items_none (part_of old) old.state.yielded_count none.0 none.1)
 
   pub nothing_recovering : IsRecovering (record old { state = state })
-  nothing_recovering = record { is_part = part_same old state old.comment_end is.is_part lexing own; onward = λ goes. onward_same old state same_count (is.onward (sym same_end ∙ goes)) }
+  nothing_recovering = record { is_part = part_same old state old.comment is.is_part lexing own; onward = λ goes. onward_same old state same_count (is.onward (sym same_end ∙ goes)) }
 
   nothing_reads : old.state.has_ended ≡ false → HasReadOn old.mended.text.now old.fault_count None (more_reads old.earlier_reads state.reader.reads)
   nothing_reads goes =
@@ -256,10 +288,10 @@ module _ (old : RecoveryState) (is : IsRecovering old) (state : LexerState) (end
 -- A lexeme is next
 
 module _ (old : RecoveryState) (is : IsRecovering old) (state : LexerState) (from : ℕ) (token : Token) (to : ℕ) (going : old.state.has_ended ≡ false) (found : HasFound (part_of old) old.state (Some (Ok (from, token, to))) state)
-    (lexing : IsLexingIn (part_of old) state) (count : state.yielded_count ≡ old.state.yielded_count + 1) (ends : state.has_ended ≡ (old.state.has_ended || false)) (own : old.mended.copy ≡ None → state.text.now ≡ part_of old) (end : Option ℕ) (comment : end ≡ comment_end (token_view token) to)
+    (lexing : IsLexingIn (part_of old) state) (count : state.yielded_count ≡ old.state.yielded_count + 1) (ends : state.has_ended ≡ (old.state.has_ended || false)) (own : old.mended.copy ≡ None → state.text.now ≡ part_of old) (last : Option (ℕ × ℕ)) (comment : last ≡ last_comment (token_view token) state.yielded_count to old.comment)
     (within : IsWithin (part_of old) from to) (between : IsCharBoundary (part_of old) from × IsCharBoundary (part_of old) to) where
   abbrev past : RecoveryState
-  past = record old { state = state; comment_end = end }
+  past = record old { state = state; comment = last }
 
   goes : state.has_ended ≡ false
   goes = ends ∙ or_false old.state.has_ended ∙ going
@@ -286,14 +318,17 @@ module _ (old : RecoveryState) (is : IsRecovering old) (state : LexerState) (fro
         comment = λ place.
             ap (λ n. ends_by_comment place (take n (outcome (part_of old)).lexemes)) count
             ∙ ap (ends_by_comment place) at.first ∙ ends_last place (take old.state.yielded_count (outcome (part_of old)).lexemes) at.lexeme
-            ∙ sym (comment_shown place at.lexeme.begin at.lexeme.node at.lexeme.end)
-            ∙ ap (λ (x : Spanned TokenView). is_end (comment_end x.node x.end) place) at.shows
-            ∙ sym (ap (λ e. is_end e place) comment);
+            ∙ sym (comment_shown old.comment old.state.yielded_count place at.lexeme.begin at.lexeme.node at.lexeme.end onward.earlier)
+            ∙ ap (λ (x : Spanned TokenView). is_end (last_comment x.node (old.state.yielded_count + 1) x.end old.comment) (old.state.yielded_count + 1) place) at.shows
+            ∙ sym (ap (λ n. is_end (last_comment (token_view token) n to old.comment) n place) count)
+            ∙ sym (ap (λ c. is_end c state.yielded_count place) comment);
+        earlier = subst (λ c. IfSome c (λ comment. comment.0 ≤ state.yielded_count)) (sym comment)
+            (subst (λ n. IfSome (last_comment (token_view token) n to old.comment) (λ comment. comment.0 ≤ n)) (sym count) (recorded (is_comment (token_view token)) old.comment old.state.yielded_count to onward.earlier));
         reads = onward.reads;
       }
 
   pub lexeme_recovering : IsRecovering past
-  lexeme_recovering = record { is_part = part_same old state end is.is_part lexing own; onward = λ on. after_all (is.onward going) }
+  lexeme_recovering = record { is_part = part_same old state last is.is_part lexing own; onward = λ on. after_all (is.onward going) }
 
   edges : IsCharBoundary old.mended.text.now (old.begin + from) × IsCharBoundary old.mended.text.now (old.begin + to)
   edges =
@@ -340,7 +375,7 @@ module _ (old : RecoveryState) (is : IsRecovering old) (state : LexerState) (goi
   ended_now = ends ∙ ap (λ b. b || true) going
 
   pub memory_recovering : IsRecovering (record old { state = state })
-  memory_recovering = record { is_part = part_same old state old.comment_end is.is_part lexing own; onward = λ goes. let wrong : true ≡ false = sym ended_now ∙ goes in cc }
+  memory_recovering = record { is_part = part_same old state old.comment is.is_part lexing own; onward = λ goes. let wrong : true ≡ false = sym ended_now ∙ goes in cc }
 
   pub memory_next : IsNextOf (view_of old) (Some (Err Memory)) (view_of (record old { state = state }))
   memory_next =
@@ -360,7 +395,7 @@ span_has P file fault exception is one = subst (λ (d : Diagnosed ErrorKind). If
 -- A fault is next
 
 module _ (old : RecoveryState) (is : IsRecovering old) (state : LexerState) (raw : ℕ × LexemeError × ℕ) (going : old.state.has_ended ≡ false) (found : HasFound (part_of old) old.state (Some (Err (Error raw))) state)
-    (lexing : IsLexingIn (part_of old) state) (ends : state.has_ended ≡ (old.state.has_ended || true)) (own : old.mended.copy ≡ None → state.text.now ≡ part_of old)
+    (lexing : IsLexingIn (part_of old) state) (count : state.yielded_count ≡ old.state.yielded_count + 1) (ends : state.has_ended ≡ (old.state.has_ended || true)) (own : old.mended.copy ≡ None → state.text.now ≡ part_of old)
     (within : IsWithin (part_of old) raw.0 raw.2) (between : IsCharBoundary (part_of old) raw.0 × IsCharBoundary (part_of old) raw.2) where
   abbrev at_fault : RecoveryState
   at_fault = record old { state = state }
@@ -377,17 +412,18 @@ module _ (old : RecoveryState) (is : IsRecovering old) (state : LexerState) (raw
       let has = here.has in
       let later : (onward.to ≤ found.0.begin) × (onward.to < length (part_of old)) = subst (λ (f : Option (Spanned Fault)). IfSome f (λ fault. (onward.to ≤ fault.begin) × (onward.to < length (part_of old)))) has onward.fault in
       let counted = here.counted in
+      let passed : old.state.yielded_count ≡ length (outcome (part_of old)).lexemes = omega (arith, count, counted) in
       let all : take old.state.yielded_count (outcome (part_of old)).lexemes ≡ (outcome (part_of old)).lexemes =
       take_all old.state.yielded_count (outcome (part_of old)).lexemes (none_dropped (outcome (part_of old)).lexemes old.state.yielded_count found.1) in
       record {
-        is_part = part_same old state old.comment_end is.is_part lexing own;
+        is_part = part_same old state old.comment is.is_part lexing own;
         here = found.2;
         ended = fault_ends;
         to = onward.to;
         mended = record { inside = mended.inside; same = mended.same };
         after = later.0;
         less = later.1;
-        comment = λ place. sym (ap (ends_by_comment place) all) ∙ onward.comment place;
+        comment = λ place. sym (ap (ends_by_comment place) all) ∙ onward.comment place ∙ ap (λ n. is_end old.comment n place) passed;
         reads = onward.reads;
         paid = found.3;
         within = subst (λ e. IsWithin (part_of old) found.0.begin e) is_raw.2 (subst (λ b. IsWithin (part_of old) b raw.2) is_raw.0 within);

@@ -709,6 +709,14 @@ impl<'a> LexerState<'a> {
         self.reader.go_on(begin, end);
     }
 
+    /// Number of lexemes, and faults, that were yielded so far.
+    #[inline(always)]
+    pub(crate) fn yielded_count(&self) -> usize
+        ensures { result ≡ self.now.yielded_count }
+    {
+        self.yielded_count
+    }
+
     /// Whether a fault is left after the last lexeme.
     #[inline(always)]
     pub(crate) fn has_fault(&self) -> bool

@@ -10,7 +10,7 @@ ghost use Rattle.starlark_syntax.specs.Inner.LexerStates.{HasFound, IsLexingIn};
 ghost use Rattle.starlark_syntax.specs.Inner.MendedTexts.{bytes_of};
 ghost use Rattle.starlark_syntax.specs.Inner.Passed.{is_tab_error};
 ghost use Rattle.starlark_syntax.specs.Inner.RawItems.{OffsetsHold};
-ghost use Rattle.starlark_syntax.specs.Inner.RecoveryStates.{HasPassedOn, IsAdvanced, IsRecovering, IsStopped, comment_end, is_end, part_of, view_of};
+ghost use Rattle.starlark_syntax.specs.Inner.RecoveryStates.{HasPassedOn, IsAdvanced, IsRecovering, IsStopped, is_end, last_comment, part_of, view_of};
 ghost use Rattle.starlark_syntax.specs.Lexer.{is_ended_by, yielded_by};
 ghost use Rattle.starlark_syntax.specs.RecoveringLexer.{IsNextOf, all_items};
 ghost use Rattle.starlark_token.specs.Lexemes.{IsWithin};
@@ -42,32 +42,20 @@ pub struct RecoveryState<'a> {
     state: LexerState<'a>,
     code_map: CodeMap,
     fault_count: usize,
-    /// Where the last lexeme ends in the part, in bytes, if it is a comment.
-    comment_end: Option<usize>,
+    /// The number of lexemes of the part up to its last comment so far, and where that ends in it.
+    comment: Option<(usize, usize)>,
     /// Number of reads that found the part, and that looked at the faults which keep their lines.
     earlier_reads: u64,
     /// What was found in the mended text, until it is returned.
     held: Option<Lexeme>,
 }
 
-/// Where a token ends, if it is a comment.
-#[tactic(auto, unfolding(starlark_token::specs::TokenViews::token_view))]
-#[inline(always)]
-fn comment_end(token: &Token, end: usize) -> Option<usize>
-    ensures { result ≡ comment_end (token_view token.now) end }
+/// Whether the last of some lexemes is a comment that ends at an offset.
+fn is_end(comment: Option<(usize, usize)>, lexemes: usize, at: usize) -> bool
+    ensures { result ≡ is_end comment lexemes at }
 {
-    match token {
-        Token::Comment(_) => Some(end),
-        _ => None,
-    }
-}
-
-/// Whether an offset is the end of a comment, if there is one.
-fn is_end(comment_end: Option<usize>, at: usize) -> bool
-    ensures { result ≡ is_end comment_end at }
-{
-    match comment_end {
-        Some(end) => end == at,
+    match comment {
+        Some((count, end)) => count == lexemes && end == at,
         None => false,
     }
 }
@@ -86,7 +74,7 @@ impl<'a> RecoveryState<'a> {
             state: LexerState::new(alloc, text),
             code_map,
             fault_count: 0,
-            comment_end: None,
+            comment: None,
             earlier_reads: 0,
             held: None,
         }
@@ -133,7 +121,7 @@ impl<'a> RecoveryState<'a> {
             return OrMemory::Memory;
         }
         self.state.go_on(from, end);
-        self.comment_end = None;
+        self.comment = None;
         self.fault_count += 1;
         // The first two bytes of the fault were looked at.
         self.earlier_reads = self.earlier_reads.saturating_add(2);
@@ -154,7 +142,7 @@ impl<'a> RecoveryState<'a> {
         self.fault_count += 1;
         self.begin = passed.begin;
         self.state = LexerState::new(self.alloc, &self.mended.text()[passed.begin..]);
-        self.comment_end = None;
+        self.comment = None;
         OrMemory::Error(passed.fault)
     }
 
@@ -166,7 +154,8 @@ impl<'a> RecoveryState<'a> {
         ensures { (found : Spanned Fault) → IsStopped self.old found → IsRaw found fault → HasPassedOn self.old found result self.new }
     {
         let part = &self.mended.as_str()[self.begin..];
-        let follows_comment = is_end(self.comment_end, fault.0);
+        let lexemes = self.state.yielded_count() - 1;
+        let follows_comment = is_end(self.comment, lexemes, fault.0);
         if !keeps_line(part, fault.0, &fault.1, follows_comment) {
             return self.restart(fault);
         }
@@ -174,20 +163,32 @@ impl<'a> RecoveryState<'a> {
         self.keep(fault, end)
     }
 
+    /// Records a lexeme that was yielded, if it is a comment.
+    #[tactic(auto, unfolding(starlark_token::specs::TokenViews::token_view))]
+    #[inline(always)]
+    fn record_comment(&mut self, token: &Token, end: usize)
+        ensures { self.new ≡ record self.old { comment = last_comment (token_view token.now) self.old.state.yielded_count end self.old.comment } }
+    {
+        match token {
+            Token::Comment(_) => self.comment = Some((self.state.yielded_count(), end)),
+            _ => {}
+        }
+    }
+
     /// What an item of the part, which is the next one, is in the text.
     #[inline(always)]
-    fn answer(&mut self, item: Option<Item>) -> Option<Lexeme>
-        requires { (before : RecoveryState) × IsAdvanced before item self.old }
+    fn answer(&mut self, item: Item) -> Lexeme
+        requires { (before : RecoveryState) × IsAdvanced before (Some item) self.old }
         ensures recovering { IsRecovering self.new }
-        ensures next { (before : RecoveryState) → IsAdvanced before item self.old → IsNextOf (view_of before) result (view_of self.new) }
+        ensures next { (before : RecoveryState) → IsAdvanced before (Some item) self.old → IsNextOf (view_of before) (Some result) (view_of self.new) }
     {
-        match item? {
+        match item {
             Ok((from, token, to)) => {
-                self.comment_end = comment_end(&token, to);
-                Some(Ok((self.begin + from, token, self.begin + to)))
+                self.record_comment(&token, to);
+                Ok((self.begin + from, token, self.begin + to))
             }
-            Err(OrMemory::Memory) => Some(Err(OrMemory::Memory)),
-            Err(OrMemory::Error(fault)) => Some(Err(self.pass(fault))),
+            Err(OrMemory::Memory) => Err(OrMemory::Memory),
+            Err(OrMemory::Error(fault)) => Err(self.pass(fault)),
         }
     }
 
@@ -199,8 +200,10 @@ impl<'a> RecoveryState<'a> {
         ensures recovering { IsRecovering self.new }
         ensures next { IsNextOf (view_of self.old) self.new.held (view_of self.new) }
     {
-        let item = self.advance();
-        self.held = self.answer(item);
+        match self.advance() {
+            Some(item) => self.held = Some(self.answer(item)),
+            None => self.held = None,
+        }
     }
 
     /// The next lexeme or fault of the text; `None` after the last lexeme, and after out of memory.
@@ -214,8 +217,8 @@ impl<'a> RecoveryState<'a> {
             self.hold_next();
             return mem::take(&mut self.held);
         }
-        let item = self.state.next_item();
-        self.answer(item)
+        let item = self.state.next_item()?;
+        Some(self.answer(item))
     }
 
     /// Number of faults that were yielded so far.

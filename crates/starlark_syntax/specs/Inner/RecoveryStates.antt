@@ -1,5 +1,5 @@
 -- The state of a lexer that goes on after faults, and what is left to it.
-use Rattle.std.specs.Prelude.{◌≡◌, ◌≤◌, ◌<◌, ◌^◌, ◌+◌, ◌==◌, ◌||◌, ℕ, Bool, true, false, List, [], map, length, drop, take, if◌then◌else◌, Option, None, Some, IfSome, Result}
+use Rattle.std.specs.Prelude.{◌≡◌, ◌≤◌, ◌<◌, ◌^◌, ◌+◌, ◌==◌, ◌&&◌, ◌||◌, ℕ, Bool, true, false, List, [], map, length, drop, take, if◌then◌else◌, Option, None, Some, IfSome, Result}
 use Rattle.std.specs.List.{AllByRecursion}
 use Rattle.std.specs.Str.{IsCharBoundary, IsUtf8}
 use Rattle.starlark_base.specs.Diagnostics.{Diagnosed}
@@ -56,15 +56,19 @@ view_of state = record {
   reads = more_reads state.earlier_reads state.state.reader.reads;
 }
 
--- whether an offset is the end of a comment, if there is one
-abbrev pub is_end : Option ℕ → ℕ → Bool
-is_end None at = false
-is_end (Some end) at = end == at
+-- Whether the last of some lexemes is a comment that ends at an offset. What is recorded of the last comment is the number
+-- of lexemes up to it, and where it ends.
+abbrev pub is_end : Option (ℕ × ℕ) → ℕ → ℕ → Bool
+is_end None lexemes at = false
+is_end (Some comment) lexemes at = comment.0 == lexemes && comment.1 == at
 
--- where a token ends, if it is a comment
-abbrev pub comment_end : TokenView → ℕ → Option ℕ
-comment_end (Whole (grammar.Comment text)) end = Some end
-comment_end view end = None
+abbrev pub is_comment : TokenView → Bool
+is_comment (Whole (grammar.Comment text)) = true
+is_comment view = false
+
+-- what is recorded of the last comment after the token that is the last of some lexemes
+abbrev pub last_comment : TokenView → ℕ → ℕ → Option (ℕ × ℕ) → Option (ℕ × ℕ)
+last_comment view lexemes end before = if is_comment view then Some (lexemes, end) else before
 
 -- Before byte `to` of the part from byte `begin` on some faults were yielded, each of which has a byte of its own; and these
 -- reads of bytes found the part, and looked at each fault that keeps its line.
@@ -95,7 +99,8 @@ pub record IsOnward (state : RecoveryState) : Type 0 where
   pub mended : IsMended state to
   pub lexemes : AllByRecursion (λ (lexeme : Lexeme). to ≤ lexeme.begin) (drop state.state.yielded_count (outcome (part_of state)).lexemes)
   pub fault : IfSome (outcome (part_of state)).fault (λ fault. (to ≤ fault.begin) × (to < length (part_of state)))
-  pub comment : (at : ℕ) → ends_by_comment at (take state.state.yielded_count (outcome (part_of state)).lexemes) ≡ is_end state.comment_end at
+  pub comment : (at : ℕ) → ends_by_comment at (take state.state.yielded_count (outcome (part_of state)).lexemes) ≡ is_end state.comment state.state.yielded_count at
+  pub earlier : IfSome state.comment (λ comment. comment.0 ≤ state.state.yielded_count)
   pub reads : HasReadBefore state.begin to state.fault_count state.earlier_reads
 
 -- a lexer that goes on after faults, unless out of memory has ended it
@@ -125,7 +130,7 @@ pub record IsStopped (state : RecoveryState) (fault : Spanned Fault) : Type 0 wh
   pub mended : IsMended state to
   pub after : to ≤ fault.begin
   pub less : to < length (part_of state)
-  pub comment : (at : ℕ) → ends_by_comment at (outcome (part_of state)).lexemes ≡ is_end state.comment_end at
+  pub comment : (at : ℕ) → ends_by_comment at (outcome (part_of state)).lexemes ≡ is_end state.comment (length (outcome (part_of state)).lexemes) at
   pub reads : HasReadBefore state.begin to state.fault_count state.earlier_reads
   pub paid : HasReadToFault (part_of state) state.state.reader.reads
   pub within : IsWithin (part_of state) fault.begin fault.end

@@ -1,58 +1,55 @@
-use Rattle.std.proofs.Common.{◌+◌, subst, sym, Ok, Err, None, Some}
-use Rattle.starlark_syntax.specs.Inner.RecoveryStates.{IsRecovering, IsStopped, view_of}
+use Rattle.std.proofs.Common.{◌≡◌, ◌+◌, ap, refl, subst, sym, ◌∙◌, Ok, Err, Some}
+use Rattle.starlark_syntax.specs.Inner.RecoveryStates.{IsAdvanced, IsRecovering, IsStopped, last_comment, view_of}
 use Rattle.starlark_syntax.specs.RecoveringLexer.{IsNextOf}
 use Rattle.starlark_syntax.specs.declared.recovery_state.RecoveryState.{RecoveryState}
-use Rattle.starlark_syntax.proofs.RecoverySteps.{fault_on, lexeme_next, lexeme_recovering, memory_next, nothing_next, nothing_recovering, some_goes, stopped_here}
+use Rattle.starlark_syntax.proofs.RecoverySteps.{fault_on, lexeme_next, lexeme_recovering, memory_next, some_goes, stopped_here}
 use Rattle.starlark_text.specs.declared.or_memory.OrMemory.TheVariants.{Memory}
+use Rattle.starlark_token.specs.TokenViews.{token_view}
 use Rattle.starlark_syntax.proofs.recovery_state.RecoveryState.answer.Goals as goal
-
-pub returns-in_err-from-clause-recovering : goal.returns-in_err-from-clause-recovering
-returns-in_err-from-clause-recovering c =
-    let e = rw c.in_err-from.was at c.requires.1 in
-    subst IsRecovering (sym e.after) (nothing_recovering c.requires.0 e.recovering c.args.self.now.state (λ on. (e.ended on).1) e.found e.lexing e.count e.ends e.own)
-
-pub returns-in_err-from-clause-next : goal.returns-in_err-from-clause-next
-returns-in_err-from-clause-next c before advanced =
-    let e = rw c.in_err-from.was at advanced in
-    let next = subst (λ (m : RecoveryState). IsNextOf (view_of before) None (view_of m)) (sym e.after) (nothing_next before e.recovering c.args.self.now.state (λ on. (e.ended on).1) e.found e.lexing e.count e.ends e.own) in
-    rw c.from_residual.ensures next
+use Rattle.starlark_syntax.proofs.recovery_state.RecoveryState.answer.Goals.{After-record_comment}
 
 pub pass-requires : goal.pass-requires
 pass-requires c =
-    let e = rw c.in-Err-Error.field-0-is at (rw c.in-Err-Error.is at (rw c.in_ok-from.was at c.requires.1)) in
+    let e = rw c.in-Err-Error.field-0-is at (rw c.in-Err-Error.is at c.requires.1) in
     let going = some_goes c.requires.0.state.has_ended (λ on. (e.ended on).0) in
     let found = e.found going in
-    let stopped = stopped_here c.requires.0 e.recovering c.args.self.now.state c.in-Err-Error.fault going found e.lexing e.ends e.own e.within e.between in
+    let stopped = stopped_here c.requires.0 e.recovering c.args.self.now.state c.in-Err-Error.fault going found e.lexing e.count e.ends e.own e.within e.between in
     (found.0, subst (λ (m : RecoveryState). IsStopped m found.0) (sym e.after) stopped, found.4)
+
+-- the state after a lexeme, by the state before it was found
+noted : (c : After-record_comment) (before : RecoveryState) → c.args.self.now ≡ record before { state = c.args.self.now.state }
+    → c.record_comment.new.self ≡ record before { state = c.args.self.now.state; comment = last_comment (token_view c.in-Ok.token) c.args.self.now.state.yielded_count c.in-Ok.to before.comment }
+noted c before after = c.record_comment.ensures ∙ ap (λ (m : RecoveryState). record m { comment = last_comment (token_view c.in-Ok.token) m.state.yielded_count c.in-Ok.to m.comment }) after
 
 pub returns-in-Ok-clause-recovering : goal.returns-in-Ok-clause-recovering
 returns-in-Ok-clause-recovering c =
-    let e = rw c.in-Ok.is at (rw c.in_ok-from.was at c.requires.1) in
+    let e = rw c.in-Ok.is at c.requires.1 in
     let going = some_goes c.requires.0.state.has_ended (λ on. (e.ended on).0) in
-    subst (λ (m : RecoveryState). IsRecovering (record m { comment_end = c.comment_end-self.result })) (sym e.after)
-    (lexeme_recovering c.requires.0 e.recovering c.args.self.now.state c.in-Ok.from c.in-Ok.token c.in-Ok.to going (e.found going) e.lexing e.count e.ends e.own c.comment_end-self.result c.comment_end-self.ensures e.within e.between)
+    subst IsRecovering (sym (noted (goal.at.returns-in-Ok-clause-recovering c).After-record_comment c.requires.0 e.after))
+    (lexeme_recovering c.requires.0 e.recovering c.args.self.now.state c.in-Ok.from c.in-Ok.token c.in-Ok.to going (e.found going) e.lexing e.count e.ends e.own _ refl e.within e.between)
 
 pub returns-in-Ok-clause-next : goal.returns-in-Ok-clause-next
 returns-in-Ok-clause-next c before advanced =
-    let e = rw c.in-Ok.is at (rw c.in_ok-from.was at advanced) in
+    let e = rw c.in-Ok.is at advanced in
     let going = some_goes before.state.has_ended (λ on. (e.ended on).0) in
-    subst (λ (m : RecoveryState). IsNextOf (view_of before) (Some (Ok (m.begin + c.in-Ok.from, c.in-Ok.token, m.begin + c.in-Ok.to))) (view_of (record m { comment_end = c.comment_end-self.result }))) (sym e.after)
-    (lexeme_next before e.recovering c.args.self.now.state c.in-Ok.from c.in-Ok.token c.in-Ok.to going (e.found going) e.lexing e.count e.ends e.own c.comment_end-self.result c.comment_end-self.ensures e.within e.between)
+    subst (λ (m : RecoveryState). IsNextOf (view_of before) (Some (Ok (m.begin + c.in-Ok.from, c.in-Ok.token, m.begin + c.in-Ok.to))) (view_of m))
+    (sym (noted (goal.at.returns-in-Ok-clause-next c).After-record_comment before e.after))
+    (lexeme_next before e.recovering c.args.self.now.state c.in-Ok.from c.in-Ok.token c.in-Ok.to going (e.found going) e.lexing e.count e.ends e.own _ refl e.within e.between)
 
 pub returns-in-Err-Memory-clause-next : goal.returns-in-Err-Memory-clause-next
 returns-in-Err-Memory-clause-next c before advanced =
-    let e = rw c.in-Err-Memory.field-0-is at (rw c.in-Err-Memory.is at (rw c.in_ok-from.was at advanced)) in
+    let e = rw c.in-Err-Memory.field-0-is at (rw c.in-Err-Memory.is at advanced) in
     let going = some_goes before.state.has_ended (λ on. (e.ended on).0) in
     subst (λ (m : RecoveryState). IsNextOf (view_of before) (Some (Err Memory)) (view_of m)) (sym e.after) (memory_next before e.recovering c.args.self.now.state going (e.found going) e.lexing e.ends e.own)
 
 pub returns-in-Err-Error-clause-recovering : goal.returns-in-Err-Error-clause-recovering
 returns-in-Err-Error-clause-recovering c =
-    let e = rw c.in-Err-Error.field-0-is at (rw c.in-Err-Error.is at (rw c.in_ok-from.was at c.requires.1)) in
+    let e = rw c.in-Err-Error.field-0-is at (rw c.in-Err-Error.is at c.requires.1) in
     let going = some_goes c.requires.0.state.has_ended (λ on. (e.ended on).0) in
-    (fault_on c.requires.0 e.recovering c.args.self.now.state c.in-Err-Error.fault going (e.found going) e.lexing e.ends e.own e.within e.between c.args.self.now e.after c.pass.result c.pass.new.self c.pass.ensures).0
+    (fault_on c.requires.0 e.recovering c.args.self.now.state c.in-Err-Error.fault going (e.found going) e.lexing e.count e.ends e.own e.within e.between c.args.self.now e.after c.pass.result c.pass.new.self c.pass.ensures).0
 
 pub returns-in-Err-Error-clause-next : goal.returns-in-Err-Error-clause-next
 returns-in-Err-Error-clause-next c before advanced =
-    let e = rw c.in-Err-Error.field-0-is at (rw c.in-Err-Error.is at (rw c.in_ok-from.was at advanced)) in
+    let e = rw c.in-Err-Error.field-0-is at (rw c.in-Err-Error.is at advanced) in
     let going = some_goes before.state.has_ended (λ on. (e.ended on).0) in
-    (fault_on before e.recovering c.args.self.now.state c.in-Err-Error.fault going (e.found going) e.lexing e.ends e.own e.within e.between c.args.self.now e.after c.pass.result c.pass.new.self c.pass.ensures).1
+    (fault_on before e.recovering c.args.self.now.state c.in-Err-Error.fault going (e.found going) e.lexing e.count e.ends e.own e.within e.between c.args.self.now e.after c.pass.result c.pass.new.self c.pass.ensures).1

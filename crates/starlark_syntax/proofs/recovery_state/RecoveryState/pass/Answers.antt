@@ -1,4 +1,4 @@
-use Rattle.std.proofs.Common.{◌≡◌, ap, drop, sym, ◌∙◌}
+use Rattle.std.proofs.Common.{◌≡◌, ◌-◌, ap, arith, drop, length, sym, ◌∙◌}
 use Rattle.starlark_grammar.specs.Reading.{outcome}
 use Rattle.starlark_grammar.specs.Repairs.{keeps_line, repair_end}
 use Rattle.starlark_grammar.specs.Tokens.{Fault, Spanned}
@@ -16,7 +16,9 @@ use Rattle.starlark_syntax.proofs.recovery_state.RecoveryState.pass.Goals.{After
 lines : (c : After-keeps_line) (found : Spanned Fault) → IsStopped c.args.self.now found → IsRaw found c.args.fault → c.keeps_line.result ≡ keeps_line (part_of c.args.self.now) (outcome (part_of c.args.self.now)).lexemes found
 lines c found stopped raw =
     let part : c.range_from-part.result.now ≡ part_of c.args.self.now = c.range_from-part.ensures.value ∙ ap (λ (t : Text). drop c.args.self.now.begin t) c.as_str.ensures in
-    let follows = c.is_end-follows_comment.ensures ∙ ap (is_end c.args.self.now.comment_end) raw.0 ∙ sym (stopped.comment found.begin) in
+    let here = stopped.here in
+    let passed : c.yielded_count-lexemes.result - 1 ≡ length (outcome (part_of c.args.self.now)).lexemes = omega (arith, c.yielded_count-lexemes.ensures, here.counted) in
+    let follows = c.is_end-follows_comment.ensures ∙ ap (is_end c.args.self.now.comment (c.yielded_count-lexemes.result - 1)) raw.0 ∙ ap (λ n. is_end c.args.self.now.comment n found.begin) passed ∙ sym (stopped.comment found.begin) in
     c.keeps_line.ensures ∙ ap (λ (t : Text). error_keeps_line t c.args.fault.0 c.args.fault.1 c.is_end-follows_comment.result) part
     ∙ keeps_is (part_of c.args.self.now) (outcome (part_of c.args.self.now)).lexemes found c.args.fault.0 c.args.fault.2 c.args.fault.1 c.is_end-follows_comment.result raw follows
 
