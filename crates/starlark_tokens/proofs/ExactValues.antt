@@ -1,5 +1,5 @@
 -- Digits of integers that don't fit in 32 bits, as the parser of 64 bits sees them.
-use Rattle.std.proofs.Common.{◌≡◌, ◌≢◌, ◌∙◌, ℕ, ◌^◌, ◌<◌, ◌≤◌, Bool, true, false, not, ◌&&◌, List, [], ◌∷◌, length, get_or, drop, ap, arith, refl, sym, nat_lt, None, Some}
+use Rattle.std.proofs.Common.{◌≡◌, ◌≢◌, ℕ, ◌^◌, ◌<◌, ◌≤◌, Bool, true, false, not, ◌&&◌, [], ◌∷◌, length, get_or, ap, arith, refl, None}
 use Rattle.std.proofs.lemmas.Bool.{and_parts, ltb-true, le-ltb, true≢false}
 use Rattle.std.proofs.lemmas.Str.Parse.{without_leading_plus_none}
 use Rattle.std.specs.Char.{digit_value, is_digit, is_ascii_uppercase}
@@ -8,7 +8,7 @@ use Rattle.std.specs.Str.Parse.{AllDigits, IsNumeral, digits_value, without_lead
 use Rattle.starlark_base.specs.Places.{Text}
 use Rattle.starlark_grammar.specs.Numbers.{is_small}
 use Rattle.starlark_token.specs.BigIntegers.{BigInteger, IsCanonical}
-use Rattle.starlark_tokens.specs.Values.{exact_value, if_exact}
+use Rattle.starlark_tokens.specs.Values.{exact_value}
 
 all_digits : (base : ℕ) (digits : Text) → list_all (λ d. is_digit d base && not (is_ascii_uppercase d)) digits ≡ true → AllDigits base digits
 all_digits base [] h = tt

@@ -1,160 +1,276 @@
--- Sources that are counted and printed, as one more comes.
-use Rattle.std.proofs.Common.{◌≡◌, ℕ, ◌+◌, ◌<◌, List, [], ◌∷◌, ◌++◌, add-one, ap, append_assoc, append-nil, get_or, length, map, refl, subst, sym, take, ◌∙◌}
+-- Sources that are counted and printed, as one more comes, and where writing stops.
+use Rattle.std.proofs.Common.{◌≡◌, ℕ, ◌+◌, ◌<◌, List, [], ◌∷◌, ◌++◌, Ok, Err, add-one, ap, append-nil, get_or, length, map, refl, subst, sym, take, take-append-drop, ◌∙◌}
 use Rattle.std.proofs.Math.Seq.{take-suc}
-use Rattle.std.proofs.KnownBytes.{Appends-kept, Appends-nil, Appends-trans}
 use Rattle.std.proofs.lemmas.Grind.{flat_map-append}
 use Rattle.std.proofs.lemmas.List.{length-map, map-append}
-use Rattle.std.specs.Io.KnownBytes.{Appends, Keeps}
 use Rattle.std.specs.List.{AllByRecursion}
-use Rattle.std.specs.Prelude.{None, Option, Some, drop, false, if◌then◌else◌, true}
-use Rattle.starlark_tokens.specs.ReportDocuments.{closing, is_collected, opening}
+use Rattle.std.specs.Io.KnownBytes.{Keeps}
+use Rattle.std.specs.Prelude.{Option, Result, drop, false, if◌then◌else◌, true}
+use Rattle.std.specs.declared.io.Error.{Error}
+use Rattle.starlark_tokens.specs.ReportDocuments.{closing, document, is_collected, opening}
 use Rattle.starlark_base.specs.Places.{Text}
 use Rattle.starlark_devices.proofs.Calls.{all_append}
-use Rattle.starlark_tokens.specs.Reports.{fault_count, report}
+use Rattle.starlark_devices.specs.Calls.{Done, Ending, Going, WriterCalls}
 use Rattle.starlark_tokens.specs.declared.form.Form.{Form}
 use Rattle.starlark_tokens.proofs.FileCounts.{with_next}
-use Rattle.starlark_tokens.specs.FileReports.{AreReported, AreReportedAlone, Giving, IsDocument, IsReported, ReadSource, reports, source_report}
+use Rattle.starlark_tokens.proofs.ReportWrites.{flushed_last, stops_first, stops_later, stops_longer, took_nil, took_then, unflushed}
+use Rattle.starlark_tokens.specs.FileReports.{AreReported, AreReportedAlone, Giving, IsDocument, IsReported, ReadSource, report_if_read, reports, source_report}
+use Rattle.starlark_tokens.specs.ReportWrites.{StopsWithin, Takes, Took}
 use Rattle.starlark_tokens.specs.SourceNames.{name_of}
-use Rattle.starlark_tokens.specs.Totals.{AreTotalsOf, in_64_bits, totals_of, with_file, with_source}
+use Rattle.starlark_tokens.specs.Totals.{AreTotalsOf, totals_of, with_source}
 use Rattle.starlark_tokens.specs.declared.sources.Source.{Source}
 use Rattle.starlark_tokens.specs.declared.sources.Sources.{Sources}
 use Rattle.starlark_tokens.specs.declared.totals.Totals.{Totals}
 
--- a text that was read, and reported by its name
-pub text_reported : (gives : Giving) (form : Form) (source : Source) (shown text : Text) (old new : Totals) (faults : ℕ) (before after : Option Text)
-    → gives source (Some text) → shown ≡ name_of source → faults ≡ in_64_bits (fault_count text) → new ≡ with_file old faults
-    → Appends before after (report form shown text) → IsReported gives form source old new before after
-text_reported gives form source shown text old new faults before after given same_name all counted written = record {
-  text = Some text;
-  given = given;
-  counted = counted ∙ ap (with_file old) all;
-  written = subst (λ by. Appends before after (report form by text)) same_name written;
-}
-
--- a source that couldn't be read: known bytes that stay grow by nothing
-pub failure_reported : (gives : Giving) (form : Form) (source : Source) (old new : Totals) (before after : Option Text)
-    → gives source None → new ≡ with_source old None → Keeps before after → IsReported gives form source old new before after
-failure_reported gives form source old new before after given counted kept = record {
-  text = None;
-  given = given;
-  counted = counted;
-  written = Appends-kept before before after [] (Appends-nil before) kept;
-}
-
-abbrev sources_of : List ReadSource → List Source
+abbrev pub sources_of : List ReadSource → List Source
 sources_of reads = map (λ read. read.source) reads
 
-abbrev texts_of : List ReadSource → List (Option Text)
+abbrev pub texts_of : List ReadSource → List (Option Text)
 texts_of reads = map (λ read. read.text) reads
 
+-- sources that were read, and one more
+abbrev with_read : List ReadSource → Source → Option Text → List ReadSource
+with_read reads source text = reads ++ record { source = source; text = text } ∷ []
+
+reports_with : (form : Form) (reads : List ReadSource) (source : Source) (text : Option Text)
+    → reports form (with_read reads source text) ≡ reports form reads ++ report_if_read form (name_of source) text
+reports_with form reads source text =
+    let last : ReadSource = record { source = source; text = text } in
+    flat_map-append (source_report form) reads (last ∷ []) ∙ ap (λ t. reports form reads ++ t) (append-nil (source_report form last))
+
 -- these sources are counted and printed
-pub record SoFar (gives : Giving) (form : Form) (lost : ℕ) (sources : List Source) (before after : Option Text) (totals : Totals) : Type 0 where
+pub record SoFar {W : Type 0} (gives : Giving) (calls : WriterCalls W) (form : Form) (lost : ℕ) (sources : List Source) (before after : W) (totals : Totals) : Type 0 where
   pub reads : List ReadSource
   pub each : sources_of reads ≡ sources
   pub given : AllByRecursion (λ read. gives read.source read.text) reads
   pub counted : totals ≡ totals_of lost (texts_of reads)
-  pub written : Appends before after (reports form reads)
+  pub written : Took calls Going before after (reports form reads)
 
--- before the first source
-pub none_yet : (gives : Giving) (form : Form) (lost : ℕ) (before : Option Text) → SoFar gives form lost [] before before (totals_of lost [])
-none_yet gives form lost before = record {
-  reads = [];
-  each = refl;
-  given = tt;
-  counted = refl;
-  written = Appends-nil before;
-}
+-- what was reported of a source, by another name of it
+pub same_source : {W T : Type 0} (gives : Giving) (calls : WriterCalls W) (form : Form) (source other : Source) (old new : Totals) (before after : W) (result : Result T Error)
+    → source ≡ other → IsReported gives calls form source old new before after result → IsReported gives calls form other old new before after result
+same_source gives calls form source other old new before after result is reported = subst (λ s. IsReported gives calls form s old new before after result) is reported
 
--- one source more
-pub one_more : (gives : Giving) (form : Form) (lost : ℕ) (sources : List Source) (source : Source) (before middle after : Option Text) (old new : Totals)
-    → SoFar gives form lost sources before middle old → IsReported gives form source old new middle after → SoFar gives form lost (sources ++ source ∷ []) before after new
-one_more gives form lost sources source before middle after old new so_far next =
-    let reads = so_far.reads in
-    let last : ReadSource = record { source = source; text = next.text } in
-    let all = reads ++ last ∷ [] in
-    let sources_added = map-append (λ (r : ReadSource). r.source) reads (last ∷ []) in
-    let texts_added = map-append (λ (r : ReadSource). r.text) reads (last ∷ []) in
-    let counted = next.counted ∙ ap (λ totals. with_source totals next.text) so_far.counted ∙ with_next lost (texts_of reads) next.text in
-    let printed = flat_map-append (source_report form) reads (last ∷ []) in
-    let alone = append-nil (source_report form last) in
-    let written = Appends-trans before middle after (reports form reads) (source_report form last) so_far.written next.written in
-    record {
-      reads = all;
-      each = sources_added ∙ ap (λ front. front ++ source ∷ []) so_far.each;
-      given = all_append (λ (r : ReadSource). gives r.source r.text) reads (last ∷ []) so_far.given (next.given, tt);
-      counted = counted ∙ ap (totals_of lost) (sym texts_added);
-      written = subst (Appends before after) (ap (λ t. reports form reads ++ t) (sym alone) ∙ sym printed) written;
-    }
+module _ {W : Type 0} (gives : Giving) (calls : WriterCalls W) (form : Form) where
+  -- before the first source
+  pub none_yet : (lost : ℕ) (before : W) → SoFar gives calls form lost [] before before (totals_of lost [])
+  none_yet lost before = record {
+    reads = [];
+    each = refl;
+    given = tt;
+    counted = refl;
+    written = took_nil calls before;
+  }
 
--- one source more, which is the next of all
-pub next_source : (gives : Giving) (form : Form) (lost : ℕ) (sources seen : List Source) (done : ℕ) (other : Source) (before middle after : Option Text) (old new : Totals)
-    → seen ≡ sources → done < length seen
-    → SoFar gives form lost (take done sources) before middle old → IsReported gives form (get_or seen done other) old new middle after
-    → SoFar gives form lost (take (done + 1) sources) before after new
-next_source gives form lost sources seen done other before middle after old new same less so_far next =
-    let source = get_or seen done other in
-    let more = one_more gives form lost (take done sources) source before middle after old new so_far next in
-    let taken = take-suc seen done other less ∙ ap (λ all. take done all ++ source ∷ []) same in
-    let all_taken = ap (λ all. take (done + 1) all) (sym same) ∙ ap (λ k. take k seen) (add-one done) ∙ taken in
-    subst (λ all. SoFar gives form lost all before after new) (sym all_taken) more
+  -- one source more
+  one_more : (lost : ℕ) (sources : List Source) (source : Source) (text : Option Text) (before middle after : W) (old new : Totals)
+      → SoFar gives calls form lost sources before middle old → gives source text → Took calls Going middle after (report_if_read form (name_of source) text) → new ≡ with_source old text
+      → SoFar gives calls form lost (sources ++ source ∷ []) before after new
+  one_more lost sources source text before middle after old new so_far given written counted =
+      let reads = so_far.reads in
+      let last : ReadSource = record { source = source; text = text } in
+      let sources_added = map-append (λ (r : ReadSource). r.source) reads (last ∷ []) in
+      let texts_added = map-append (λ (r : ReadSource). r.text) reads (last ∷ []) in
+      let all = counted ∙ ap (λ totals. with_source totals text) so_far.counted ∙ with_next lost (texts_of reads) text in
+      record {
+        reads = with_read reads source text;
+        each = sources_added ∙ ap (λ front. front ++ source ∷ []) so_far.each;
+        given = all_append (λ (r : ReadSource). gives r.source r.text) reads (last ∷ []) so_far.given (given, tt);
+        counted = all ∙ ap (totals_of lost) (sym texts_added);
+        written = subst (Took calls Going before after) (sym (reports_with form reads source text)) (took_then calls Going before middle after _ _ so_far.written written);
+      }
 
--- all sources
-pub all_reported : (gives : Giving) (form : Form) (sources : Sources) (before after : Option Text) (totals : Totals)
-    → SoFar gives form sources.lost sources.all.items before after totals → AreReportedAlone gives form sources before after totals
-all_reported gives form sources before after totals so_far = record {
-  reads = so_far.reads;
-  each = so_far.each;
-  given = so_far.given;
-  counted = so_far.counted;
-  written = so_far.written;
-}
+  -- the sources up to one, and that one
+  up_to : (sources seen : List Source) (done : ℕ) (other : Source) → seen ≡ sources → done < length seen → take done sources ++ get_or seen done other ∷ [] ≡ take (done + 1) sources
+  up_to sources seen done other same less =
+      ap (λ all. take done all ++ get_or seen done other ∷ []) (sym same) ∙ sym (take-suc seen done other less) ∙ ap (λ k. take k seen) (sym (add-one done)) ∙ ap (λ all. take (done + 1) all) same
 
--- a text before the reports of all sources, and one after them
-pub between : (around : Totals → Text → Text) (gives : Giving) (form : Form) (sources : Sources) (a b c d e f : Option Text) (opening closing : Text) (totals : Totals) (part : Text → Text)
-    → ((reports : Text) → opening ++ (part reports ++ closing) ≡ around totals reports)
-    → Appends a b opening → AreReportedAlone gives form sources c d totals → ((reports : Text) → Appends c d reports → Appends b e (part reports)) → Appends e f closing
-    → AreReported around gives form sources a f totals
-between around gives form sources a b c d e f opening closing totals part is opened reported kept closed =
-    let all = reports form reported.reads in
-    let middle = Appends-trans a b e opening (part all) opened (kept all reported.written) in
-    let whole = Appends-trans a e f (opening ++ part all) closing middle closed in
-    record {
-      reads = reported.reads;
-      each = reported.each;
-      given = reported.given;
-      counted = reported.counted;
-      written = subst (Appends a f) (append_assoc opening (part all) closing ∙ is all) whole;
-    }
+  -- one source more, which is the next of all
+  pub next_source : (lost : ℕ) (sources seen : List Source) (done : ℕ) (other : Source) (text : Option Text) (before middle after : W) (old new : Totals)
+      → seen ≡ sources → done < length seen
+      → SoFar gives calls form lost (take done sources) before middle old → gives (get_or seen done other) text → Took calls Going middle after (report_if_read form (name_of (get_or seen done other)) text) → new ≡ with_source old text
+      → SoFar gives calls form lost (take (done + 1) sources) before after new
+  next_source lost sources seen done other text before middle after old new same less so_far given written counted =
+      let more = one_more lost (take done sources) (get_or seen done other) text before middle after old new so_far given written counted in
+      subst (λ all. SoFar gives calls form lost all before after new) (up_to sources seen done other same less) more
 
--- the reports of all sources as a document …
-document_of : (around : Totals → Text → Text) (gives : Giving) (form : Form) (sources : Sources) (before after : Option Text) (totals : Totals)
-    → ((all : Text) → around totals all ≡ opening form ++ ((if is_collected form then drop 1 all else all) ++ closing form totals)) → AreReported around gives form sources before after totals
-    → IsDocument gives form sources before after totals
-document_of around gives form sources before after totals is reported = record {
-  reads = reported.reads;
-  each = reported.each;
-  given = reported.given;
-  counted = reported.counted;
-  written = subst (Appends before after) (is (reports form reported.reads)) reported.written;
-}
+  -- writing that stopped within the report of the next source
+  pub stopped_at : (sources : Sources) (seen : List Source) (done : ℕ) (other : Source) (text : Option Text) (before middle after : W) (totals : Totals) (error : Error)
+      → seen ≡ sources.all.items → done < length seen
+      → SoFar gives calls form sources.lost (take done sources.all.items) before middle totals → gives (get_or seen done other) text → StopsWithin calls middle after error (report_if_read form (name_of (get_or seen done other)) text)
+      → AreReportedAlone gives calls form sources before after (Err error)
+  stopped_at sources seen done other text before middle after totals error same less so_far given stopped =
+      let reads = so_far.reads in
+      let source = get_or seen done other in
+      let last : ReadSource = record { source = source; text = text } in
+      let front = map-append (λ (r : ReadSource). r.source) reads (last ∷ []) ∙ ap (λ front. front ++ source ∷ []) so_far.each ∙ up_to sources.all.items seen done other same less in
+      record {
+        reads = with_read reads source text;
+        unread = drop (done + 1) sources.all.items;
+        each = ap (λ front. front ++ drop (done + 1) sources.all.items) front ∙ take-append-drop (done + 1) sources.all.items;
+        given = all_append (λ (r : ReadSource). gives r.source r.text) reads (last ∷ []) so_far.given (given, tt);
+        written = subst (StopsWithin calls before after error) (sym (reports_with form reads source text)) (stops_later calls before middle after error _ _ so_far.written stopped);
+        all = tt;
+        counted = tt;
+      }
 
--- … in a form that is collected, …
-pub collected : (gives : Giving) (form : Form) (sources : Sources) (before after : Option Text) (totals : Totals)
-    → is_collected form ≡ true → AreReported (λ totals reports. opening form ++ (drop 1 reports ++ closing form totals)) gives form sources before after totals
-    → IsDocument gives form sources before after totals
-collected gives form sources before after totals is = document_of _ gives form sources before after totals (λ all. ap (λ b. opening form ++ ((if b then drop 1 all else all) ++ closing form totals)) (sym is))
+  -- all sources
+  pub all_reported : (sources : Sources) (before after : W) (totals : Totals)
+      → SoFar gives calls form sources.lost sources.all.items before after totals → AreReportedAlone gives calls form sources before after (Ok totals)
+  all_reported sources before after totals so_far = record {
+    reads = so_far.reads;
+    unread = [];
+    each = append-nil (sources_of so_far.reads) ∙ so_far.each;
+    given = so_far.given;
+    written = so_far.written;
+    all = refl;
+    counted = so_far.counted;
+  }
 
--- … and in one that isn't
-pub streamed : (gives : Giving) (form : Form) (sources : Sources) (before after : Option Text) (totals : Totals)
-    → is_collected form ≡ false → AreReported (λ totals reports. opening form ++ (reports ++ closing form totals)) gives form sources before after totals
-    → IsDocument gives form sources before after totals
-streamed gives form sources before after totals is = document_of _ gives form sources before after totals (λ all. ap (λ b. opening form ++ ((if b then drop 1 all else all) ++ closing form totals)) (sym is))
+  -- writing that stopped before the first report, …
+  pub stopped_before : (around : Totals → Text → Text) (ending : Ending) (sources : Sources) (a b : W) (error : Error)
+      → StopsWithin calls a b error (around (totals_of sources.lost []) []) → AreReported around gives calls ending form sources a b (Err error)
+  stopped_before around ending sources a b error stopped = record {
+    reads = [];
+    unread = sources.all.items;
+    each = refl;
+    given = tt;
+    written = stopped;
+    all = tt;
+    counted = tt;
+  }
 
--- totals of all sources are totals of as many texts
-pub totals_alone : (around : Totals → Text → Text) (gives : Giving) (form : Form) (sources : Sources) (before after : Option Text) (totals : Totals)
-    → AreReported around gives form sources before after totals → AreTotalsOf sources totals
-totals_alone around gives form sources before after totals reported = record {
-  texts = texts_of reported.reads;
-  each = length-map reported.reads (λ (r : ReadSource). r.text) ∙ sym (length-map reported.reads (λ (r : ReadSource). r.source)) ∙ ap length reported.each;
-  found = reported.counted;
-}
+  -- … among the reports, which a text is written before, …
+  pub stopped_among : (around : Totals → Text → Text) (ending : Ending) (sources : Sources) (a b c : W) (error : Error) (first : Text) (rest : Totals → Text)
+      → ((totals : Totals) (all : Text) → first ++ (all ++ rest totals) ≡ around totals all)
+      → Took calls Going a b first → AreReportedAlone gives calls form sources b c (Err error) → AreReported around gives calls ending form sources a c (Err error)
+  stopped_among around ending sources a b c error first rest is took stopped =
+      let totals = totals_of sources.lost (texts_of stopped.reads) in
+      let all = reports form stopped.reads in
+      record {
+        reads = stopped.reads;
+        unread = stopped.unread;
+        each = stopped.each;
+        given = stopped.given;
+        written = subst (StopsWithin calls a c error) (is totals all) (stops_later calls a b c error first (all ++ rest totals) took (stops_longer calls b c error all (rest totals) stopped.written));
+        all = tt;
+        counted = tt;
+      }
+
+  -- … or after them
+  pub ends_after : (around : Totals → Text → Text) (ending : Ending) (sources : Sources) (a b : W) (reads : List ReadSource) (totals : Totals) (result : Result Totals Error)
+      → sources_of reads ≡ sources.all.items → AllByRecursion (λ (read : ReadSource). gives read.source read.text) reads → totals ≡ totals_of sources.lost (texts_of reads)
+      → ((found : Totals) → result ≡ Ok found → found ≡ totals)
+      → Takes calls ending a b (around totals (reports form reads)) result → AreReported around gives calls ending form sources a b result
+  ends_after around ending sources a b reads totals (Ok found) each given counted same written = record {
+    reads = reads;
+    unread = [];
+    each = append-nil (sources_of reads) ∙ each;
+    given = given;
+    written = subst (λ totals. Took calls ending a b (around totals (reports form reads))) counted written;
+    all = refl;
+    counted = same found refl ∙ counted;
+  }
+  ends_after around ending sources a b reads totals (Err error) each given counted same written =
+      let stopped = subst (λ totals. StopsWithin calls a b error (around totals (reports form reads))) counted written in
+      record { reads = reads; unread = []; each = append-nil (sources_of reads) ∙ each; given = given; written = stopped; all = tt; counted = tt }
+
+  -- the text before the reports, the reports of all sources, and then the text after them
+  pub closed : (part : Text → Text) (sources : Sources) (a b c d : W) (reads : List ReadSource) (totals : Totals) (result : Result Totals Error)
+      → sources_of reads ≡ sources.all.items → AllByRecursion (λ (read : ReadSource). gives read.source read.text) reads → totals ≡ totals_of sources.lost (texts_of reads)
+      → ((found : Totals) → result ≡ Ok found → found ≡ totals)
+      → Took calls Going a b (opening form) → Took calls Going b c (part (reports form reads)) → Takes calls Going c d (closing form totals) result
+      → AreReported (λ totals reports. opening form ++ (part reports ++ closing form totals)) gives calls Going form sources a d result
+  closed part sources a b c d reads totals (Ok found) each given counted same first middle last =
+      ends_after _ Going sources a d reads totals (Ok found) each given counted same (took_then calls Going a b d _ _ first (took_then calls Going b c d _ _ middle last))
+  closed part sources a b c d reads totals (Err error) each given counted same first middle last =
+      ends_after _ Going sources a d reads totals (Err error) each given counted same (stops_later calls a b d error _ _ first (stops_later calls b c d error _ _ middle last))
+
+  -- writing that stopped within the reports, which all were collected
+  pub stopped_body : (part : Text → Text) (sources : Sources) (a b c : W) (reads : List ReadSource) (totals : Totals) (error : Error)
+      → sources_of reads ≡ sources.all.items → AllByRecursion (λ (read : ReadSource). gives read.source read.text) reads → totals ≡ totals_of sources.lost (texts_of reads)
+      → Took calls Going a b (opening form) → StopsWithin calls b c error (part (reports form reads))
+      → AreReported (λ totals reports. opening form ++ (part reports ++ closing form totals)) gives calls Going form sources a c (Err error)
+  stopped_body part sources a b c reads totals error each given counted first stopped =
+      ends_after _ Going sources a c reads totals (Err error) each given counted (λ found is. cc) (stops_later calls a b c error _ _ first (stops_longer calls b c error _ (closing form totals) stopped))
+
+  -- sources that are all reported
+  pub each_reported : (around : Totals → Text → Text) (ending : Ending) (sources : Sources) (a b : W) (totals : Totals) → (reported : AreReported around gives calls ending form sources a b (Ok totals)) → sources_of reported.reads ≡ sources.all.items
+  each_reported around ending sources a b totals reported = sym (append-nil (sources_of reported.reads)) ∙ ap (λ unread. sources_of reported.reads ++ unread) (sym reported.all) ∙ reported.each
+
+  -- the same text in other words
+  pub in_other_words : (around other : Totals → Text → Text) (ending : Ending) (sources : Sources) (a b : W) (result : Result Totals Error)
+      → ((totals : Totals) (all : Text) → around totals all ≡ other totals all) → AreReported around gives calls ending form sources a b result → AreReported other gives calls ending form sources a b result
+  in_other_words around other ending sources a b result is reported =
+      let same = is (totals_of sources.lost (texts_of reported.reads)) (reports form reported.reads) in
+      record {
+        reads = reported.reads;
+        unread = reported.unread;
+        each = reported.each;
+        given = reported.given;
+        written = subst (λ text. Takes calls ending a b text result) same reported.written;
+        all = reported.all;
+        counted = reported.counted;
+      }
+
+  -- the reports of all sources as a document in a form that is collected, …
+  pub collected : (sources : Sources) (a b : W) (result : Result Totals Error)
+      → is_collected form ≡ true → AreReported (λ totals reports. opening form ++ (drop 1 reports ++ closing form totals)) gives calls Going form sources a b result
+      → IsDocument gives calls Going form sources a b result
+  collected sources a b result is = in_other_words _ _ Going sources a b result (λ totals all. ap (λ b. opening form ++ ((if b then drop 1 all else all) ++ closing form totals)) (sym is))
+
+  -- … and in one that isn't
+  pub streamed : (sources : Sources) (a b : W) (result : Result Totals Error)
+      → is_collected form ≡ false → AreReported (λ totals reports. opening form ++ (reports ++ closing form totals)) gives calls Going form sources a b result
+      → IsDocument gives calls Going form sources a b result
+  streamed sources a b result is = in_other_words _ _ Going sources a b result (λ totals all. ap (λ b. opening form ++ ((if b then drop 1 all else all) ++ closing form totals)) (sym is))
+
+  -- a document that is written and flushed, …
+  pub document_flushed : (sources : Sources) (a b c : W) (totals : Totals) → IsDocument gives calls Going form sources a b (Ok totals) → Keeps (calls.contents b) (calls.contents c) → calls.flush b true c
+      → IsDocument gives calls Done form sources a c (Ok totals)
+  document_flushed sources a b c totals whole keeps flush = record {
+    reads = whole.reads;
+    unread = whole.unread;
+    each = whole.each;
+    given = whole.given;
+    written = flushed_last calls a b c _ whole.written keeps flush;
+    all = whole.all;
+    counted = whole.counted;
+  }
+
+  -- … one whose flush failed, …
+  pub document_unflushed : (sources : Sources) (a b c : W) (totals : Totals) (error : Error) → IsDocument gives calls Going form sources a b (Ok totals) → Keeps (calls.contents b) (calls.contents c) → calls.flush b false c
+      → IsDocument gives calls Done form sources a c (Err error)
+  document_unflushed sources a b c totals error whole keeps flush =
+      let all = document form (totals_of sources.lost (texts_of whole.reads)) (reports form whole.reads) in
+      let stopped = stops_later calls a b c error all [] whole.written (stops_first calls b c error [] (unflushed calls b c keeps flush)) in
+      record {
+        reads = whole.reads;
+        unread = whole.unread;
+        each = whole.each;
+        given = whole.given;
+        written = subst (StopsWithin calls a c error) (append-nil all) stopped;
+        all = tt;
+        counted = tt;
+      }
+
+  -- … and one that isn't written whole
+  pub document_stopped : (sources : Sources) (a b : W) (error : Error) → IsDocument gives calls Going form sources a b (Err error) → IsDocument gives calls Done form sources a b (Err error)
+  document_stopped sources a b error stopped = record {
+    reads = stopped.reads;
+    unread = stopped.unread;
+    each = stopped.each;
+    given = stopped.given;
+    written = stopped.written;
+    all = tt;
+    counted = tt;
+  }
+
+  -- totals of all sources are totals of as many texts
+  pub totals_alone : (around : Totals → Text → Text) (ending : Ending) (sources : Sources) (a b : W) (totals : Totals)
+      → AreReported around gives calls ending form sources a b (Ok totals) → AreTotalsOf sources totals
+  totals_alone around ending sources a b totals reported = record {
+    texts = texts_of reported.reads;
+    each = length-map reported.reads (λ (r : ReadSource). r.text) ∙ sym (length-map reported.reads (λ (r : ReadSource). r.source)) ∙ ap length (each_reported around ending sources a b totals reported);
+    found = reported.counted;
+  }

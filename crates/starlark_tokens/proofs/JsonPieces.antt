@@ -1,8 +1,8 @@
 -- The pieces of JSON strings that characters are written as.
-use Rattle.std.proofs.Common.{◌≡◌, ◌∙◌, ℕ, ◌<◌, ◌≤◌, ◌⊎◌, inl, inr, Bool, true, false, ◌&&◌, ◌||◌, not, ◌==◌, nat_le, nat_lt, List, [], ◌∷◌, ◌++◌, map, ap, refl, subst, sym, arith}
+use Rattle.std.proofs.Common.{◌≡◌, ◌∙◌, ℕ, ◌<◌, ◌≤◌, ◌⊎◌, inl, inr, true, false, ◌&&◌, ◌||◌, not, ◌==◌, nat_le, List, [], ◌∷◌, ◌++◌, map, ap, refl, subst, sym}
 use Rattle.std.specs.List.{flat_map, list_all}
 use Rattle.std.proofs.lemmas.Bool.{agree_below_at, and_from, cond_both, eqb-true, le-leb, ltb-false, ltb-true, not_from_false, or_cases, or_parts}
-use Rattle.starlark_tokens.specs.JsonStrings.{Coded, Itself, Lettered, Piece, coded, is_piece, json_char, meaning, piece_of, piece_text}
+use Rattle.starlark_tokens.specs.JsonStrings.{Itself, Lettered, Piece, coded, is_piece, json_char, meaning, piece_of, piece_text}
 
 -- a piece that the grammar allows and that means the character
 abbrev Fits : ℕ → Piece → Type 0

@@ -1,5 +1,5 @@
 -- Starts of lines, and tabs, are character boundaries.
-use Rattle.std.proofs.Common.{◌≡◌, ℕ, ◌+◌, ◌-◌, ◌<◌, ◌≤◌, Bool, true, false, not, ◌==◌, length, drop, take, refl, ap, sym, subst, ◌∙◌, arith, ◌⊎◌, inl, inr, length-drop}
+use Rattle.std.proofs.Common.{◌≡◌, ℕ, ◌+◌, ◌-◌, ◌<◌, ◌≤◌, Bool, false, not, ◌==◌, length, drop, take, sym, subst, ◌∙◌, arith, ◌⊎◌, inl, inr, length-drop}
 use Rattle.std.proofs.lemmas.Bool.{cases_lt, eqb-true, not-false}
 use Rattle.std.proofs.lemmas.List.{get_or-drop, length-take-le, take-take}
 use Rattle.std.proofs.lemmas.List.Sums.{prefix_len_stops, prefix_len-le-length, suffix_len-le-length}

@@ -1,8 +1,7 @@
 -- What a lexer answers, by the items that are left.
 use Rattle.std.proofs.lemmas.List.Sums.{sum_by-append}
-use Rattle.std.proofs.Common.{◌≡◌, cond, min, ℕ, ◌+◌, ◌<◌, ◌≤◌, List, [], ◌∷◌, ◌++◌, length, drop, refl, ap, append_assoc, append-nil, sym, subst, ◌∙◌, arith, None, Some, Ok, Err, slice_get}
-use Rattle.std.specs.Io.KnownBytes.{Appends}
-use Rattle.std.specs.Prelude.{IsSome, Option, Result, count_by, option_copied, string_bytes}
+use Rattle.std.proofs.Common.{◌≡◌, cond, min, ℕ, ◌+◌, List, [], ◌∷◌, ◌++◌, refl, ap, sym, ◌∙◌, arith, None, Some, Ok, Err}
+use Rattle.std.specs.Prelude.{IsSome, count_by, option_copied, string_bytes}
 use Rattle.starlark_base.specs.Diagnostics.{Diagnosed, place_in}
 use Rattle.starlark_base.specs.Places.{Text}
 use Rattle.starlark_base.specs.Sources.{SourceFile}
@@ -12,17 +11,15 @@ use Rattle.starlark_grammar.specs.Tokens as token
 use Rattle.starlark_grammar.specs.Tokens.{Fault, Spanned}
 use Rattle.starlark_syntax.specs.RecoveringLexer.{all_items}
 use Rattle.starlark_run.specs.Output.{message_of}
-use Rattle.starlark_syntax.specs.Errors.{kind_text, message_text}
+use Rattle.starlark_syntax.specs.Errors.{kind_text}
 use Rattle.starlark_syntax.specs.Exceptions.{IsException}
-use Rattle.starlark_syntax.specs.Lexer.{Answers, AnswersNext}
+use Rattle.starlark_syntax.specs.Lexer.{Answers}
 use Rattle.starlark_syntax.specs.declared.error.kinds.ErrorKind.{ErrorKind}
 use Rattle.starlark_syntax.specs.declared.error.kinds.ErrorKind.TheVariants.{Parser}
 use Rattle.starlark_syntax.specs.declared.error.kinds.ParserMessage.TheVariants as message
-use Rattle.starlark_text.specs.declared.or_memory.OrMemory.{OrMemory}
 use Rattle.starlark_text.specs.declared.or_memory.OrMemory.TheVariants as refusal
 use Rattle.starlark_token.specs.FaultCodes.{fault_code}
-use Rattle.starlark_token.specs.FaultTexts.{fault_text}
-use Rattle.starlark_token.specs.Lexemes.{fault_view, lexeme_view}
+use Rattle.starlark_token.specs.Lexemes.{fault_view}
 use Rattle.starlark_token.specs.TokenViews.{TokenView, token_view}
 use Rattle.starlark_token.specs.TextItems.{Given, LexerItem, Refused}
 use Rattle.starlark_token.specs.declared.lexeme_error.LexemeError.{LexemeError}
@@ -92,17 +89,6 @@ thrown_span file (Refused fault) exception answers = rw answers.2 cc
 pub some_read : (span : _) → IsSome (option_copied {T = FileSpan} span) → IsSome span
 some_read None some = some
 some_read (Some span) some = some
-
--- known bytes grow by a text, and then by another
-pub appends_then : (a b c : Option Text) (s t : Text) → Appends a b s → Appends b c t → Appends a c (s ++ t)
-appends_then None b c s t p q = tt
-appends_then (Some x) None c s t p q = absurd p
-appends_then (Some x) (Some y) None s t p q = absurd q
-appends_then (Some x) (Some y) (Some z) s t p q = q ∙ ap (λ u. u ++ t) p ∙ append_assoc x s t
-
-pub appends_nothing : (a : Option Text) → Appends a a []
-appends_nothing None = tt
-appends_nothing (Some x) = sym (append-nil x)
 
 -- what is printed of an item and of those after it
 pub report_cons : (form : Form) (prefix text : Text) (item : LexerItem) (more : List LexerItem) → items_report form prefix text (item ∷ more) ≡ item_report form prefix text item ++ items_report form prefix text more

@@ -1,12 +1,14 @@
 -- What a run prints of its sources.
-use Rattle.std.specs.Prelude.{◌≡◌, List, [], map, Option, Some, None}
-use Rattle.std.specs.Io.KnownBytes.{Appends}
+use Rattle.std.specs.Prelude.{◌≡◌, ◌+◌, Bool, ◌||◌, nat_lt, List, [], ◌++◌, length, map, Option, Some, None, Result, IfOk, OnOk}
 use Rattle.std.specs.List.{AllByRecursion, flat_map}
+use Rattle.std.specs.declared.io.Error.{Error}
 use Rattle.starlark_base.specs.Places.{Text}
+use Rattle.starlark_devices.specs.Calls.{WriterCalls, Ending, Going}
 use Rattle.starlark_tokens.specs.ReportDocuments.{document}
+use Rattle.starlark_tokens.specs.ReportWrites.{Takes}
 use Rattle.starlark_tokens.specs.Reports.{report}
 use Rattle.starlark_tokens.specs.SourceNames.{name_of}
-use Rattle.starlark_tokens.specs.Totals.{totals_of, with_source}
+use Rattle.starlark_tokens.specs.Totals.{in_64_bits, totals_of, with_source}
 use Rattle.starlark_tokens.specs.declared.form.Form.{Form}
 use Rattle.starlark_tokens.specs.declared.sources.Source.{Source}
 use Rattle.starlark_tokens.specs.declared.sources.Sources.{Sources}
@@ -34,28 +36,34 @@ reports form reads = flat_map (source_report form) reads
 abbrev pub Giving : Type 1
 Giving = Source → Option Text → Type 0
 
--- A source is counted and reported with the text that reading it gave, and nothing else: these are the totals before and
--- after, and what the output holds then, where that is known.
-pub record IsReported (gives : Giving) (form : Form) (source : Source) (old new : Totals) (before after : Option Text) : Type 0 where
+-- A source was reported with the text that reading it gave, by calls of the output. Where this succeeded the source is
+-- counted; else a beginning of its report is written.
+pub record IsReported {W T : Type 0} (gives : Giving) (calls : WriterCalls W) (form : Form) (source : Source) (old new : Totals) (before after : W) (result : Result T Error) : Type 0 where
   pub text : Option Text
   pub given : gives source text
-  pub counted : new ≡ with_source old text
-  pub written : Appends before after (report_if_read form (name_of source) text)
+  pub written : Takes calls Going before after (report_if_read form (name_of source) text) result
+  pub counted : OnOk result (new ≡ with_source old text)
 
--- All sources are reported, each with the text that reading it gave, in order, and nothing else. These are the totals of
--- all of them and of those that are lost, and what the output holds before and after, where that is known: what `around`
--- makes of the totals and the reports.
-pub record AreReported (around : Totals → Text → Text) (gives : Giving) (form : Form) (sources : Sources) (before after : Option Text) (totals : Totals) : Type 0 where
+-- Sources were reported, each with the text that reading it gave, in order: what `around` makes of their totals and reports
+-- was written, by calls of the output. Where this succeeded they are all sources, and the result is their totals; else they
+-- are the first ones, and a beginning is written.
+pub record AreReported {W : Type 0} (around : Totals → Text → Text) (gives : Giving) (calls : WriterCalls W) (ending : Ending) (form : Form) (sources : Sources) (before after : W) (result : Result Totals Error) : Type 0 where
   pub reads : List ReadSource
-  pub each : map (λ read. read.source) reads ≡ sources.all.items
+  pub unread : List Source
+  pub each : map (λ read. read.source) reads ++ unread ≡ sources.all.items
   pub given : AllByRecursion (λ read. gives read.source read.text) reads
-  pub counted : totals ≡ totals_of sources.lost (map (λ read. read.text) reads)
-  pub written : Appends before after (around totals (reports form reads))
+  pub written : Takes calls ending before after (around (totals_of sources.lost (map (λ read. read.text) reads)) (reports form reads)) result
+  pub all : OnOk result (unread ≡ [])
+  pub counted : IfOk result (λ totals. totals ≡ totals_of sources.lost (map (λ read. read.text) reads))
 
--- the reports of all sources, and nothing else
-abbrev pub AreReportedAlone : Giving → Form → Sources → (before after : Option Text) → Totals → Type 0
-AreReportedAlone = AreReported (λ totals reports. reports)
+-- the reports of sources alone
+abbrev pub AreReportedAlone : {W : Type 0} → Giving → WriterCalls W → Form → Sources → (before after : W) → Result Totals Error → Type 0
+AreReportedAlone gives calls form = AreReported (λ totals reports. reports) gives calls Going form
 
--- the document of all sources
-abbrev pub IsDocument : Giving → Form → Sources → (before after : Option Text) → Totals → Type 0
-IsDocument gives form = AreReported (document form) gives form
+-- the document of sources
+abbrev pub IsDocument : {W : Type 0} → Giving → WriterCalls W → Ending → Form → Sources → (before after : W) → Result Totals Error → Type 0
+IsDocument gives calls ending form = AreReported (document form) gives calls ending form
+
+-- lines of tokens have the names of their sources: some are found in a folder, or they are several
+abbrev pub are_named : Sources → Bool
+are_named sources = sources.are_found || nat_lt 1 (in_64_bits (length sources.all.items + sources.lost))

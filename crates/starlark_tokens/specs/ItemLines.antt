@@ -1,9 +1,9 @@
 -- Lines of tokens and faults: for people, as JSON, and with the line of the source.
-use Rattle.std.specs.Prelude.{ℕ, ◌+◌, ◌-◌, ◌^◌, max, min, Bool, ◌&&◌, not, ◌==◌, nat_eq, if◌then◌else◌, List, [], ◌∷◌, ◌++◌, map, length, take, drop, codes, count_by, encode_utf8, replicate, slice_index, sum_by}
+use Rattle.std.specs.Prelude.{ℕ, ◌+◌, ◌-◌, ◌^◌, max, min, Bool, ◌&&◌, not, ◌==◌, nat_eq, if◌then◌else◌, [], ◌++◌, length, take, drop, codes, count_by, encode_utf8, replicate, slice_index, sum_by}
 use Rattle.std.specs.Fmt.{decimal}
 use Rattle.std.specs.List.{after_last, flat_map, prefix_len, starts_with}
 use Rattle.std.specs.Str.{chars}
-use Rattle.starlark_base.specs.Places.{Text, is_lf, place_at, place_text}
+use Rattle.starlark_base.specs.Places.{Text, is_lf, place_text}
 use Rattle.starlark_base.specs.declared.codemap.resolved.ResolvedPos.{ResolvedPos}
 use Rattle.starlark_text.specs.Characters.{starts_character}
 use Rattle.starlark_base.specs.Positions.{utf16_column}

@@ -17,6 +17,9 @@ pub mod Requests
 pub mod Globs
 pub mod FileNames
 pub mod NameLists
+pub mod FolderPaths
+pub mod ShownNames
 pub mod SourceNames
+pub mod ReportWrites
 pub mod FileReports
 pub mod Progress

@@ -47,3 +47,7 @@ pub record AreTotalsOf (sources : Sources) (totals : Totals) : Type 0 where
   pub texts : List (Option Text)
   pub each : length texts ≡ length sources.all.items
   pub found : totals ≡ totals_of sources.lost texts
+
+-- sources with one more that can't be read
+abbrev pub with_lost : Sources → Sources
+with_lost sources = record sources { lost = in_64_bits (sources.lost + 1) }

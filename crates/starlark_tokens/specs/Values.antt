@@ -1,5 +1,5 @@
 -- Values of tokens, for people and as JSON.
-use Rattle.std.specs.Prelude.{ℕ, ◌^◌, Bool, true, false, nat_lt, ◌==◌, if◌then◌else◌, [], ◌∷◌, ◌++◌, codes, Option, Some, None, is_some}
+use Rattle.std.specs.Prelude.{ℕ, ◌^◌, Bool, true, nat_lt, ◌==◌, if◌then◌else◌, [], ◌∷◌, ◌++◌, codes, Option, Some, None, is_some}
 use Rattle.std.specs.Fmt.{decimal, sign_text, signed_decimal}
 use Rattle.std.specs.Str.Parse.{digits_value}
 use Rattle.starlark_base.specs.Places.{Text}

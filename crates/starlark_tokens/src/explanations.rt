@@ -1,7 +1,12 @@
 //! What the codes of faults mean, and how to mend each.
 
+ghost use Rattle.std.specs.List.{starts_with};
+ghost use Rattle.std.specs.Prelude.{◌++◌, IfSome, IsTrue, codes, nat_eq};
+
 /// What a code means, with an example and how to mend it; `None` where no fault has it.
-pub fn explanation(code: &str) -> Option<&'static str> {
+pub fn explanation(code: &str) -> Option<&'static str>
+    ensures { IfSome result (λ text. IsTrue (starts_with nat_eq text.now (code.now ++ codes ": "))) }
+{
     match code {
         "SL001" => Some(INDENTATION),
         "SL002" => Some(INVALID_INPUT),

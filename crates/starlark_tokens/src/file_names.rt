@@ -8,7 +8,7 @@ use crate::globs::fits;
 use crate::requests::Reports;
 
 /// Whether a name ends with a text.
-fn ends_with(name: &[u8], text: &str) -> bool
+pub fn ends_with(name: &[u8], text: &str) -> bool
     ensures { result ≡ spec.ends_with text.now name.now }
 {
     name.ends_with(text.as_bytes())

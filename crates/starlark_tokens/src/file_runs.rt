@@ -1,10 +1,14 @@
 //! The run of `starlark_tokens`: goes over its sources, and reports each.
 
 ghost use Rattle.std.specs.IoError.{error_kind};
-ghost use Rattle.std.specs.Prelude.{◌≡◌, ◌++◌, IfOk, OnOk, drop};
+ghost use Rattle.std.specs.Prelude.{◌≡◌, ◌++◌, IfOk, drop};
 ghost use Rattle.starlark_tokens.specs.ReportStatus.{status_of_output, status_of_run};
 ghost use Rattle.starlark_tokens.specs.ReportDocuments as documents;
+ghost use Rattle.starlark_devices.specs.Calls.{Done, Going};
+ghost use Rattle.starlark_tokens.specs.FileReports as spec;
 ghost use Rattle.starlark_tokens.specs.FileReports.{AreReported, AreReportedAlone, IsDocument, IsReported};
+ghost use Rattle.starlark_tokens.specs.Inner.CollectedReports.{AreCollected};
+ghost use Rattle.starlark_tokens.specs.ReportWrites.{Takes};
 ghost use Rattle.starlark_tokens.specs.Requests as requests;
 ghost use Rattle.starlark_tokens.specs.Totals.{AreTotalsOf};
 
@@ -14,12 +18,15 @@ use crate::messages::say;
 use crate::report::report_text;
 use crate::report_documents::{closing, opening};
 use crate::requests::{Format, Reports};
-use crate::screen::Screen;
+use crate::screen::{Progress, Screen};
 use crate::sources::{Source, Sources, Texts};
 use crate::totals::Totals;
+use starlark_devices::{WriteDevice, write_all};
 use starlark_run::TROUBLE;
+use std::alloc::{AllocError, Global};
 use std::io;
-use std::io::{BufWriter, ErrorKind, Write};
+use std::io::{BufWriter, ErrorKind};
+use std::time::Instant;
 
 /// The exit status where nobody reads the output, by the shell's convention for a closed pipe.
 const CLOSED_PIPE: u8 = 141;
@@ -59,8 +66,8 @@ fn form_of(wanted: &Reports<'_>, are_named: bool, is_painted: bool) -> Form
     }
 }
 
-/// Reports one source, and counts it. Only a failure of the output is returned.
-fn report_source<S: Texts, W: Write>(
+/// Reports one source, and counts it. Only a failure of the output, or of memory for it, is returned.
+fn report_source<S: Texts, W: WriteDevice>(
     rt: &HostRuntime,
     form: Form,
     texts: &S,
@@ -68,7 +75,7 @@ fn report_source<S: Texts, W: Write>(
     totals: &mut Totals,
     output: &mut W,
 ) -> io::Result<()>
-    ensures { OnOk result (IsReported (S.gives texts.now) form source.now totals.old totals.new (W.contents output.old) (W.contents output.new)) }
+    ensures { IsReported (S.gives texts.now) W.calls form source.now totals.old totals.new output.old output.new result }
 {
     match texts.text(source) {
         Ok(text) => {
@@ -77,45 +84,86 @@ fn report_source<S: Texts, W: Write>(
         }
         Err(fault) => {
             totals.add_failure();
-            output.flush()?;
+            output.flush_once()?;
             say(rt, source.name().as_bytes(), &fault);
         }
     }
     Ok(())
 }
 
+/// Shows how many sources are done, where the clock can be read and memory is left.
+fn show_done<W, T: WriteDevice>(rt: &HostRuntime, screen: &mut Screen<W, T>, done: usize)
+    ensures { screen.new.output ≡ screen.old.output }
+{
+    if let Ok(now) = Instant::now(rt) {
+        let _ = screen.show(done, now);
+    }
+}
+
 /// Reports all sources one after another.
-fn report_each<S: Texts, W: Write>(
+fn report_each<S: Texts, W: WriteDevice, T: WriteDevice>(
     rt: &HostRuntime,
     form: Form,
     texts: &S,
     sources: &Sources,
-    screen: &mut Screen<'_, W>,
+    screen: &mut Screen<W, T>,
 ) -> io::Result<Totals>
-    ensures { IfOk result (AreReportedAlone (S.gives texts.now) form sources.now (W.contents screen.old.output) (W.contents screen.new.output)) }
+    ensures { AreReportedAlone (S.gives texts.now) W.calls form sources.now screen.old.output screen.new.output result }
 {
     let mut totals = Totals::of_unreadable(sources.lost);
     for (done, source) in sources.all.iter().enumerate() {
-        screen.show(done);
+        show_done(rt, screen, done);
         report_source(rt, form, texts, source, &mut totals, screen)?;
     }
     Ok(totals)
 }
 
+/// Writes bytes to the output of a screen.
+fn put<W: WriteDevice, T: WriteDevice>(screen: &mut Screen<W, T>, bytes: &[u8]) -> io::Result<()>
+    ensures { Takes W.calls Going screen.old.output screen.new.output bytes.now result }
+{
+    write_all(screen, bytes)
+}
+
+/// Writes what a document begins with.
+fn put_opening<W: WriteDevice, T: WriteDevice>(
+    alloc: Global,
+    form: Form,
+    screen: &mut Screen<W, T>,
+) -> io::Result<()>
+    ensures { Takes W.calls Going screen.old.output screen.new.output (documents.opening form) result }
+{
+    let text = opening(alloc, form)?;
+    put(screen, text.as_bytes())
+}
+
+/// Writes what a document ends with.
+fn put_closing<W: WriteDevice, T: WriteDevice>(
+    alloc: Global,
+    form: Form,
+    totals: Totals,
+    screen: &mut Screen<W, T>,
+) -> io::Result<()>
+    ensures { Takes W.calls Going screen.old.output screen.new.output (documents.closing form totals) result }
+{
+    let text = closing(alloc, form, totals)?;
+    put(screen, text.as_bytes())
+}
+
 /// Writes an opening, the reports of all sources, and a closing.
-fn report_streamed<S: Texts, W: Write>(
+fn report_streamed<S: Texts, W: WriteDevice, T: WriteDevice>(
     rt: &HostRuntime,
     form: Form,
     texts: &S,
     sources: &Sources,
-    screen: &mut Screen<'_, W>,
+    screen: &mut Screen<W, T>,
 ) -> io::Result<Totals>
-    ensures { IfOk result (AreReported (λ totals reports. documents.opening form ++ (reports ++ documents.closing form totals))
-        (S.gives texts.now) form sources.now (W.contents screen.old.output) (W.contents screen.new.output)) }
+    ensures { AreReported (λ totals reports. documents.opening form ++ (reports ++ documents.closing form totals))
+        (S.gives texts.now) W.calls Going form sources.now screen.old.output screen.new.output result }
 {
-    screen.write_all(opening(rt.alloc(), form)?.as_bytes())?;
+    put_opening(rt.alloc(), form, screen)?;
     let totals = report_each(rt, form, texts, sources, screen)?;
-    screen.write_all(closing(rt.alloc(), form, totals)?.as_bytes())?;
+    put_closing(rt.alloc(), form, totals, screen)?;
     Ok(totals)
 }
 
@@ -126,36 +174,50 @@ fn without_first(bytes: &[u8]) -> &[u8]
     if bytes.is_empty() { bytes } else { &bytes[1..] }
 }
 
-/// Writes an opening, the reports of all sources without their first byte, and a closing, once all
-/// sources are read.
-fn report_collected<S: Texts, W: Write>(
+/// The reports of all sources, and what was found in them, in memory.
+fn collected<S: Texts>(
     rt: &HostRuntime,
     form: Form,
     texts: &S,
     sources: &Sources,
-    screen: &mut Screen<'_, W>,
-) -> io::Result<Totals>
-    ensures { IfOk result (AreReported (λ totals reports. documents.opening form ++ (drop 1 reports ++ documents.closing form totals))
-        (S.gives texts.now) form sources.now (W.contents screen.old.output) (W.contents screen.new.output)) }
+) -> Result<(Totals, Vec<u8>), AllocError>
+    ensures { IfOk result (λ found. AreCollected (S.gives texts.now) form sources.now found.0 found.1.items) }
 {
-    let mut results = Screen::new(rt, Vec::new(rt.alloc()), sources.all.len());
-    let totals = report_each(rt, form, texts, sources, &mut results)?;
+    let progress = Progress::begun(rt, sources.all.len());
+    let mut results = Screen::new(rt.alloc(), Vec::new(rt.alloc()), rt.stderr(), progress);
+    let totals = report_each(rt, form, texts, sources, &mut results).map_err(|_| AllocError)?;
     results.clear();
-    screen.write_all(opening(rt.alloc(), form)?.as_bytes())?;
-    screen.write_all(without_first(results.output().as_slice()))?;
-    screen.write_all(closing(rt.alloc(), form, totals)?.as_bytes())?;
+    Ok((totals, results.into_output()))
+}
+
+/// Writes an opening, the reports of all sources without their first byte, and a closing, once all
+/// sources are read.
+fn report_collected<S: Texts, W: WriteDevice, T: WriteDevice>(
+    rt: &HostRuntime,
+    form: Form,
+    texts: &S,
+    sources: &Sources,
+    screen: &mut Screen<W, T>,
+) -> io::Result<Totals>
+    ensures { AreReported (λ totals reports. documents.opening form ++ (drop 1 reports ++ documents.closing form totals))
+        (S.gives texts.now) W.calls Going form sources.now screen.old.output screen.new.output result }
+{
+    let (totals, reports) = collected(rt, form, texts, sources)?;
+    put_opening(rt.alloc(), form, screen)?;
+    put(screen, without_first(reports.as_slice()))?;
+    put_closing(rt.alloc(), form, totals, screen)?;
     Ok(totals)
 }
 
 /// Writes the document of all sources.
-fn report_document<S: Texts, W: Write>(
+fn report_document<S: Texts, W: WriteDevice, T: WriteDevice>(
     rt: &HostRuntime,
     form: Form,
     texts: &S,
     sources: &Sources,
-    screen: &mut Screen<'_, W>,
+    screen: &mut Screen<W, T>,
 ) -> io::Result<Totals>
-    ensures { IfOk result (IsDocument (S.gives texts.now) form sources.now (W.contents screen.old.output) (W.contents screen.new.output)) }
+    ensures { IsDocument (S.gives texts.now) W.calls Going form sources.now screen.old.output screen.new.output result }
 {
     if form.is_collected() {
         return report_collected(rt, form, texts, sources, screen);
@@ -165,22 +227,46 @@ fn report_document<S: Texts, W: Write>(
 
 /// Writes the document of all sources, and returns what was found in them once all is written.
 ///
-/// The contract holds for every output. Of standard output, whose bytes std's `Write` doesn't know,
-/// it promises the totals alone.
-fn report_to<S: Texts, W: Write>(
+/// The contract holds for every output. Of standard output, whose calls std doesn't know, it promises
+/// the totals alone.
+fn report_to<S: Texts, W: WriteDevice, T: WriteDevice>(
     rt: &HostRuntime,
     form: Form,
     texts: &S,
     sources: &Sources,
-    screen: &mut Screen<'_, W>,
+    screen: &mut Screen<W, T>,
 ) -> io::Result<Totals>
-    ensures { IfOk result (IsDocument (S.gives texts.now) form sources.now (W.contents screen.old.output) (W.contents screen.new.output)) }
+    ensures { IsDocument (S.gives texts.now) W.calls Done form sources.now screen.old.output screen.new.output result }
 {
     let found = report_document(rt, form, texts, sources, screen);
     screen.clear();
     let totals = found?;
-    screen.flush()?;
+    screen.flush_once()?;
     Ok(totals)
+}
+
+/// Whether lines of tokens have the names of their sources: some are found in a folder, or they are
+/// several.
+fn are_named(sources: &Sources) -> bool
+    ensures { result ≡ spec.are_named sources.now }
+{
+    sources.are_found || sources.all.len().saturating_add(sources.lost) > 1
+}
+
+/// Writes the document that is asked for, and returns what was found once all is written.
+fn report_wanted<S: Texts, W: WriteDevice, T: WriteDevice>(
+    rt: &HostRuntime,
+    wanted: &Reports<'_>,
+    is_painted: bool,
+    texts: &S,
+    sources: &Sources,
+    screen: &mut Screen<W, T>,
+) -> io::Result<Totals>
+    ensures { IsDocument (S.gives texts.now) W.calls Done (requests.form_of wanted.now (spec.are_named sources.now) is_painted)
+        sources.now screen.old.output screen.new.output result }
+{
+    let form = form_of(wanted, are_named(sources), is_painted);
+    report_to(rt, form, texts, sources, screen)
 }
 
 /// Reports all sources over standard output, and returns what was found in them.
@@ -192,11 +278,10 @@ pub fn report_sources(
 ) -> io::Result<Totals>
     ensures { IfOk result (AreTotalsOf sources.now) }
 {
-    let are_named = sources.are_found || sources.all.len().saturating_add(sources.lost) > 1;
-    let form = form_of(wanted, are_named, is_painted);
     let output = BufWriter::with_capacity(rt.alloc(), BUFFER_LEN, rt.stdout())?;
-    let mut screen = Screen::new(rt, output, sources.all.len());
-    report_to(rt, form, rt, sources, &mut screen)
+    let progress = Progress::begun(rt, sources.all.len());
+    let mut screen = Screen::new(rt.alloc(), output, rt.stderr(), progress);
+    report_wanted(rt, wanted, is_painted, rt, sources, &mut screen)
 }
 
 /// Says how many faults were found, in how many files.

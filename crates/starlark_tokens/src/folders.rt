@@ -1,7 +1,11 @@
 //! Finds the sources of a run: files by their names, and those in folders.
 
+ghost use Rattle.std.specs.Prelude.{◌≡◌, IfOk, string_bytes};
+ghost use Rattle.starlark_tokens.specs.FolderPaths as spec;
+ghost use Rattle.starlark_tokens.specs.Totals.{with_lost};
+
 use crate::command_words::is_same;
-use crate::file_names::{is_left_out, is_read};
+use crate::file_names::{ends_with, is_left_out, is_read};
 use crate::messages::say;
 use crate::name_lists::{folder_names, listed_names};
 use crate::requests::Reports;
@@ -28,13 +32,15 @@ struct Search<'a> {
 }
 
 /// What the paths in a folder begin with.
-fn path_prefix(rt: &HostRuntime, folder: &str) -> Result<String, AllocError> {
-    let mut prefix = String::new(rt.alloc());
-    if folder != "." {
-        prefix.push_str(folder)?;
-        if !folder.ends_with("/") {
-            prefix.push_str("/")?;
-        }
+fn path_prefix(rt: &HostRuntime, folder: &str) -> Result<String, AllocError>
+    ensures { IfOk result (λ prefix. string_bytes prefix ≡ spec.path_prefix folder.now) }
+{
+    if is_same(folder.as_bytes(), ".") {
+        return Ok(String::new(rt.alloc()));
+    }
+    let mut prefix = String::from_str(rt.alloc(), folder)?;
+    if !ends_with(folder.as_bytes(), "/") {
+        prefix.push_str("/")?;
     }
     Ok(prefix)
 }
@@ -86,7 +92,9 @@ fn is_file(rt: &HostRuntime, path: &str, metadata: &Metadata) -> bool {
 
 impl Search<'_> {
     /// Counts a name that can't be read, and says why.
-    fn lose<D: std::fmt::Display>(&mut self, name: &[u8], why: &D) {
+    fn lose<D: std::fmt::Display>(&mut self, name: &[u8], why: &D)
+        ensures { self.new ≡ record self.old { sources = with_lost self.old.sources } }
+    {
         self.sources.lost = self.sources.lost.saturating_add(1);
         say(self.rt, name, why);
     }
@@ -149,7 +157,9 @@ impl Search<'_> {
     }
 
     /// The name of standard input in reports.
-    fn stdin_name(&self) -> Result<String, AllocError> {
+    fn stdin_name(&self) -> Result<String, AllocError>
+        ensures { IfOk result (λ name. string_bytes name ≡ spec.stdin_name self.now.wanted.now) }
+    {
         match self.wanted.stdin_names.first() {
             Some(name) => String::from_utf8_lossy(self.rt.alloc(), name),
             None => String::from_str(self.rt.alloc(), STDIN_SHOWN),

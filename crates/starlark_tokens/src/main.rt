@@ -4,6 +4,9 @@
 //! be read or an option is wrong, and 141 where nobody reads the output any more.
 #![tactic(auto)]
 
+ghost use Rattle.std.specs.Prelude.{◌≡◌, ◌⊎◌, IfOk};
+ghost use Rattle.starlark_tokens.specs.ReportStatus.{IsPrintStatus, IsRunStatus, IsStatusOf, status_of_print};
+
 mod arguments;
 mod build;
 mod character_widths;
@@ -46,9 +49,9 @@ use crate::messages::say;
 use crate::requests::{Reports, Request, asked};
 use starlark_run::TROUBLE;
 use std::alloc::AllocError;
-use std::env;
 use std::io::IsTerminal;
 use std::process::ExitCode;
+use std::{env, io};
 
 /// What `--help` prints.
 const HELP: &str = "\
@@ -80,24 +83,34 @@ UTF-8 or is too long, or if an option is wrong.
 /// The version that `--version` prints.
 const VERSION: &str = "0.2.0";
 
-/// Prints a text, and returns the exit status.
-fn print_text(rt: &HostRuntime, text: &str) -> u8 {
-    match rt.print(text) {
+/// The exit status after a text was printed, or not.
+fn printed_status(rt: &HostRuntime, printed: &io::Result<()>) -> u8
+    ensures { result ≡ status_of_print printed.now }
+{
+    match printed {
         Ok(()) => 0,
-        Err(error) => unwritable(rt, &error),
+        Err(error) => unwritable(rt, error),
     }
+}
+
+/// Prints a text, and returns the exit status.
+fn print_text(rt: &HostRuntime, text: &str) -> u8
+    ensures { IsPrintStatus result }
+{
+    printed_status(rt, &rt.print(text))
 }
 
 /// Prints the version.
-fn print_version(rt: &HostRuntime) -> u8 {
-    match println!(rt; "starlark_tokens {VERSION} ({BUILD})") {
-        Ok(()) => 0,
-        Err(error) => unwritable(rt, &error),
-    }
+fn print_version(rt: &HostRuntime) -> u8
+    ensures { IsPrintStatus result }
+{
+    printed_status(rt, &println!(rt; "starlark_tokens {VERSION} ({BUILD})"))
 }
 
 /// Says that an option isn't one.
-fn refuse_option(rt: &HostRuntime, option: &[u8]) -> u8 {
+fn refuse_option(rt: &HostRuntime, option: &[u8]) -> u8
+    ensures { result ≡ 2 }
+{
     if takes_value(option) {
         say(rt, option, &"needs a value; --help lists the options");
     } else {
@@ -107,7 +120,9 @@ fn refuse_option(rt: &HostRuntime, option: &[u8]) -> u8 {
 }
 
 /// Prints what a code means.
-fn explain(rt: &HostRuntime, code: &[u8]) -> u8 {
+fn explain(rt: &HostRuntime, code: &[u8]) -> u8
+    ensures { IsPrintStatus result ⊎ (result ≡ 2) }
+{
     match str::from_utf8(code).ok().and_then(explanation) {
         Some(text) => print_text(rt, text),
         None => {
@@ -131,23 +146,33 @@ fn is_painted(rt: &HostRuntime) -> bool {
 }
 
 /// Reports what is asked for, and returns the exit status.
-fn report_all(rt: &HostRuntime, wanted: &Reports<'_>) -> Result<u8, AllocError> {
+fn report_all(rt: &HostRuntime, wanted: &Reports<'_>) -> Result<u8, AllocError>
+    ensures { IfOk result IsRunStatus }
+{
     let sources = sources_of(rt, wanted)?;
     let run = report_sources(rt, wanted, &sources, is_painted(rt));
     Ok(end_run(rt, wanted, &run))
+}
+
+/// Does what is asked for, and returns the exit status.
+fn answer_to(rt: &HostRuntime, request: &Request<'_>) -> Result<u8, AllocError>
+    ensures { IfOk result (IsStatusOf request.now) }
+{
+    match request {
+        Request::Unknown(option) => Ok(refuse_option(rt, option)),
+        Request::Help => Ok(print_text(rt, HELP)),
+        Request::Version => Ok(print_version(rt)),
+        Request::Explain(code) => Ok(explain(rt, code)),
+        Request::Reports(wanted) => report_all(rt, wanted),
+    }
 }
 
 /// Does what the arguments ask for, and returns the exit status.
 fn answer(rt: &HostRuntime) -> Result<u8, AllocError> {
     let arguments = arguments(rt)?;
     let words = words_of(rt.alloc(), arguments.as_slice())?;
-    match asked(rt.alloc(), &words)? {
-        Request::Unknown(option) => Ok(refuse_option(rt, option)),
-        Request::Help => Ok(print_text(rt, HELP)),
-        Request::Version => Ok(print_version(rt)),
-        Request::Explain(code) => Ok(explain(rt, code)),
-        Request::Reports(wanted) => report_all(rt, &wanted),
-    }
+    let request = asked(rt.alloc(), &words)?;
+    answer_to(rt, &request)
 }
 
 fn main(rt: HostRuntime) -> ExitCode {

@@ -1,11 +1,16 @@
 //! What the program says on standard error.
 
+ghost use Rattle.std.specs.Prelude.{IfOk, string_bytes};
+ghost use Rattle.starlark_tokens.specs.ShownNames.{IsShownAs};
+
 use crate::python_literals::{push_name, push_quoted_bytes};
 use std::alloc::AllocError;
 use std::fmt::Display;
 
 /// A name on one line. One that isn't UTF-8 is shown as bytes.
-fn one_line(rt: &HostRuntime, name: &[u8]) -> Result<String, AllocError> {
+fn one_line(rt: &HostRuntime, name: &[u8]) -> Result<String, AllocError>
+    ensures { IfOk result (λ line. IsShownAs name.now (string_bytes line)) }
+{
     let mut line = String::new(rt.alloc());
     match str::from_utf8(name) {
         Ok(text) => push_name(&mut line, text)?,

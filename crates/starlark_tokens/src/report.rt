@@ -1,23 +1,24 @@
 //! Prints the report of a text.
 
 ghost use Rattle.std.specs.Prelude.{◌≡◌, ◌-◌, ◌<◌, ◌^◌, List, [], ◌∷◌, IfOk, IsSome, OnOk, Some, count_by, drop, length, min, string_bytes};
-ghost use Rattle.std.specs.Io.KnownBytes.{Appends};
+ghost use Rattle.starlark_devices.specs.Calls.{Going};
 ghost use Rattle.starlark_base.specs.Sources.{SourceFile};
 ghost use Rattle.starlark_syntax.specs.RecoveringLexer.{all_items, left_after};
 ghost use Rattle.starlark_tokens.specs.Inner.Reporters.{IsReady, Keeps};
 ghost use Rattle.starlark_tokens.specs.Reports.{fault_count, is_fault, item_report, report};
+ghost use Rattle.starlark_tokens.specs.ReportWrites.{Takes};
 ghost use Rattle.starlark_syntax.specs.Lexer.{Answers, AnswersBetween, AnswersWithin};
 ghost use Rattle.starlark_token.specs.TextItems.{LexerItem};
 
 use crate::form::Form;
 use crate::reporter::Reporter;
 use starlark_base::codemap::{CodeMap, CodeMapId, OrMemory};
+use starlark_devices::{WriteDevice, write_all};
 use starlark_syntax::eval_exception::EvalException;
 use starlark_syntax::lexer::{Lexeme, RecoveringLexer};
 use starlark_text::dialect::Dialect;
 use std::alloc::{AllocError, Global};
 use std::io;
-use std::io::Write;
 
 /// Makes the lines of an item, and returns how many faults it is: 0 or 1.
 fn report_item(reporter: &mut Reporter<'_>, item: Lexeme) -> Result<usize, AllocError>
@@ -64,9 +65,9 @@ fn lexer_of(alloc: Global, text: &str) -> Result<RecoveringLexer<'_>, AllocError
 
 /// Prints the report of the text `name` in a form, and returns how many faults it has.
 ///
-/// The text must be shorter than 2^32 bytes. Fails where a write fails, and with `OutOfMemory`
-/// where memory runs out; then a beginning of the report may be written.
-pub fn report_text<W: Write>(
+/// The text must be shorter than 2^32 bytes. Fails at the first write that fails, which isn't tried
+/// again, and with `OutOfMemory` where memory runs out. Then a beginning of the report is written.
+pub fn report_text<W: WriteDevice>(
     alloc: Global,
     form: Form,
     name: &str,
@@ -74,7 +75,7 @@ pub fn report_text<W: Write>(
     writer: &mut W,
 ) -> io::Result<usize>
     requires fits { length text.now < 2 ^ 32 }
-    ensures written { OnOk result (Appends (W.contents writer.old) (W.contents writer.new) (report form name.now text.now)) }
+    ensures written { Takes W.calls Going writer.old writer.new (report form name.now text.now) result }
     ensures counted { IfOk result (λ faults. faults ≡ min (fault_count text.now) (2 ^ 64 - 1)) }
 {
     let mut reporter = Reporter::new(alloc, form, name, text)?;
@@ -82,7 +83,7 @@ pub fn report_text<W: Write>(
     let mut faults: usize = 0;
     while let Some(item) = lexer.next() {
         let count = report_item(&mut reporter, item)?;
-        writer.write_all(reporter.lines.as_bytes())?;
+        write_all(writer, reporter.lines.as_bytes())?;
         faults = faults.saturating_add(count);
     }
     Ok(faults)

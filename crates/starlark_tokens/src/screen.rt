@@ -1,12 +1,13 @@
-//! The output of a run, and the line of progress on a terminal's standard error.
+//! The output of a run, and the line of progress on a terminal.
 
-ghost use Rattle.std.specs.Prelude.{◌≡◌, ◌*◌, ◌-◌, IfOk, nat_le, string_bytes};
+ghost use Rattle.std.specs.Prelude.{◌≡◌, ◌*◌, ◌-◌, IfOk, OnOk, OnErr, Some, nat_le, string_bytes};
 ghost use Rattle.std.specs.Time.{instant_nanos};
-ghost use Rattle.starlark_tokens.specs.Progress.{progress_line};
+ghost use Rattle.starlark_tokens.specs.Progress as spec;
 
+use starlark_devices::{WriteDevice, write_all};
 use std::alloc::{AllocError, Global};
 use std::io;
-use std::io::{IsTerminal, Write};
+use std::io::IsTerminal;
 use std::time::{Duration, Instant};
 
 /// Milliseconds that a run takes before the line of progress is shown.
@@ -18,19 +19,25 @@ const NEXT_WAIT: u64 = 100;
 /// Clears the line that the cursor is on.
 const CLEAR: &str = "\r\x1b[K";
 
-/// When the line of progress was written, or else when the run began.
+/// Of how many files, and when the line of progress was written, or else when the run began.
 #[derive(Clone, Copy)]
-struct Progress {
+pub struct Progress {
+    total: usize,
     last: Instant,
     wait: u64,
     is_shown: bool,
 }
 
 impl Progress {
-    /// Progress that begins now; `None` where the clock can't be read.
-    fn begun(rt: &HostRuntime) -> Option<Progress> {
+    /// Progress over so many files that begins now. `None` for a single file, where standard error is
+    /// no terminal, and where the clock can't be read.
+    pub fn begun(rt: &HostRuntime, total: usize) -> Option<Progress> {
+        if total <= 1 || !rt.stderr().is_terminal() {
+            return None;
+        }
         let last = Instant::now(rt).ok()?;
         Some(Progress {
+            total,
             last,
             wait: FIRST_WAIT,
             is_shown: false,
@@ -47,83 +54,85 @@ impl Progress {
 
 /// The line of progress, which is written over the one before.
 fn line_of(alloc: Global, done: usize, total: usize) -> Result<String, AllocError>
-    ensures { IfOk result (λ line. string_bytes line ≡ progress_line done total) }
+    ensures { IfOk result (λ line. string_bytes line ≡ spec.progress_line done total) }
 {
     format!(in alloc; "\r{done} of {total} files")
 }
 
-/// An output, and the line of progress on standard error, which is cleared before each write.
+/// An output, and the line of progress on a terminal, which is cleared before each call of the output.
 #[derive(Drop)]
-pub struct Screen<'a, W> {
-    rt: &'a HostRuntime,
+pub struct Screen<W, T> {
+    alloc: Global,
     output: W,
-    total: usize,
+    terminal: T,
     /// `None` where no progress is shown.
     progress: Option<Progress>,
 }
 
-impl<'a, W> Screen<'a, W> {
-    /// A screen for a run over so many files. It shows progress if they are several and standard
-    /// error is a terminal.
-    pub fn new(rt: &'a HostRuntime, output: W, total: usize) -> Screen<'a, W>
+impl<W, T: WriteDevice> Screen<W, T> {
+    /// A screen whose line of progress isn't written yet.
+    pub fn new(alloc: Global, output: W, terminal: T, progress: Option<Progress>) -> Screen<W, T>
         ensures { result.output ≡ output }
     {
-        let progress = if total > 1 && rt.stderr().is_terminal() {
-            Progress::begun(rt)
-        } else {
-            None
-        };
         Screen {
-            rt,
+            alloc,
             output,
-            total,
+            terminal,
             progress,
         }
     }
 
     /// The output.
-    pub fn output(&self) -> &W
-        ensures { result.now ≡ self.now.output }
+    pub fn into_output(self) -> W
+    where
+        T: Drop,
+        ensures { result ≡ self.output }
     {
-        &self.output
+        self.output
     }
 
-    /// Shows how many files are done, if that is due.
-    pub fn show(&mut self, done: usize)
-        ensures { self.new.output ≡ self.old.output }
+    /// Shows how many files are done, if that is due now. Where memory runs out it does nothing.
+    pub fn show(&mut self, done: usize, now: Instant) -> Result<(), AllocError>
+        ensures shown { OnOk result (spec.ShowsIf (spec.is_due self.old.progress now) T.calls done now self.old self.new) }
+        ensures refused { OnErr result (self.new ≡ self.old) }
     {
-        let Some(progress) = self.progress else {
-            return;
-        };
-        let Ok(now) = Instant::now(self.rt) else {
-            return;
-        };
-        if progress.is_due(now) {
-            self.write_progress(done, now);
+        if let Some(progress) = self.progress {
+            if progress.is_due(now) {
+                self.write_progress(progress, done, now)?;
+            }
         }
+        Ok(())
     }
 
-    /// Writes the line of progress. Where memory runs out for it, it is left out.
-    fn write_progress(&mut self, done: usize, now: Instant)
-        ensures { self.new.output ≡ self.old.output }
+    /// Writes the line of progress. Where memory runs out it does nothing.
+    fn write_progress(
+        &mut self,
+        progress: Progress,
+        done: usize,
+        now: Instant,
+    ) -> Result<(), AllocError>
+        requires { self.old.progress ≡ Some progress }
+        ensures shown { OnOk result (spec.Shows T.calls done now self.old self.new) }
+        ensures refused { OnErr result (self.new ≡ self.old) }
     {
-        if let Ok(line) = line_of(self.rt.alloc(), done, self.total) {
-            let _ = self.rt.eprint(line.as_str());
-            self.progress = Some(Progress {
-                last: now,
-                wait: NEXT_WAIT,
-                is_shown: true,
-            });
-        }
+        let line = line_of(self.alloc, done, progress.total)?;
+        let _ = write_all(&mut self.terminal, line.as_bytes());
+        self.progress = Some(Progress {
+            last: now,
+            wait: NEXT_WAIT,
+            is_shown: true,
+            ..progress
+        });
+        Ok(())
     }
 
     /// Clears the line of progress if it is shown.
     pub fn clear(&mut self)
-        ensures { self.new.output ≡ self.old.output }
+        ensures { spec.Clears T.calls self.old self.new }
     {
         if let Some(progress) = self.progress {
             if progress.is_shown {
-                let _ = self.rt.eprint(CLEAR);
+                let _ = write_all(&mut self.terminal, CLEAR.as_bytes());
                 self.progress = Some(Progress {
                     is_shown: false,
                     ..progress
@@ -133,22 +142,16 @@ impl<'a, W> Screen<'a, W> {
     }
 }
 
-impl<W: Write> Write for Screen<'_, W> {
-    /// What the output holds: the line of progress is no part of it.
-    ghost contents = { λ screen. W.contents screen.output };
+impl<W: WriteDevice, T: WriteDevice> WriteDevice for Screen<W, T> {
+    ghost calls = { spec.screen_calls W.calls T.calls };
 
-    fn write(&mut self, bytes: &[u8]) -> io::Result<usize> {
+    fn write_once(&mut self, piece: &[u8]) -> io::Result<usize> {
         self.clear();
-        self.output.write(bytes)
+        self.output.write_once(piece)
     }
 
-    fn flush(&mut self) -> io::Result<()> {
+    fn flush_once(&mut self) -> io::Result<()> {
         self.clear();
-        self.output.flush()
-    }
-
-    fn write_all(&mut self, bytes: &[u8]) -> io::Result<()> {
-        self.clear();
-        self.output.write_all(bytes)
+        self.output.flush_once()
     }
 }

@@ -1,9 +1,10 @@
 //! The sources of a run: standard input and files. Reads the text of one.
 
-ghost use Rattle.std.specs.Prelude.{◌≡◌, ◌≤◌, ⊤, IfOk, IfSome, Option, length, string_bytes};
+ghost use Rattle.std.specs.Prelude.{◌≡◌, ◌≤◌, ⊤, IfErr, IfOk, IfSome, Option, length, string_bytes};
+ghost use Rattle.std.specs.Str.{IsUtf8, IsValidUpTo};
 ghost use Rattle.starlark_base.specs.Places.{Text};
 ghost use Rattle.starlark_run.specs.declared.ends.TheConstants.{GREATEST_LEN};
-ghost use Rattle.starlark_tokens.specs.SourceNames.{name_of, text_in};
+ghost use Rattle.starlark_tokens.specs.SourceNames.{HasFault, name_of, text_in};
 
 use starlark_base::codemap::ResolvedPos;
 use starlark_base::position::Position;
@@ -63,6 +64,10 @@ pub enum SourceFault {
 }
 
 impl From<io::Error> for SourceFault {
+    ghost use Rattle.starlark_tokens.specs.declared.sources.SourceFault.TheVariants.{Unreadable};
+
+    ghost from_gives = { λ error fault. fault ≡ Unreadable error };
+
     fn from(error: io::Error) -> SourceFault {
         SourceFault::Unreadable(error)
     }
@@ -72,6 +77,7 @@ impl From<io::Error> for SourceFault {
 fn read_source_bytes<R: Read + Drop>(alloc: Global, reader: R) -> Result<Vec<u8>, SourceFault>
     ensures short { IfOk result (λ bytes. length bytes.items ≤ GREATEST_LEN) }
     ensures whole { IfOk result (λ bytes. IfSome (R.remaining reader) (λ all. bytes.items ≡ all)) }
+    ensures fault { IfErr result (λ fault. IfSome (R.remaining reader) (λ all. HasFault all fault)) }
 {
     let mut bytes = Vec::new(alloc);
     reader
@@ -83,30 +89,51 @@ fn read_source_bytes<R: Read + Drop>(alloc: Global, reader: R) -> Result<Vec<u8>
     Ok(bytes)
 }
 
+/// The first byte after a front that is UTF-8, with its place.
+fn byte_after(bytes: &[u8], at: usize) -> SourceFault
+    requires { IsValidUpTo bytes.now at }
+    ensures { HasFault bytes.now result }
+{
+    let byte = bytes[at];
+    match str::from_utf8(&bytes[..at]) {
+        Ok(front) => {
+            let place = Position::START.moved(front, at).place;
+            SourceFault::NotUtf8 { byte, place }
+        }
+        Err(_) => unreachable!(),
+    }
+}
+
 /// Where some bytes stop being UTF-8.
-fn bad_byte(bytes: &[u8], at: usize) -> SourceFault {
-    let byte = bytes.get(at).copied().unwrap_or(0);
-    let front = bytes.get(..at).unwrap_or(&[]);
-    let place = match str::from_utf8(front) {
-        Ok(text) => Position::START.moved(text, text.len()).place,
-        Err(_) => ResolvedPos { line: 0, column: 0 },
-    };
-    SourceFault::NotUtf8 { byte, place }
+fn bad_byte(bytes: &[u8]) -> SourceFault
+    requires { ¬ (IsUtf8 bytes.now) }
+    ensures { HasFault bytes.now result }
+{
+    match str::from_utf8(bytes) {
+        Ok(_) => unreachable!(),
+        Err(error) => byte_after(bytes, error.valid_up_to()),
+    }
+}
+
+/// Some bytes as a text.
+fn text_of(bytes: Vec<u8>) -> Result<String, SourceFault>
+    ensures text { IfOk result (λ text. string_bytes text ≡ bytes.items) }
+    ensures fault { IfErr result (HasFault bytes.items) }
+{
+    match String::from_utf8(bytes) {
+        Ok(text) => Ok(text),
+        Err(error) => Err(bad_byte(error.as_bytes())),
+    }
 }
 
 /// Reads the text of a reader.
 pub fn read_text<R: Read + Drop>(alloc: Global, reader: R) -> Result<String, SourceFault>
     ensures short { IfOk result (λ text. length (string_bytes text) ≤ GREATEST_LEN) }
     ensures whole { IfOk result (λ text. IfSome (R.remaining reader) (λ bytes. string_bytes text ≡ bytes)) }
+    ensures fault { IfErr result (λ fault. IfSome (R.remaining reader) (λ bytes. HasFault bytes fault)) }
 {
     let bytes = read_source_bytes(alloc, reader)?;
-    match String::from_utf8(bytes) {
-        Ok(text) => Ok(text),
-        Err(error) => {
-            let at = error.utf8_error().valid_up_to();
-            Err(bad_byte(error.as_bytes(), at))
-        }
-    }
+    text_of(bytes)
 }
 
 /// What the texts of sources are read from.

@@ -1,6 +1,5 @@
 -- Makers of lines, between two items of a text.
 use Rattle.std.specs.Prelude.{◌≡◌, Bool, true, false, string_bytes}
-use Rattle.starlark_base.specs.Places.{Text}
 use Rattle.starlark_base.specs.Positions.{IsPosition}
 use Rattle.starlark_tokens.specs.declared.form.Form.{Form}
 use Rattle.starlark_tokens.specs.declared.form.Form.TheVariants.{Tokens, NamedTokens, Json}

@@ -1,6 +1,4 @@
-use Rattle.std.proofs.Common.{◌∙◌, ap, sym}
 use Rattle.std.specs.List.{take-map}
-use Rattle.starlark_tokens.specs.CommandWords.{joined}
 use Rattle.starlark_tokens.proofs.command_words.leading_of.Goals as goal
 
 pub returns : goal.returns

@@ -1,9 +1,9 @@
-use Rattle.std.proofs.Common.{◌≡◌, ℕ, ◌-◌, ◌<◌, ◌≤◌, ◌≢◌, Bool, true, false, not, arith, ap, drop, get_or, length, sym, take, ◌∙◌}
+use Rattle.std.proofs.Common.{◌≡◌, ℕ, ◌<◌, ◌≤◌, ◌≢◌, not, arith, ap, get_or, length, sym, take, ◌∙◌}
 use Rattle.std.proofs.lemmas.Bool.{eq-eqb, ne_eqb, not_from_true, not_from_false}
 use Rattle.std.proofs.lemmas.List.{take_all}
 use Rattle.std.proofs.lemmas.List.Sums.{prefix_len_is}
 use Rattle.std.proofs.lemmas.Str.Pattern.{find_char}
-use Rattle.std.specs.List.{prefix_len, slice_range}
+use Rattle.std.specs.List.{prefix_len}
 use Rattle.starlark_base.specs.Places.{Text, is_lf}
 use Rattle.starlark_base.proofs.Pairs.{front_range}
 use Rattle.starlark_tokens.proofs.fault_lines.line_back.Goals as goal

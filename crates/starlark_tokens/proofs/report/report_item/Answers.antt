@@ -1,8 +1,8 @@
-use Rattle.std.proofs.Common.{◌≡◌, ◌∙◌, Some, ap, string_bytes, subst, sym}
+use Rattle.std.proofs.Common.{◌≡◌, ◌∙◌, ap, string_bytes, subst, sym}
 use Rattle.std.specs.Prelude.{IsSome, option_copied}
 use Rattle.starlark_base.specs.Diagnostics.{Diagnosed}
 use Rattle.starlark_syntax.specs.declared.error.kinds.ErrorKind.{ErrorKind}
-use Rattle.starlark_tokens.proofs.Reported.{given_count, given_report, refused_count, refused_report, some_read, thrown_span}
+use Rattle.starlark_tokens.proofs.Reported.{given_report, refused_report, some_read, thrown_span}
 use Rattle.starlark_tokens.proofs.report.report_item.Goals as goal
 
 pub unwrap-requires : goal.unwrap-requires

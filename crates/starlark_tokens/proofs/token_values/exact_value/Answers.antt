@@ -1,6 +1,5 @@
-use Rattle.std.proofs.Common.{◌≡◌, ◌∙◌, ap, sym}
+use Rattle.std.proofs.Common.{◌∙◌, ap, sym}
 use Rattle.std.proofs.lemmas.Result.{OkIff-at_err, OkIff-at_ok}
-use Rattle.std.specs.Str.Parse.{digits_value}
 use Rattle.starlark_tokens.specs.Values.{exact_value, if_exact}
 use Rattle.starlark_tokens.proofs.ExactValues.{canonical_read, too_great}
 use Rattle.starlark_tokens.proofs.token_values.exact_value.Goals as goal

@@ -1,4 +1,4 @@
-use Rattle.std.proofs.Common.{◌≡◌, ◌∙◌, Bool, true, [], refl, sym}
+use Rattle.std.proofs.Common.{◌≡◌, ◌∙◌, true, [], refl, sym}
 use Rattle.starlark_base.specs.Places.{Text}
 use Rattle.starlark_token.specs.TokenViews.{TokenView}
 use Rattle.starlark_tokens.specs.Inner.Reporters.{has_only_faults}
