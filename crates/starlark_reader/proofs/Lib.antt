@@ -14,6 +14,7 @@
 -- TakenPieces/Onward, Here: one piece further: what is left of a text.
 -- TakenPieces/Taken, ChunksTaken, PieceTaken: the reader's state: before and after a piece.
 -- TakenPieces/NextLexeme: lexemes: what the reader returns.
+-- TakenPieces/SameTexts: calls in a row: what is ahead after one, and after the next.
 -- TakenPieces/PieceReads, ReaderReads: reads: of a piece, after each step, and of the lexer by its lookahead.
 -- TakenPieces/SearchReads: reads: of the search after a fault.
 -- TakenPieces/LineEndPieces, MarginReads: reads: the line end before a margin; lexing begins again after a margin that is a

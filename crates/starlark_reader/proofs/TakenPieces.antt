@@ -15,3 +15,4 @@ pub mod ChunksTaken
 pub mod PieceTaken
 pub mod NextLexeme
 pub mod Repaired
+pub mod SameTexts

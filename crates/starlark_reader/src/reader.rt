@@ -1,6 +1,6 @@
 //! The reader: reads a text piece by piece, and stores what later pieces depend on.
 
-ghost use Rattle.std.specs.Prelude.{◌≡◌, ◌≢◌, true, false, ◌<◌, ◌≤◌, ◌+◌, ◌-◌, ◌*◌, ◌^◌, [], ℕ, None, Some, List, Option, codes, drop, length, map, nat_eq, nat_lt, string_bytes, take, OnErr, OnOk, IfErr, IfOk, IfSome};
+ghost use Rattle.std.specs.Prelude.{◌&&◌, ◌≡◌, ◌≢◌, true, false, ◌<◌, ◌≤◌, ◌+◌, ◌-◌, ◌*◌, ◌^◌, [], ℕ, None, Some, List, Option, codes, drop, length, map, nat_eq, nat_lt, string_bytes, take, OnErr, OnOk, IfErr, IfOk, IfSome};
 ghost use Rattle.std.specs.List.{ends_with};
 ghost use Rattle.std.specs.Str.{IsCharBoundary};
 ghost use Rattle.starlark_words.specs.Inner.Reads.{AreReads, more_reads};
@@ -17,7 +17,7 @@ ghost use Rattle.starlark_grammar.specs.declared.class.LiteralKind.TheVariants a
 ghost use Rattle.starlark_reader.specs.Inner.Pending.{IsCommentIn, IsIdle, IsMark, IsPending, comment_lexeme, pending_lexemes};
 ghost use Rattle.starlark_reader.specs.Inner.MarginCuts.{IsCutBefore};
 ghost use Rattle.starlark_reader.specs.Inner.ReadBounds.{HasStarted, HasLooked, HasLookedHere, HasRead, HasReadAt, HasReadLast, IsMarginRead, IsPassed, IsPassedBy, IsTaken};
-ghost use Rattle.starlark_reader.specs.Inner.Reader.{CountsLineEnds, has_read_none, is_fault, IsAhead, IsAheadAfter, IsAheadPast, IsAtCode, IsBangHere, IsInCode, IsInFlatMargin, IsReached, IsStateAfter, IsStateAtFault, IsAtEnd, IsLast, IsPlainTextHere, IsRead, IsReady, IsSomething, IsTokenOf, IsWordHere, before_margin, before_view, begins_with_tab, fstring_text_lexeme, left_here, left_to_read, name_lexeme, newline_if, newline_of, silent_sort, step_here, text_lexeme};
+ghost use Rattle.starlark_reader.specs.Inner.Reader.{HasSomething, IsText, IsAtLineEnd, IsAtStep, IsLineEndStep, IsSound, KeepsAhead, PassesNext, Takes, TakesNext, CountsLineEnds, has_read_none, is_fault, IsAhead, IsAheadAfter, IsAheadPast, IsAtCode, IsBangHere, IsInCode, IsInFlatMargin, IsReached, IsStateAfter, IsStateAtFault, IsAtEnd, IsLast, IsPlainTextHere, IsRead, IsReady, IsSomething, IsTokenOf, IsWordHere, before_margin, before_view, begins_with_tab, fstring_text_lexeme, left_here, left_to_read, name_lexeme, newline_if, newline_of, silent_sort, step_here, text_lexeme};
 ghost use Rattle.starlark_reader.specs.Inner.PieceViews.{IsAfter, IsLineEnd};
 ghost use Rattle.starlark_grammar.specs.AfterFaults.{next_line};
 ghost use Rattle.starlark_grammar.specs.Cuts.{is_layout, is_settled};
@@ -47,8 +47,8 @@ use starlark_token::tokens::Token;
 use starlark_words::plain_body_len;
 use starlark_words::reads::ReadCounter;
 use starlark_words::scanner::{
-    LiteralKind, Quote, Terminal, Word, begins_plain_number, bytes_opener, comment_len,
-    fstring_opener, plain_number, single_digit, text_opener, word_after,
+    LiteralKind, Quote, Terminal, Word, bytes_opener, comment_len, fstring_opener, plain_number,
+    single_digit, text_opener, word_after,
 };
 use std::alloc::{AllocError, Global};
 use std::mem;
@@ -83,12 +83,13 @@ impl Before {
     }
 }
 
-/// The state of reading a text up to byte `at`. It stores the open brackets, f-strings and indents,
-/// the kind of the piece before, and the pending lexemes.
+/// A text, and the state of reading it up to byte `at`. It stores the open brackets, f-strings and
+/// indents, the kind of the piece before, and the pending lexemes.
 // What each lexeme changes comes first: an offset of less than 128 bytes takes one byte of an
 // instruction, not four (time -5 % of dense tokens).
 #[derive(Drop)]
-pub struct Reader {
+pub struct Reader<'a> {
+    text: &'a str,
     at: usize,
     reads: ReadCounter,
     before: Before,
@@ -124,15 +125,17 @@ fn before_margin(is_laid: bool) -> LineEnd
     }
 }
 
-impl Reader {
+impl<'a> Reader<'a> {
     /// A reader at the start of a text. It doesn't allocate.
-    pub fn new(alloc: Global) -> Self
-        ensures ahead { (text : Text) → IsAhead text result result.stage (map shown_lexeme (outcome text).lexemes) (outcome text).fault }
-        ensures reads { (text : Text) → HasRead text 0 result }
+    pub fn new(alloc: Global, text: &'a str) -> Self
+        ensures text { result.text.now ≡ text.now }
+        ensures ahead { (any : Text) → IsAhead any result result.stage (map shown_lexeme (outcome any).lexemes) (outcome any).fault }
+        ensures reads { (any : Text) → HasRead any 0 result }
         ensures unread { result.reads ≡ 0 }
     {
         Reader {
             alloc,
+            text,
             at: 0,
             nesting: Nesting::new(alloc),
             levels: IndentStack::new(alloc),
@@ -141,6 +144,35 @@ impl Reader {
             stage: Stage::Begin,
             reads: ReadCounter::new(),
         }
+    }
+
+    /// Moves the reader to another text. The offset and all that it stores stay.
+    ///
+    /// What is ahead is then what the other text has after the offset: the caller has to know that.
+    #[inline(always)]
+    pub fn over<'b>(self, text: &'b str) -> Reader<'b>
+        ensures text { result.text.now ≡ text.now }
+        ensures same { result ≡ record self.entry { text = result.text } }
+    {
+        Reader {
+            text,
+            at: self.at,
+            reads: self.reads,
+            before: self.before,
+            nesting: self.nesting,
+            levels: self.levels,
+            pending: self.pending,
+            stage: self.stage,
+            alloc: self.alloc,
+        }
+    }
+
+    /// The text.
+    #[inline(always)]
+    pub fn text(&self) -> &'a str
+        ensures { result.now ≡ self.now.text.now }
+    {
+        self.text
     }
 
     /// Number of reads of the text's bytes so far.
@@ -188,15 +220,16 @@ impl Reader {
     /// Reads the margin at the start of the text, or stops at its fault.
     // A call: else each call of `next` saves what the loops over the margin's lines need.
     #[inline(never)]
-    fn read_first_margin(&mut self, text: &str) -> Result<(), AllocError>
-        requires fits { length text.now < 2 ^ 32 }
-        requires ready { IsReady text.now self.old Stage.Begin }
-        requires idle { IsIdle text.now self.old.pending }
-        ensures ahead { OnOk result ((lexemes : List (Spanned TokenView)) (fault : Option (Spanned Fault)) → IsAhead text.now self.old Stage.Begin lexemes fault → IsAhead text.now self.new self.new.stage lexemes fault) }
-        ensures less { OnOk result (left_to_read text.now self.new self.new.stage < left_to_read text.now self.old Stage.Begin) }
-        ensures reads { OnOk result ((beside : ℕ) → HasReadAt text.now beside self.old Stage.Begin → HasRead text.now beside self.new) }
+    fn read_first_margin(&mut self) -> Result<(), AllocError>
+        requires text { IsText self.old.text.now }
+        requires ready { IsReady self.old.text.now self.old Stage.Begin }
+        requires idle { IsIdle self.old.text.now self.old.pending }
+        ensures text { self.new.text ≡ self.old.text }
+        ensures ahead { OnOk result ((lexemes : List (Spanned TokenView)) (fault : Option (Spanned Fault)) → IsAhead self.old.text.now self.old Stage.Begin lexemes fault → IsAhead self.old.text.now self.new self.new.stage lexemes fault) }
+        ensures less { OnOk result (left_to_read self.old.text.now self.new self.new.stage < left_to_read self.old.text.now self.old Stage.Begin) }
+        ensures reads { OnOk result ((beside : ℕ) → HasReadAt self.old.text.now beside self.old Stage.Begin → HasRead self.old.text.now beside self.new) }
     {
-        let margin = margin_of(&mut self.reads, text);
+        let margin = margin_of(&mut self.reads, self.text);
         if take_margin(&mut self.levels, &mut self.pending, 0, margin)? {
             self.stage = Stage::Onward;
             self.step_over(margin.at + margin.blanks.len, Before::Layout);
@@ -210,19 +243,15 @@ impl Reader {
     /// Takes the margin found after a newline of `len` bytes that counts. Returns `false`, and stops
     /// at the fault, where the margin has one. Its reads are counted before.
     #[inline(always)]
-    fn lay_margin(&mut self, text: &str, len: usize, margin: Margin) -> Result<bool, AllocError>
-        requires fits { length text.now < 2 ^ 32 }
-        requires stage { self.old.stage ≡ Stage.Onward }
-        requires stands { (history : History) × IsStateAfter text.now history self.old × (step_here text.now history self.old ≡ grammar.line_end len (open_widths history.widths) (drop len (drop self.old.at text.now))) }
-        requires cut { IsCharBoundary text.now (self.old.at + len) }
-        requires idle { IsIdle text.now self.old.pending }
-        requires margin { IsMargin (margin_of (drop (self.old.at + len) text.now)) margin }
-        requires within { self.old.at + len + (margin.at + margin.blanks.len) ≤ length text.now }
-        ensures read { IfOk result (λ is_laid. (history : History) → IsStateAfter text.now history self.old → step_here text.now history self.old ≡ grammar.line_end len (open_widths history.widths) (drop len (drop self.old.at text.now)) →
-            IsRead text.now (left_here text.now history self.old) (newline_if is_laid self.old.at len) self.new) }
-        ensures less { OnOk result (left_to_read text.now self.new self.new.stage < left_to_read text.now self.old Stage.Onward) }
-        ensures reads { OnOk result ((before : ℕ) → AreReads (margin.at + margin.blanks.len) (5 * margin.at + margin.blanks.len + 2) before self.old.reads → IsLineEnd len (drop self.old.at text.now) →
-            IsMarginRead text.now len (record self.old { reads = before }) self.new self.new.stage) }
+    fn lay_margin(&mut self, len: usize, margin: Margin) -> Result<bool, AllocError>
+        requires line_end { IsAtLineEnd self.old len }
+        requires margin { IsMargin (margin_of (drop (self.old.at + len) self.old.text.now)) margin }
+        requires within { self.old.at + len + (margin.at + margin.blanks.len) ≤ length self.old.text.now }
+        ensures text { self.new.text ≡ self.old.text }
+        ensures read { IfOk result (λ is_laid. Takes self.old (IsLineEndStep self.old len) (newline_if is_laid self.old.at len) self.new) }
+        ensures less { OnOk result (left_to_read self.old.text.now self.new self.new.stage < left_to_read self.old.text.now self.old Stage.Onward) }
+        ensures reads { OnOk result ((before : ℕ) → AreReads (margin.at + margin.blanks.len) (5 * margin.at + margin.blanks.len + 2) before self.old.reads → IsLineEnd len (drop self.old.at self.old.text.now) →
+            IsMarginRead self.old.text.now len (record self.old { reads = before }) self.new self.new.stage) }
     {
         let begin = self.at + len;
         if !take_margin(&mut self.levels, &mut self.pending, begin, margin)? {
@@ -239,64 +268,52 @@ impl Reader {
     /// stops at the fault, where the margin has one.
     // A call: so a newline before a plain margin saves no registers (8 % of blank lines).
     #[inline(never)]
-    fn lay_long_margin(&mut self, len: usize, text: &str) -> Result<bool, AllocError>
-        requires fits { length text.now < 2 ^ 32 }
-        requires stage { self.old.stage ≡ Stage.Onward }
-        requires stands { (history : History) × IsStateAfter text.now history self.old × (step_here text.now history self.old ≡ grammar.line_end len (open_widths history.widths) (drop len (drop self.old.at text.now))) }
-        requires cut { IsCharBoundary text.now (self.old.at + len) }
-        requires idle { IsIdle text.now self.old.pending }
-        ensures read { IfOk result (λ is_laid. (history : History) → IsStateAfter text.now history self.old → step_here text.now history self.old ≡ grammar.line_end len (open_widths history.widths) (drop len (drop self.old.at text.now)) →
-            IsRead text.now (left_here text.now history self.old) (newline_if is_laid self.old.at len) self.new) }
-        ensures less { OnOk result (left_to_read text.now self.new self.new.stage < left_to_read text.now self.old Stage.Onward) }
-        ensures reads { OnOk result (IsLineEnd len (drop self.old.at text.now) → IsMarginRead text.now len self.old self.new self.new.stage) }
+    fn lay_long_margin(&mut self, len: usize) -> Result<bool, AllocError>
+        requires { IsAtLineEnd self.old len }
+        ensures text { self.new.text ≡ self.old.text }
+        ensures read { IfOk result (λ is_laid. Takes self.old (IsLineEndStep self.old len) (newline_if is_laid self.old.at len) self.new) }
+        ensures less { OnOk result (left_to_read self.old.text.now self.new self.new.stage < left_to_read self.old.text.now self.old Stage.Onward) }
+        ensures reads { OnOk result (IsLineEnd len (drop self.old.at self.old.text.now) → IsMarginRead self.old.text.now len self.old self.new self.new.stage) }
     {
         let begin = self.at + len;
-        let margin = margin_of(&mut self.reads, &text[begin..]);
-        self.lay_margin(text, len, margin)
+        let margin = margin_of(&mut self.reads, &self.text[begin..]);
+        self.lay_margin(len, margin)
     }
 
     /// Reads a newline of `len` bytes that counts, and the margin of `width` spaces alone after it,
     /// which content follows. Returns `false`, and stops at the fault, where the margin has one.
     #[inline(never)]
-    fn change_width(&mut self, len: usize, text: &str, width: usize) -> Result<bool, AllocError>
-        requires fits { length text.now < 2 ^ 32 }
-        requires stage { self.old.stage ≡ Stage.Onward }
-        requires stands { (history : History) × IsStateAfter text.now history self.old × (step_here text.now history self.old ≡ grammar.line_end len (open_widths history.widths) (drop len (drop self.old.at text.now))) }
-        requires cut { IsCharBoundary text.now (self.old.at + len) }
-        requires idle { IsIdle text.now self.old.pending }
-        requires margin { IsMargin (margin_of (drop (self.old.at + len) text.now)) (spaces_margin width) }
-        requires within { self.old.at + len + width ≤ length text.now }
-        ensures read { IfOk result (λ is_laid. (history : History) → IsStateAfter text.now history self.old → step_here text.now history self.old ≡ grammar.line_end len (open_widths history.widths) (drop len (drop self.old.at text.now)) →
-            IsRead text.now (left_here text.now history self.old) (newline_if is_laid self.old.at len) self.new) }
-        ensures less { OnOk result (left_to_read text.now self.new self.new.stage < left_to_read text.now self.old Stage.Onward) }
-        ensures reads { OnOk result (IsLineEnd len (drop self.old.at text.now) → IsMarginRead text.now len self.old self.new self.new.stage) }
+    fn change_width(&mut self, len: usize, width: usize) -> Result<bool, AllocError>
+        requires line_end { IsAtLineEnd self.old len }
+        requires margin { IsMargin (margin_of (drop (self.old.at + len) self.old.text.now)) (spaces_margin width) }
+        requires within { self.old.at + len + width ≤ length self.old.text.now }
+        ensures text { self.new.text ≡ self.old.text }
+        ensures read { IfOk result (λ is_laid. Takes self.old (IsLineEndStep self.old len) (newline_if is_laid self.old.at len) self.new) }
+        ensures less { OnOk result (left_to_read self.old.text.now self.new self.new.stage < left_to_read self.old.text.now self.old Stage.Onward) }
+        ensures reads { OnOk result (IsLineEnd len (drop self.old.at self.old.text.now) → IsMarginRead self.old.text.now len self.old self.new self.new.stage) }
     {
         self.reads.count_run(width + 1);
-        self.lay_margin(text, len, Margin::of_spaces(width))
+        self.lay_margin(len, Margin::of_spaces(width))
     }
 
     /// Reads a newline of `len` bytes that counts, and the margin after it. Returns the outcome, and
     /// stops at the fault, where the margin has one.
     #[inline(always)]
-    fn lay_line_end(&mut self, text: &str, len: usize) -> Result<LineEnd, AllocError>
-        requires fits { length text.now < 2 ^ 32 }
-        requires stage { self.old.stage ≡ Stage.Onward }
-        requires stands { (history : History) × IsStateAfter text.now history self.old × (step_here text.now history self.old ≡ grammar.line_end len (open_widths history.widths) (drop len (drop self.old.at text.now))) }
-        requires cut { IsCharBoundary text.now (self.old.at + len) }
-        requires idle { IsIdle text.now self.old.pending }
-        ensures read { IfOk result (λ line_end. (history : History) → IsStateAfter text.now history self.old → step_here text.now history self.old ≡ grammar.line_end len (open_widths history.widths) (drop len (drop self.old.at text.now)) →
-            IsRead text.now (left_here text.now history self.old) (newline_of line_end self.old.at len) self.new) }
-        ensures less { OnOk result (left_to_read text.now self.new self.new.stage < left_to_read text.now self.old Stage.Onward) }
-        ensures reads { OnOk result (IsLineEnd len (drop self.old.at text.now) → IsMarginRead text.now len self.old self.new self.new.stage) }
+    fn lay_line_end(&mut self, len: usize) -> Result<LineEnd, AllocError>
+        requires { IsAtLineEnd self.old len }
+        ensures text { self.new.text ≡ self.old.text }
+        ensures read { IfOk result (λ line_end. Takes self.old (IsLineEndStep self.old len) (newline_of line_end self.old.at len) self.new) }
+        ensures less { OnOk result (left_to_read self.old.text.now self.new self.new.stage < left_to_read self.old.text.now self.old Stage.Onward) }
+        ensures reads { OnOk result (IsLineEnd len (drop self.old.at self.old.text.now) → IsMarginRead self.old.text.now len self.old self.new self.new.stage) }
         ensures counts { IfOk result (λ line_end. line_end ≢ LineEnd.Passed) }
         ensures onward { IfOk result (λ line_end. line_end ≡ LineEnd.Newline → (self.new.stage ≡ Stage.Onward) × (self.new.nesting ≡ self.old.nesting) × ((text : Text) → pending_lexemes text self.new.pending ≡ [])) }
     {
         let begin = self.at + len;
-        let Some(margin) = plain_margin(&text[begin..]) else {
-            return Ok(before_margin(self.lay_long_margin(len, text)?));
+        let Some(margin) = plain_margin(&self.text[begin..]) else {
+            return Ok(before_margin(self.lay_long_margin(len)?));
         };
         if !keeps_widths(&self.levels, margin) {
-            return Ok(before_margin(self.change_width(len, text, margin.blanks.width)?));
+            return Ok(before_margin(self.change_width(len, margin.blanks.width)?));
         }
         self.reads.count_run(margin.blanks.len + 1);
         keep_margin(&self.levels, &mut self.pending, begin, margin);
@@ -306,23 +323,15 @@ impl Reader {
 
     /// Reads a newline of `len` bytes that counts, and the margin after it. Returns its `Newline`;
     /// `None` where the margin has a fault.
-    fn read_line_end(
-        &mut self,
-        text: &str,
-        len: usize,
-    ) -> Result<Option<(usize, Token, usize)>, AllocError>
-        requires fits { length text.now < 2 ^ 32 }
-        requires stage { self.old.stage ≡ Stage.Onward }
-        requires stands { (history : History) × IsStateAfter text.now history self.old × (step_here text.now history self.old ≡ grammar.line_end len (open_widths history.widths) (drop len (drop self.old.at text.now))) }
-        requires cut { IsCharBoundary text.now (self.old.at + len) }
-        requires idle { IsIdle text.now self.old.pending }
-        ensures read { IfOk result (λ given. (history : History) → IsStateAfter text.now history self.old → step_here text.now history self.old ≡ grammar.line_end len (open_widths history.widths) (drop len (drop self.old.at text.now)) →
-            IsRead text.now (left_here text.now history self.old) given self.new) }
-        ensures less { OnOk result (left_to_read text.now self.new self.new.stage < left_to_read text.now self.old Stage.Onward) }
-        ensures reads { OnOk result (IsLineEnd len (drop self.old.at text.now) → IsMarginRead text.now len self.old self.new self.new.stage) }
+    fn read_line_end(&mut self, len: usize) -> Result<Option<(usize, Token, usize)>, AllocError>
+        requires { IsAtLineEnd self.old len }
+        ensures text { self.new.text ≡ self.old.text }
+        ensures read { IfOk result (λ given. Takes self.old (IsLineEndStep self.old len) given self.new) }
+        ensures less { OnOk result (left_to_read self.old.text.now self.new self.new.stage < left_to_read self.old.text.now self.old Stage.Onward) }
+        ensures reads { OnOk result (IsLineEnd len (drop self.old.at self.old.text.now) → IsMarginRead self.old.text.now len self.old self.new self.new.stage) }
     {
         let begin = self.at;
-        match self.lay_line_end(text, len)? {
+        match self.lay_line_end(len)? {
             LineEnd::Fault => Ok(None),
             _ => Ok(Some((begin, Token::Newline, begin + len))),
         }
@@ -333,15 +342,11 @@ impl Reader {
         &mut self,
         opening: Opening,
         len: usize,
-        text: &str,
     ) -> Result<(usize, Token, usize), AllocError>
-        requires fits { length text.now < 2 ^ 32 }
-        requires stage { self.old.stage ≡ Stage.Onward }
-        requires stands { (history : History) × IsStateAfter text.now history self.old × (step_here text.now history self.old ≡ grammar.token len (FStringStart (opening_view opening))) }
-        requires idle { IsIdle text.now self.old.pending }
-        ensures read { IfOk result (λ given. (history : History) → IsStateAfter text.now history self.old → step_here text.now history self.old ≡ grammar.token len (FStringStart (opening_view opening)) →
-            IsRead text.now (left_here text.now history self.old) (Some given) self.new) }
-        ensures less { OnOk result (left_to_read text.now self.new self.new.stage < left_to_read text.now self.old Stage.Onward) }
+        requires { IsAtStep self.old (λ history step. step ≡ grammar.token len (FStringStart (opening_view opening))) }
+        ensures text { self.new.text ≡ self.old.text }
+        ensures read { IfOk result (λ given. Takes self.old (λ history step. step ≡ grammar.token len (FStringStart (opening_view opening))) (Some given) self.new) }
+        ensures less { OnOk result (left_to_read self.old.text.now self.new self.new.stage < left_to_read self.old.text.now self.old Stage.Onward) }
         ensures passed { OnOk result (IsPassedBy (self.old.at + len) self.old self.new × (self.new.stage ≡ Stage.Onward)) }
     {
         let begin = self.at;
@@ -352,16 +357,13 @@ impl Reader {
 
     /// Advances past a token of `len` bytes that begins no f-string.
     #[inline(always)]
-    fn pass_token(&mut self, token: &Token, len: usize, text: &str)
-        requires fits { length text.now < 2 ^ 32 }
-        requires stage { self.old.stage ≡ Stage.Onward }
-        requires stands { (history : History) × IsStateAfter text.now history self.old × IsStep (step_here text.now history self.old) (Step.Token token.now len) }
-        requires idle { IsIdle text.now self.old.pending }
-        ensures read { (history : History) → IsStateAfter text.now history self.old → IsStep (step_here text.now history self.old) (Step.Token token.now len) →
-            IsRead text.now (left_here text.now history self.old) (Some (self.old.at, token.now, self.old.at + len)) self.new }
-        ensures less { left_to_read text.now self.new self.new.stage < left_to_read text.now self.old Stage.Onward }
+    fn pass_token(&mut self, token: &Token, len: usize)
+        requires { IsAtStep self.old (λ history found. IsStep found (Step.Token token.now len)) }
+        ensures text { self.new.text ≡ self.old.text }
+        ensures read { Takes self.old (λ history found. IsStep found (Step.Token token.now len)) (Some (self.old.at, token.now, self.old.at + len)) self.new }
+        ensures less { left_to_read self.old.text.now self.new self.new.stage < left_to_read self.old.text.now self.old Stage.Onward }
         ensures taken { IsTaken len self.old self.new }
-        ensures onward { IsInCode self.new → IsAtCode text.now self.new }
+        ensures onward { IsInCode self.new → IsAtCode self.old.text.now self.new }
         ensures stays { change_by (token_view token.now) ≡ change.Nothing → IsInCode self.old → IsInCode self.new }
     {
         self.nesting.pass(token);
@@ -369,18 +371,15 @@ impl Reader {
     }
 
     /// Takes a token of `len` bytes that begins no f-string, and returns it with its span.
-    fn take_token(&mut self, token: Token, len: usize, text: &str) -> (usize, Token, usize)
-        requires fits { length text.now < 2 ^ 32 }
-        requires stage { self.old.stage ≡ Stage.Onward }
-        requires stands { (history : History) × IsStateAfter text.now history self.old × IsStep (step_here text.now history self.old) (Step.Token token len) }
-        requires idle { IsIdle text.now self.old.pending }
-        ensures read { (history : History) → IsStateAfter text.now history self.old → IsStep (step_here text.now history self.old) (Step.Token token len) →
-            IsRead text.now (left_here text.now history self.old) (Some result) self.new }
-        ensures less { left_to_read text.now self.new self.new.stage < left_to_read text.now self.old Stage.Onward }
+    fn take_token(&mut self, token: Token, len: usize) -> (usize, Token, usize)
+        requires { IsAtStep self.old (λ history found. IsStep found (Step.Token token len)) }
+        ensures text { self.new.text ≡ self.old.text }
+        ensures read { Takes self.old (λ history found. IsStep found (Step.Token token len)) (Some result) self.new }
+        ensures less { left_to_read self.old.text.now self.new self.new.stage < left_to_read self.old.text.now self.old Stage.Onward }
         ensures passed { IsPassedBy (self.old.at + len) self.old self.new × (self.new.stage ≡ Stage.Onward) }
     {
         let begin = self.at;
-        self.pass_token(&token, len, text);
+        self.pass_token(&token, len);
         (begin, token, begin + len)
     }
 
@@ -394,15 +393,11 @@ impl Reader {
         chunk_len: usize,
         stop: TextEnd,
         len: usize,
-        text: &str,
     ) -> (usize, Token, usize)
-        requires fits { length text.now < 2 ^ 32 }
-        requires stage { self.old.stage ≡ Stage.Onward }
-        requires stands { (history : History) × IsStateAfter text.now history self.old × IsStep (step_here text.now history self.old) (Step.Text chunk chunk_len stop len) }
-        requires idle { IsIdle text.now self.old.pending }
-        ensures read { (history : History) → IsStateAfter text.now history self.old → IsStep (step_here text.now history self.old) (Step.Text chunk chunk_len stop len) →
-            IsRead text.now (left_here text.now history self.old) (Some result) self.new }
-        ensures less { left_to_read text.now self.new self.new.stage < left_to_read text.now self.old Stage.Onward }
+        requires { IsAtStep self.old (λ history found. IsStep found (Step.Text chunk chunk_len stop len)) }
+        ensures text { self.new.text ≡ self.old.text }
+        ensures read { Takes self.old (λ history found. IsStep found (Step.Text chunk chunk_len stop len)) (Some result) self.new }
+        ensures less { left_to_read self.old.text.now self.new self.new.stage < left_to_read self.old.text.now self.old Stage.Onward }
         ensures passed { IsPassedBy (self.old.at + (chunk_len + len)) self.old self.new × (self.new.stage ≡ Stage.Onward) }
     {
         let begin = self.at;
@@ -423,24 +418,21 @@ impl Reader {
 
     /// Takes a step, and returns its first token. Stops at a fault, and returns `None`.
     #[inline(always)]
-    fn take(&mut self, step: Step, text: &str) -> Option<(usize, Token, usize)>
-        requires fits { length text.now < 2 ^ 32 }
-        requires stage { self.old.stage ≡ Stage.Onward }
-        requires stands { (history : History) × IsStateAfter text.now history self.old × IsStep (step_here text.now history self.old) step }
-        requires idle { IsIdle text.now self.old.pending }
-        ensures read { (history : History) → IsStateAfter text.now history self.old → IsStep (step_here text.now history self.old) step →
-            IsRead text.now (left_here text.now history self.old) result self.new }
-        ensures less { left_to_read text.now self.new self.new.stage < left_to_read text.now self.old Stage.Onward }
+    fn take(&mut self, step: Step) -> Option<(usize, Token, usize)>
+        requires { IsAtStep self.old (λ history found. IsStep found step) }
+        ensures text { self.new.text ≡ self.old.text }
+        ensures read { Takes self.old (λ history found. IsStep found step) result self.new }
+        ensures less { left_to_read self.old.text.now self.new self.new.stage < left_to_read self.old.text.now self.old Stage.Onward }
         ensures passed { IsPassed self.old step self.new }
     {
         match step {
-            Step::Token { token, len } => Some(self.take_token(token, len, text)),
+            Step::Token { token, len } => Some(self.take_token(token, len)),
             Step::Text {
                 text: chunk,
                 text_len,
                 stop,
                 len,
-            } => Some(self.take_chunk(chunk, text_len, stop, len, text)),
+            } => Some(self.take_chunk(chunk, text_len, stop, len)),
             Step::Fault { begin, fault, end } => {
                 self.refuse(begin, fault, end);
                 None
@@ -462,24 +454,22 @@ impl Reader {
         matches!(self.before, Before::Layout)
     }
 
-    /// Whether the offset is right after a margin, with no bracket, f-string or indent open.
+    /// Whether the text, which was read to its end, is a clean cut. A read of its last byte is counted.
     #[tactic(auto, unfolding(starlark_grammar::specs::Cuts::is_settled))]
-    pub fn is_settled(&self) -> bool
-        ensures { (text : Text) (history : History) → IsStateAfter text history self.now → result ≡ is_settled history }
+    pub fn is_clean_cut(&mut self) -> bool
+        ensures value { (history : History) → IsStateAfter self.old.text.now history self.old → result ≡ (is_settled history && ends_with nat_eq self.old.text.now (codes "\n")) }
+        ensures least { self.old.reads < 2 ^ 64 - 1 → self.old.reads ≤ self.new.reads }
+        ensures most { self.new.reads ≤ self.old.reads + 1 }
     {
-        self.follows_margin()
+        let is_settled = self.follows_margin()
             && is_outside(self.nesting.mode())
             && self.nesting.is_balanced()
-            && self.levels.len() == 0
-    }
-
-    /// Whether the text ends with an LF. It counts one read.
-    pub fn ends_with_lf(&mut self, text: &str) -> bool
-        ensures value { result ≡ ends_with nat_eq text.now (codes "\n") }
-        ensures reads { self.new ≡ record self.old { reads = more_reads self.old.reads 1 } }
-    {
+            && self.levels.len() == 0;
+        if !is_settled {
+            return false;
+        }
         self.reads.count_run(0);
-        text.as_bytes().ends_with(b"\n")
+        self.text.as_bytes().ends_with(b"\n")
     }
 
     /// Counts `len + 1` reads of other bytes if those so far leave room for them. Returns whether they
@@ -527,12 +517,12 @@ impl Reader {
     /// The offset where the text may be cut, if the lexemes yielded so far are those before it. It
     /// is after a newline or a comment-only line, in a margin with no indent open before it. Each
     /// such offset before the end of the text is found right after the last lexeme before it.
-    pub fn cut(&self, text: &str) -> Option<usize>
-        ensures kept { IfSome result (λ at. (lexemes : List (Spanned TokenView)) (fault : Option (Spanned Fault)) → IsAhead text.now self.now self.now.stage lexemes fault → IsCutBefore text.now at (length lexemes)) }
-        ensures reached { (at : ℕ) → IsReached self.now at → 0 < at → at < length text.now → result ≡ Some at }
+    pub fn cut(&self) -> Option<usize>
+        ensures kept { IfSome result (λ at. (lexemes : List (Spanned TokenView)) (fault : Option (Spanned Fault)) → IsAhead self.now.text.now self.now self.now.stage lexemes fault → IsCutBefore self.now.text.now at (length lexemes)) }
+        ensures reached { (at : ℕ) → IsReached self.now at → 0 < at → at < length self.now.text.now → result ≡ Some at }
     {
         let at = self.pending.from;
-        if self.is_in_flat_margin() && 0 < at && at < text.len() {
+        if self.is_in_flat_margin() && 0 < at && at < self.text.len() {
             Some(at)
         } else {
             None
@@ -541,9 +531,10 @@ impl Reader {
 
     /// Closes a text without fault at its end. Returns a `Newline` of no bytes. A `Dedent` for each
     /// open indent becomes pending.
-    fn close(&mut self, text: &str) -> (usize, Token, usize)
-        ensures read { (history : History) → IsStateAfter text.now history self.old → step_here text.now history self.old ≡ grammar.Ends → IsRead text.now (left_here text.now history self.old) (Some result) self.new }
-        ensures less { left_to_read text.now self.new self.new.stage < left_to_read text.now self.old Stage.Onward }
+    fn close(&mut self) -> (usize, Token, usize)
+        ensures text { self.new.text ≡ self.old.text }
+        ensures read { (history : History) → IsStateAfter self.old.text.now history self.old → step_here self.old.text.now history self.old ≡ grammar.Ends → IsRead self.old.text.now (left_here self.old.text.now history self.old) (Some result) self.new }
+        ensures less { left_to_read self.old.text.now self.new self.new.stage < left_to_read self.old.text.now self.old Stage.Onward }
         ensures passed { IsPassedBy self.old.at self.old self.new × (self.new.stage ≡ Stage.Closed) }
     {
         self.pending = Pending::only(AfterComments::Dedents {
@@ -556,18 +547,19 @@ impl Reader {
 
     /// Reads the piece at the offset, where no lexeme is pending. Returns its first lexeme; `None`
     /// if it has none.
-    fn read_piece(&mut self, text: &str) -> Result<Option<(usize, Token, usize)>, AllocError>
-        requires fits { length text.now < 2 ^ 32 }
+    fn read_piece(&mut self) -> Result<Option<(usize, Token, usize)>, AllocError>
+        requires text { IsText self.old.text.now }
         requires stage { self.old.stage ≡ Stage.Onward }
-        requires ready { IsReady text.now self.old Stage.Onward }
-        requires idle { IsIdle text.now self.old.pending }
-        ensures ahead { IfOk result (λ given. (lexemes : List (Spanned TokenView)) (fault : Option (Spanned Fault)) → IsAhead text.now self.old Stage.Onward lexemes fault → IsAheadAfter text.now given self.new lexemes fault) }
-        ensures less { OnOk result (left_to_read text.now self.new self.new.stage < left_to_read text.now self.old Stage.Onward) }
-        ensures reads { OnOk result ((beside : ℕ) → HasReadAt text.now beside self.old Stage.Onward → HasRead text.now beside self.new) }
+        requires ready { IsReady self.old.text.now self.old Stage.Onward }
+        requires idle { IsIdle self.old.text.now self.old.pending }
+        ensures text { self.new.text ≡ self.old.text }
+        ensures ahead { IfOk result (λ given. (lexemes : List (Spanned TokenView)) (fault : Option (Spanned Fault)) → IsAhead self.old.text.now self.old Stage.Onward lexemes fault → IsAheadAfter self.old.text.now given self.new lexemes fault) }
+        ensures less { OnOk result (left_to_read self.old.text.now self.new self.new.stage < left_to_read self.old.text.now self.old Stage.Onward) }
+        ensures reads { OnOk result ((beside : ℕ) → HasReadAt self.old.text.now beside self.old Stage.Onward → HasRead self.old.text.now beside self.new) }
     {
         let mode = self.nesting.mode();
         let is_balanced = self.nesting.is_balanced();
-        let rest = &text[self.at..];
+        let rest = &self.text[self.at..];
         let follows_gap = self.follows_gap();
         let reads = &mut self.reads;
         let piece = piece_at(reads, self.alloc, mode, is_balanced, follows_gap, rest)?;
@@ -576,10 +568,10 @@ impl Reader {
                 self.step_over(len, Before::silent(is_gap));
                 Ok(None)
             }
-            Piece::LineEnd { len } => self.read_line_end(text, len),
-            Piece::FString { opening, len } => Ok(Some(self.begin_fstring(opening, len, text)?)),
-            Piece::Lexed(step) => Ok(self.take(step, text)),
-            Piece::End => Ok(Some(self.close(text))),
+            Piece::LineEnd { len } => self.read_line_end(len),
+            Piece::FString { opening, len } => Ok(Some(self.begin_fstring(opening, len)?)),
+            Piece::Lexed(step) => Ok(self.take(step)),
+            Piece::End => Ok(Some(self.close())),
         }
     }
 
@@ -590,6 +582,7 @@ impl Reader {
     /// most ten for each byte before that offset, and ten more, beside failed lookahead. At the fault
     /// of a first margin they are at most sixteen each.
     pub fn take_fault(&mut self) -> Option<(usize, LexemeError, usize)>
+        ensures text { self.new.text ≡ self.old.text }
         ensures last { (text : Text) (lexemes : List (Spanned TokenView)) (fault : Option (Spanned Fault)) → IsAtEnd text self.old → IsAhead text self.old self.old.stage lexemes fault → IsLast text lexemes fault result self.new }
         ensures reads { (text : Text) (beside : ℕ) → IsAtEnd text self.old → HasRead text beside self.old → HasReadLast text beside result self.new }
     {
@@ -660,16 +653,17 @@ impl Reader {
 
     /// Passes the spaces at the offset, in code. Returns their number, and counts no reads.
     #[inline(always)]
-    fn pass_spaces(&mut self, text: &str) -> usize
-        requires fits { length text.now < 2 ^ 32 }
-        requires code { IsAtCode text.now self.old }
-        requires ready { IsReady text.now self.old Stage.Onward }
-        ensures ahead { (lexemes : List (Spanned TokenView)) (fault : Option (Spanned Fault)) → IsAhead text.now self.old Stage.Onward lexemes fault → IsAhead text.now self.new Stage.Onward lexemes fault }
+    fn pass_spaces(&mut self) -> usize
+        requires text { IsText self.old.text.now }
+        requires code { IsAtCode self.old.text.now self.old }
+        requires ready { IsReady self.old.text.now self.old Stage.Onward }
+        ensures text { self.new.text ≡ self.old.text }
+        ensures ahead { (lexemes : List (Spanned TokenView)) (fault : Option (Spanned Fault)) → IsAhead self.old.text.now self.old Stage.Onward lexemes fault → IsAhead self.old.text.now self.new Stage.Onward lexemes fault }
         ensures same { (self.new.nesting ≡ self.old.nesting) × (self.new.pending ≡ self.old.pending) × (self.new.stage ≡ Stage.Onward) × (self.new.reads ≡ self.old.reads) }
         ensures onward { self.new.at ≡ self.old.at + result }
         ensures few { result < 2 ^ 32 }
     {
-        let gap = gap_len(&text[self.at..]);
+        let gap = gap_len(&self.text[self.at..]);
         if gap > 0 {
             self.step_over(gap, Before::Gap);
         }
@@ -680,142 +674,138 @@ impl Reader {
     /// name, a symbol, an LF, or a quote. The spaces before it are passed. For offsets
     /// in code.
     #[inline(always)]
-    pub fn common_word(&mut self, text: &str) -> Option<Word>
-        requires fits { length text.now < 2 ^ 32 }
-        requires ready { IsReady text.now self.old self.old.stage }
-        requires code { IsAtCode text.now self.old }
-        ensures ahead { (lexemes : List (Spanned TokenView)) (fault : Option (Spanned Fault)) → IsAhead text.now self.old self.old.stage lexemes fault → IsAhead text.now self.new self.new.stage lexemes fault }
-        ensures onward { left_to_read text.now self.new self.new.stage ≤ left_to_read text.now self.old self.old.stage }
-        ensures code { IsAtCode text.now self.new }
-        ensures stands { IfSome result (λ word. IsWordHere text.now self.new word) }
+    pub fn common_word(&mut self) -> Option<Word>
+        requires sound { IsSound self.old }
+        requires code { IsAtCode self.old.text.now self.old }
+        ensures text { self.new.text ≡ self.old.text }
+        ensures sound { IsSound self.new }
+        ensures ahead { KeepsAhead self.old self.new }
+        ensures onward { left_to_read self.old.text.now self.new self.new.stage ≤ left_to_read self.old.text.now self.old self.old.stage }
+        ensures code { IsAtCode self.new.text.now self.new }
+        ensures stands { IfSome result (λ word. IsWordHere self.new.text.now self.new word) }
         ensures lookahead { HasLooked (word_len result) ((5 * word_len result - 4) + 3) self.old self.new }
     {
-        let gap = self.pass_spaces(text);
-        word_after(&mut self.reads, gap, &text[self.at..])
+        let gap = self.pass_spaces();
+        word_after(&mut self.reads, gap, &self.text[self.at..])
     }
 
     /// The first three bytes from the offset on, or all that are left.
+    #[tactic(auto, using(crate::proofs::TakenPieces::ReaderReads::reads_ahead, crate::proofs::TakenPieces::SameTexts::looked_sound))]
     #[inline(always)]
-    pub fn front<'a>(&mut self, text: &'a str) -> &'a [u8]
-        requires fits { length text.now < 2 ^ 32 }
-        requires ready { IsReady text.now self.old self.old.stage }
-        requires code { IsAtCode text.now self.old }
-        ensures ahead { (lexemes : List (Spanned TokenView)) (fault : Option (Spanned Fault)) → IsAhead text.now self.old self.old.stage lexemes fault → IsAhead text.now self.new self.new.stage lexemes fault }
-        ensures onward { left_to_read text.now self.new self.new.stage ≤ left_to_read text.now self.old self.old.stage }
-        ensures code { IsAtCode text.now self.new }
-        ensures bytes { result.now ≡ take 3 (drop self.new.at text.now) }
+    pub fn front(&mut self) -> &'a [u8]
+        requires sound { IsSound self.old }
+        requires code { IsAtCode self.old.text.now self.old }
+        ensures text { self.new.text ≡ self.old.text }
+        ensures sound { IsSound self.new }
+        ensures ahead { KeepsAhead self.old self.new }
+        ensures onward { left_to_read self.old.text.now self.new self.new.stage ≤ left_to_read self.old.text.now self.old self.old.stage }
+        ensures code { IsAtCode self.new.text.now self.new }
+        ensures bytes { result.now ≡ take 3 (drop self.new.at self.new.text.now) }
         ensures lookahead { HasLookedHere 3 3 self.old self.new }
     {
-        self.reads.front(text[self.at..].as_bytes(), 3)
+        self.reads.front(self.text[self.at..].as_bytes(), 3)
     }
 
     /// The value of the integer that comes next if it has one digit, and the byte after it tells so;
     /// `None` if something else comes. For offsets in code, after spaces.
     #[inline(always)]
-    pub fn single_digit(&self, front: &[u8], text: &str) -> Option<u8>
-        requires fits { length text.now < 2 ^ 32 }
-        requires ready { IsReady text.now self.now self.now.stage }
-        requires code { IsAtCode text.now self.now }
-        requires front { front.now ≡ take 3 (drop self.now.at text.now) }
-        ensures stands { IfSome result (λ digit. IsWordHere text.now self.now (record { class = class.Decimal; len = 1 })) }
-        ensures digit { IfSome result (λ digit. IsDigitAt digit (drop self.now.at text.now)) }
+    pub fn single_digit(&self, front: &[u8]) -> Option<u8>
+        requires sound { IsSound self.now }
+        requires code { IsAtCode self.now.text.now self.now }
+        requires front { front.now ≡ take 3 (drop self.now.at self.now.text.now) }
+        ensures stands { IfSome result (λ digit. IsWordHere self.now.text.now self.now (record { class = class.Decimal; len = 1 })) }
+        ensures digit { IfSome result (λ digit. IsDigitAt digit (drop self.now.at self.now.text.now)) }
     {
-        single_digit(front, &text[self.at..])
-    }
-
-    /// Whether a number comes next that begins with a digit and isn't a 0 before more digits. For
-    /// offsets in code, after spaces.
-    #[inline(always)]
-    pub fn number_stands(&self, front: &[u8], text: &str) -> bool
-        requires front { front.now ≡ take 3 (drop self.now.at text.now) }
-        ensures { result ≡ begins_plain_number (drop self.now.at text.now) }
-    {
-        begins_plain_number(front)
+        single_digit(front, &self.text[self.at..])
     }
 
     /// The number that comes next, which begins with a digit.
+    #[tactic(auto, using(crate::proofs::TakenPieces::ReaderReads::reads_ahead, crate::proofs::TakenPieces::SameTexts::looked_sound))]
     #[inline(always)]
-    pub fn number(&mut self, front: &[u8], text: &str) -> Word
-        requires fits { length text.now < 2 ^ 32 }
-        requires ready { IsReady text.now self.old self.old.stage }
-        requires code { IsAtCode text.now self.old }
-        requires front { front.now ≡ take 3 (drop self.old.at text.now) }
-        requires number { begins_plain_number (drop self.old.at text.now) ≡ true }
-        ensures ahead { (lexemes : List (Spanned TokenView)) (fault : Option (Spanned Fault)) → IsAhead text.now self.old self.old.stage lexemes fault → IsAhead text.now self.new self.new.stage lexemes fault }
-        ensures stands { IsWordHere text.now self.new result }
+    pub fn number(&mut self, front: &[u8]) -> Word
+        requires sound { IsSound self.old }
+        requires code { IsAtCode self.old.text.now self.old }
+        requires front { front.now ≡ take 3 (drop self.old.at self.old.text.now) }
+        requires number { begins_plain_number (drop self.old.at self.old.text.now) ≡ true }
+        ensures text { self.new.text ≡ self.old.text }
+        ensures sound { IsSound self.new }
+        ensures ahead { KeepsAhead self.old self.new }
+        ensures stands { IsWordHere self.new.text.now self.new result }
         ensures class { is_number result.class ≡ true }
         ensures lookahead { HasLookedHere (result.len - 2) (5 * result.len) self.old self.new }
     {
-        plain_number(&mut self.reads, front, &text[self.at..])
+        plain_number(&mut self.reads, front, &self.text[self.at..])
     }
 
     /// The opener of the string literal that comes next; `None` if something else comes. For
     /// offsets in code, after spaces.
+    #[tactic(auto, using(crate::proofs::TakenPieces::ReaderReads::reads_ahead, crate::proofs::TakenPieces::SameTexts::looked_sound))]
     #[inline(always)]
-    pub fn text_opener(&mut self, text: &str) -> Option<Word>
-        requires fits { length text.now < 2 ^ 32 }
-        requires ready { IsReady text.now self.old self.old.stage }
-        requires code { IsAtCode text.now self.old }
-        ensures ahead { (lexemes : List (Spanned TokenView)) (fault : Option (Spanned Fault)) → IsAhead text.now self.old self.old.stage lexemes fault → IsAhead text.now self.new self.new.stage lexemes fault }
-        ensures onward { left_to_read text.now self.new self.new.stage ≤ left_to_read text.now self.old self.old.stage }
-        ensures code { IsAtCode text.now self.new }
-        ensures stands { IfSome result (IsWordHere text.now self.new) }
+    pub fn text_opener(&mut self) -> Option<Word>
+        requires sound { IsSound self.old }
+        requires code { IsAtCode self.old.text.now self.old }
+        ensures text { self.new.text ≡ self.old.text }
+        ensures sound { IsSound self.new }
+        ensures ahead { KeepsAhead self.old self.new }
+        ensures onward { left_to_read self.old.text.now self.new self.new.stage ≤ left_to_read self.old.text.now self.old self.old.stage }
+        ensures code { IsAtCode self.new.text.now self.new }
+        ensures stands { IfSome result (IsWordHere self.new.text.now self.new) }
         ensures lookahead { HasLookedHere 2 2 self.old self.new }
     {
-        text_opener(&mut self.reads, &text[self.at..])
+        text_opener(&mut self.reads, &self.text[self.at..])
     }
 
     /// The quote of the f-string that comes next if its opener is an `f` and that quote. For
     /// offsets in code, after spaces.
     #[inline(always)]
-    pub fn fstring_opener(&self, front: &[u8], text: &str) -> Option<Quote>
-        requires fits { length text.now < 2 ^ 32 }
-        requires ready { IsReady text.now self.now self.now.stage }
-        requires code { IsAtCode text.now self.now }
-        requires front { front.now ≡ take 3 (drop self.now.at text.now) }
-        ensures stands { IfSome result (λ quote. IsWordHere text.now self.now (record { class = class.Opener kind.FString false quote; len = 2 })) }
+    pub fn fstring_opener(&self, front: &[u8]) -> Option<Quote>
+        requires sound { IsSound self.now }
+        requires code { IsAtCode self.now.text.now self.now }
+        requires front { front.now ≡ take 3 (drop self.now.at self.now.text.now) }
+        ensures stands { IfSome result (λ quote. IsWordHere self.now.text.now self.now (record { class = class.Opener kind.FString false quote; len = 2 })) }
     {
-        fstring_opener(front, &text[self.at..])
+        fstring_opener(front, &self.text[self.at..])
     }
 
     /// The quote of the bytes literal that comes next if its opener is a `b` and that quote. For
     /// offsets in code, after spaces.
     #[inline(always)]
-    pub fn bytes_opener(&self, front: &[u8], text: &str) -> Option<Quote>
-        requires fits { length text.now < 2 ^ 32 }
-        requires ready { IsReady text.now self.now self.now.stage }
-        requires code { IsAtCode text.now self.now }
-        requires front { front.now ≡ take 3 (drop self.now.at text.now) }
-        ensures stands { IfSome result (λ quote. IsWordHere text.now self.now (record { class = class.Opener kind.Bytes false quote; len = 2 })) }
+    pub fn bytes_opener(&self, front: &[u8]) -> Option<Quote>
+        requires sound { IsSound self.now }
+        requires code { IsAtCode self.now.text.now self.now }
+        requires front { front.now ≡ take 3 (drop self.now.at self.now.text.now) }
+        ensures stands { IfSome result (λ quote. IsWordHere self.now.text.now self.now (record { class = class.Opener kind.Bytes false quote; len = 2 })) }
     {
-        bytes_opener(front, &text[self.at..])
+        bytes_opener(front, &self.text[self.at..])
     }
 
     /// Whether the bang of an f-string expression comes next. For offsets in code.
     #[inline(always)]
-    pub fn bang_stands(&self, front: &[u8], text: &str) -> bool
-        requires code { IsAtCode text.now self.now }
-        requires front { front.now ≡ take 3 (drop self.now.at text.now) }
-        ensures stands { result ≡ true → IsBangHere text.now self.now }
+    pub fn bang_stands(&self, front: &[u8]) -> bool
+        requires code { IsAtCode self.now.text.now self.now }
+        requires front { front.now ≡ take 3 (drop self.now.at self.now.text.now) }
+        ensures stands { result ≡ true → IsBangHere self.now.text.now self.now }
     {
         bang_stands(self.nesting.mode(), self.follows_gap(), front)
     }
 
     /// Length in bytes of the comment that comes next; `None` if something else comes. For offsets
     /// in code, after spaces.
+    #[tactic(auto, using(crate::proofs::TakenPieces::ReaderReads::reads_ahead, crate::proofs::TakenPieces::SameTexts::looked_sound))]
     #[inline(always)]
-    pub fn comment_len(&mut self, front: &[u8], text: &str) -> Option<usize>
-        requires fits { length text.now < 2 ^ 32 }
-        requires ready { IsReady text.now self.old self.old.stage }
-        requires code { IsAtCode text.now self.old }
-        requires front { front.now ≡ take 3 (drop self.old.at text.now) }
-        ensures ahead { (lexemes : List (Spanned TokenView)) (fault : Option (Spanned Fault)) → IsAhead text.now self.old self.old.stage lexemes fault → IsAhead text.now self.new self.new.stage lexemes fault }
-        ensures code { IsAtCode text.now self.new }
-        ensures stands { IfSome result (λ len. IsWordHere text.now self.new (record { class = class.Comment; len = len })) }
+    pub fn comment_len(&mut self, front: &[u8]) -> Option<usize>
+        requires sound { IsSound self.old }
+        requires code { IsAtCode self.old.text.now self.old }
+        requires front { front.now ≡ take 3 (drop self.old.at self.old.text.now) }
+        ensures text { self.new.text ≡ self.old.text }
+        ensures sound { IsSound self.new }
+        ensures ahead { KeepsAhead self.old self.new }
+        ensures code { IsAtCode self.new.text.now self.new }
+        ensures stands { IfSome result (λ len. IsWordHere self.new.text.now self.new (record { class = class.Comment; len = len })) }
         ensures lookahead { IfSome result (λ len. HasLookedHere len (5 * len + 2) self.old self.new) }
         ensures none { result ≡ None → HasLookedHere 0 0 self.old self.new }
     {
-        comment_len(&mut self.reads, front, &text[self.at..])
+        comment_len(&mut self.reads, front, &self.text[self.at..])
     }
 
     /// The offset up to which the text is read, in bytes.
@@ -828,15 +818,15 @@ impl Reader {
 
     /// Passes the newline of `len` bytes here if it doesn't count. Returns whether it was passed.
     #[inline(always)]
-    fn pass_line_end(&mut self, len: usize, text: &str) -> bool
-        requires fits { length text.now < 2 ^ 32 }
-        requires ready { IsReady text.now self.old self.old.stage }
-        requires stands { IsWordHere text.now self.old (record { class = class.LineEnd; len = len }) }
-        ensures ahead { (lexemes : List (Spanned TokenView)) (fault : Option (Spanned Fault)) → IsAhead text.now self.old self.old.stage lexemes fault → IsAhead text.now self.new self.new.stage lexemes fault }
-        ensures less { result ≡ true → left_to_read text.now self.new self.new.stage < left_to_read text.now self.old self.old.stage }
+    fn pass_line_end(&mut self, len: usize) -> bool
+        requires sound { IsSound self.old }
+        requires stands { IsWordHere self.old.text.now self.old (record { class = class.LineEnd; len = len }) }
+        ensures text { self.new.text ≡ self.old.text }
+        ensures ahead { KeepsAhead self.old self.new }
+        ensures less { result ≡ true → left_to_read self.old.text.now self.new self.new.stage < left_to_read self.old.text.now self.old self.old.stage }
         ensures stays { result ≡ false → self.new ≡ self.old }
         ensures counts { result ≡ false → CountsLineEnds self.new }
-        ensures code { result ≡ true → IsAtCode text.now self.new }
+        ensures code { result ≡ true → IsAtCode self.old.text.now self.new }
         ensures taken { result ≡ true → IsTaken len self.old self.new }
     {
         if line_end_counts(self.nesting.mode(), self.nesting.is_balanced()) {
@@ -849,50 +839,50 @@ impl Reader {
     /// Takes the newline of `len` bytes here, which counts, and the margin after it. Returns the
     /// outcome.
     #[inline(always)]
-    fn take_counting_line_end(&mut self, len: usize, text: &str) -> Result<LineEnd, AllocError>
-        requires fits { length text.now < 2 ^ 32 }
-        requires ready { IsReady text.now self.old self.old.stage }
-        requires stands { IsWordHere text.now self.old (record { class = class.LineEnd; len = len }) }
+    fn take_counting_line_end(&mut self, len: usize) -> Result<LineEnd, AllocError>
+        requires sound { IsSound self.old }
+        requires stands { IsWordHere self.old.text.now self.old (record { class = class.LineEnd; len = len }) }
         requires counts { CountsLineEnds self.old }
-        ensures ahead { IfOk result (λ line_end. (lexemes : List (Spanned TokenView)) (fault : Option (Spanned Fault)) → IsAhead text.now self.old self.old.stage lexemes fault → IsAheadAfter text.now (newline_of line_end self.old.at len) self.new lexemes fault) }
-        ensures memory { OnErr result ((lexemes : List (Spanned TokenView)) (fault : Option (Spanned Fault)) → IsAhead text.now self.old self.old.stage lexemes fault → IsSomething lexemes fault) }
-        ensures reads { OnOk result (IsMarginRead text.now len self.old self.new self.new.stage) }
+        ensures text { self.new.text ≡ self.old.text }
+        ensures ahead { IfOk result (λ line_end. TakesNext self.old (newline_of line_end self.old.at len) self.new) }
+        ensures memory { OnErr result (HasSomething self.old) }
+        ensures reads { OnOk result (IsMarginRead self.old.text.now len self.old self.new self.new.stage) }
         ensures counts { IfOk result (λ line_end. line_end ≢ LineEnd.Passed) }
         ensures onward { IfOk result (λ line_end. line_end ≡ LineEnd.Newline → (self.new.stage ≡ Stage.Onward) × IsInCode self.new × ((text : Text) → pending_lexemes text self.new.pending ≡ [])) }
     {
-        self.lay_line_end(text, len)
+        self.lay_line_end(len)
     }
 
     /// Takes the newline of `len` bytes here, and the margin after it if it counts. Returns the
     /// outcome. Don't use the reader after an `AllocError`.
     #[inline(never)]
-    pub fn take_line_end(&mut self, len: usize, text: &str) -> Result<LineEnd, AllocError>
-        requires fits { length text.now < 2 ^ 32 }
-        requires ready { IsReady text.now self.old self.old.stage }
-        requires stands { IsWordHere text.now self.old (record { class = class.LineEnd; len = len }) }
-        ensures ahead { IfOk result (λ line_end. (lexemes : List (Spanned TokenView)) (fault : Option (Spanned Fault)) → IsAhead text.now self.old self.old.stage lexemes fault → IsAheadAfter text.now (newline_of line_end self.old.at len) self.new lexemes fault) }
-        ensures memory { OnErr result ((lexemes : List (Spanned TokenView)) (fault : Option (Spanned Fault)) → IsAhead text.now self.old self.old.stage lexemes fault → IsSomething lexemes fault) }
-        ensures cut { IsCharBoundary text.now (self.old.at + len) }
-        ensures less { IfOk result (λ line_end. line_end ≡ LineEnd.Passed → left_to_read text.now self.new self.new.stage < left_to_read text.now self.old self.old.stage) }
-        ensures code { IfOk result (λ line_end. line_end ≡ LineEnd.Passed → IsAtCode text.now self.new) }
+    pub fn take_line_end(&mut self, len: usize) -> Result<LineEnd, AllocError>
+        requires sound { IsSound self.old }
+        requires stands { IsWordHere self.old.text.now self.old (record { class = class.LineEnd; len = len }) }
+        ensures text { self.new.text ≡ self.old.text }
+        ensures ahead { IfOk result (λ line_end. TakesNext self.old (newline_of line_end self.old.at len) self.new) }
+        ensures memory { OnErr result (HasSomething self.old) }
+        ensures cut { IsCharBoundary self.old.text.now (self.old.at + len) }
+        ensures less { IfOk result (λ line_end. line_end ≡ LineEnd.Passed → left_to_read self.old.text.now self.new self.new.stage < left_to_read self.old.text.now self.old self.old.stage) }
+        ensures code { IfOk result (λ line_end. line_end ≡ LineEnd.Passed → IsAtCode self.old.text.now self.new) }
         ensures taken { IfOk result (λ line_end. line_end ≡ LineEnd.Passed → IsTaken len self.old self.new) }
-        ensures reads { IfOk result (λ line_end. line_end ≢ LineEnd.Passed → IsMarginRead text.now len self.old self.new self.new.stage) }
+        ensures reads { IfOk result (λ line_end. line_end ≢ LineEnd.Passed → IsMarginRead self.old.text.now len self.old self.new self.new.stage) }
         ensures onward { IfOk result (λ line_end. line_end ≡ LineEnd.Newline → (self.new.stage ≡ Stage.Onward) × IsInCode self.new × ((text : Text) → pending_lexemes text self.new.pending ≡ [])) }
     {
-        if self.pass_line_end(len, text) {
+        if self.pass_line_end(len) {
             return Ok(LineEnd::Passed);
         }
-        self.take_counting_line_end(len, text)
+        self.take_counting_line_end(len)
     }
 
     /// Passes the name of `len` bytes here.
     #[inline(always)]
-    pub fn pass_name(&mut self, len: usize, text: &str)
-        requires fits { length text.now < 2 ^ 32 }
-        requires ready { IsReady text.now self.old self.old.stage }
-        requires stands { IsWordHere text.now self.old (record { class = class.Identifier; len = len }) }
-        ensures ahead { (lexemes : List (Spanned TokenView)) (fault : Option (Spanned Fault)) → IsAhead text.now self.old self.old.stage lexemes fault → IsAheadPast text.now (name_lexeme text.now self.old.at len) self.new lexemes fault }
-        ensures code { IsAtCode text.now self.new }
+    pub fn pass_name(&mut self, len: usize)
+        requires sound { IsSound self.old }
+        requires stands { IsWordHere self.old.text.now self.old (record { class = class.Identifier; len = len }) }
+        ensures text { self.new.text ≡ self.old.text }
+        ensures ahead { PassesNext self.old (name_lexeme self.old.text.now self.old.at len) self.new }
+        ensures code { IsAtCode self.old.text.now self.new }
         ensures taken { IsTaken len self.old self.new }
     {
         self.step_over(len, Before::Other);
@@ -900,30 +890,27 @@ impl Reader {
 
     /// Takes the comment of `len` bytes here. Don't use the reader after an `AllocError`.
     #[inline(always)]
-    pub fn take_comment(
-        &mut self,
-        len: usize,
-        text: &str,
-    ) -> Result<(usize, Token, usize), AllocError>
-        requires fits { length text.now < 2 ^ 32 }
-        requires ready { IsReady text.now self.old self.old.stage }
-        requires stands { IsWordHere text.now self.old (record { class = class.Comment; len = len }) }
-        ensures ahead { IfOk result (λ given. (lexemes : List (Spanned TokenView)) (fault : Option (Spanned Fault)) → IsAhead text.now self.old self.old.stage lexemes fault → IsAheadAfter text.now (Some given) self.new lexemes fault) }
-        ensures memory { OnErr result ((lexemes : List (Spanned TokenView)) (fault : Option (Spanned Fault)) → IsAhead text.now self.old self.old.stage lexemes fault → IsSomething lexemes fault) }
-        ensures code { OnOk result (IsAtCode text.now self.new) }
+    pub fn take_comment(&mut self, len: usize) -> Result<(usize, Token, usize), AllocError>
+        requires sound { IsSound self.old }
+        requires stands { IsWordHere self.old.text.now self.old (record { class = class.Comment; len = len }) }
+        ensures text { self.new.text ≡ self.old.text }
+        ensures ahead { IfOk result (λ given. TakesNext self.old (Some given) self.new) }
+        ensures memory { OnErr result (HasSomething self.old) }
+        ensures code { OnOk result (IsAtCode self.new.text.now self.new) }
         ensures taken { OnOk result (IsTaken len self.old self.new) }
     {
         let begin = self.at;
-        let rest = &text[begin..];
+        let rest = &self.text[begin..];
         let word = &rest[..len];
         let token = Token::Comment(String::from_str(self.alloc, &word[1..])?);
-        self.pass_token(&token, len, text);
+        self.pass_token(&token, len);
         Ok((begin, token, begin + len))
     }
 
     /// Length in bytes of the next literal's body, if it has no escapes and one quote closes it.
     /// Its opener has `len` bytes. For any other literal, the error is the length of the run
     /// without escapes at its start, which is in the opener's line.
+    #[tactic(auto, using(crate::proofs::TakenPieces::ReaderReads::reads_ahead, crate::proofs::TakenPieces::SameTexts::looked_sound))]
     #[inline(always)]
     pub fn plain_body_len(
         &mut self,
@@ -931,39 +918,32 @@ impl Reader {
         is_raw: bool,
         quote: Quote,
         len: usize,
-        text: &str,
     ) -> Result<usize, usize>
-        requires fits { length text.now < 2 ^ 32 }
-        requires ready { IsReady text.now self.old self.old.stage }
-        requires stands { IsWordHere text.now self.old (record { class = class.Opener kind is_raw quote; len = len }) }
-        ensures ahead { (lexemes : List (Spanned TokenView)) (fault : Option (Spanned Fault)) → IsAhead text.now self.old self.old.stage lexemes fault → IsAhead text.now self.new self.new.stage lexemes fault }
-        ensures stands { IsWordHere text.now self.new (record { class = class.Opener kind is_raw quote; len = len }) }
-        ensures plain { IfOk result (λ body. IsPlainBody kind is_raw quote (drop len (drop self.new.at text.now)) body) }
+        requires sound { IsSound self.old }
+        requires stands { IsWordHere self.old.text.now self.old (record { class = class.Opener kind is_raw quote; len = len }) }
+        ensures text { self.new.text ≡ self.old.text }
+        ensures sound { IsSound self.new }
+        ensures ahead { KeepsAhead self.old self.new }
+        ensures stands { IsWordHere self.new.text.now self.new (record { class = class.Opener kind is_raw quote; len = len }) }
+        ensures plain { IfOk result (λ body. IsPlainBody kind is_raw quote (drop len (drop self.new.at self.new.text.now)) body) }
         ensures lookahead { IfOk result (λ body. HasLookedHere (body + 1) (6 * body + 3) self.old self.new) }
-        ensures other { IfErr result (λ run. (self.new.at + len + run ≤ next_line text.now self.new.at) × HasLookedHere 0 (6 * run + 3) self.old self.new) }
+        ensures other { IfErr result (λ run. (self.new.at + len + run ≤ next_line self.new.text.now self.new.at) × HasLookedHere 0 (6 * run + 3) self.old self.new) }
     {
-        let rest = &text[self.at..];
+        let rest = &self.text[self.at..];
         plain_body_len(&mut self.reads, kind, is_raw, quote, &rest[len..])
     }
 
     /// Passes the string literal here, whose opener has `len` bytes and whose body has `body` bytes.
     /// One quote closes it, and it has no escapes.
     #[inline(always)]
-    pub fn pass_plain_text(
-        &mut self,
-        is_raw: bool,
-        quote: Quote,
-        len: usize,
-        body: usize,
-        text: &str,
-    )
-        requires fits { length text.now < 2 ^ 32 }
-        requires ready { IsReady text.now self.old self.old.stage }
-        requires stands { IsWordHere text.now self.old (record { class = class.Opener kind.Text is_raw quote; len = len }) }
-        requires plain { IsPlainBody kind.Text is_raw quote (drop len (drop self.old.at text.now)) body }
-        ensures ahead { (lexemes : List (Spanned TokenView)) (fault : Option (Spanned Fault)) → IsAhead text.now self.old self.old.stage lexemes fault → IsAheadPast text.now (text_lexeme text.now self.old.at len body) self.new lexemes fault }
-        ensures value { IsCharBoundary text.now (self.old.at + len) × IsCharBoundary text.now (self.old.at + len + body) }
-        ensures code { IsAtCode text.now self.new }
+    pub fn pass_plain_text(&mut self, is_raw: bool, quote: Quote, len: usize, body: usize)
+        requires sound { IsSound self.old }
+        requires stands { IsWordHere self.old.text.now self.old (record { class = class.Opener kind.Text is_raw quote; len = len }) }
+        requires plain { IsPlainBody kind.Text is_raw quote (drop len (drop self.old.at self.old.text.now)) body }
+        ensures text { self.new.text ≡ self.old.text }
+        ensures ahead { PassesNext self.old (text_lexeme self.old.text.now self.old.at len body) self.new }
+        ensures value { IsCharBoundary self.old.text.now (self.old.at + len) × IsCharBoundary self.old.text.now (self.old.at + len + body) }
+        ensures code { IsAtCode self.old.text.now self.new }
         ensures taken { IsTaken (len + body + 1) self.old self.new }
     {
         self.step_over(len + body + 1, Before::Other);
@@ -977,47 +957,42 @@ impl Reader {
         &mut self,
         quote: Quote,
         body: usize,
-        text: &str,
     ) -> Result<(usize, Token, usize), AllocError>
-        requires fits { length text.now < 2 ^ 32 }
-        requires ready { IsReady text.now self.old self.old.stage }
-        requires stands { IsWordHere text.now self.old (record { class = class.Opener kind.Bytes false quote; len = 2 }) }
-        requires plain { IsPlainBody kind.Bytes false quote (drop 2 (drop self.old.at text.now)) body }
-        ensures ahead { IfOk result (λ given. (lexemes : List (Spanned TokenView)) (fault : Option (Spanned Fault)) → IsAhead text.now self.old self.old.stage lexemes fault → IsAheadAfter text.now (Some given) self.new lexemes fault) }
-        ensures memory { OnErr result ((lexemes : List (Spanned TokenView)) (fault : Option (Spanned Fault)) → IsAhead text.now self.old self.old.stage lexemes fault → IsSomething lexemes fault) }
-        ensures code { OnOk result (IsAtCode text.now self.new) }
+        requires sound { IsSound self.old }
+        requires stands { IsWordHere self.old.text.now self.old (record { class = class.Opener kind.Bytes false quote; len = 2 }) }
+        requires plain { IsPlainBody kind.Bytes false quote (drop 2 (drop self.old.at self.old.text.now)) body }
+        ensures text { self.new.text ≡ self.old.text }
+        ensures ahead { IfOk result (λ given. TakesNext self.old (Some given) self.new) }
+        ensures memory { OnErr result (HasSomething self.old) }
+        ensures code { OnOk result (IsAtCode self.new.text.now self.new) }
         ensures taken { OnOk result (IsTaken (2 + body + 1) self.old self.new) }
     {
         let begin = self.at;
-        let rest = &text[begin..];
+        let rest = &self.text[begin..];
         let remainder = &rest[2..];
         let len = 2 + body + 1;
         let mut value = Vec::new(self.alloc);
         value.extend_from_slice(remainder[..body].as_bytes())?;
         let token = Token::Bytes(value);
-        self.pass_token(&token, len, text);
+        self.pass_token(&token, len);
         Ok((begin, token, begin + len))
     }
 
     /// Takes the start of the f-string here, whose opener is an `f` and `quote`. Don't use the
     /// reader after an `AllocError`.
     #[inline(always)]
-    pub fn take_fstring(
-        &mut self,
-        quote: Quote,
-        text: &str,
-    ) -> Result<(usize, Token, usize), AllocError>
-        requires fits { length text.now < 2 ^ 32 }
-        requires ready { IsReady text.now self.old self.old.stage }
-        requires stands { IsWordHere text.now self.old (record { class = class.Opener kind.FString false quote; len = 2 }) }
-        ensures ahead { IfOk result (λ given. (lexemes : List (Spanned TokenView)) (fault : Option (Spanned Fault)) → IsAhead text.now self.old self.old.stage lexemes fault → IsAheadAfter text.now (Some given) self.new lexemes fault) }
-        ensures memory { OnErr result ((lexemes : List (Spanned TokenView)) (fault : Option (Spanned Fault)) → IsAhead text.now self.old self.old.stage lexemes fault → IsSomething lexemes fault) }
+    pub fn take_fstring(&mut self, quote: Quote) -> Result<(usize, Token, usize), AllocError>
+        requires sound { IsSound self.old }
+        requires stands { IsWordHere self.old.text.now self.old (record { class = class.Opener kind.FString false quote; len = 2 }) }
+        ensures text { self.new.text ≡ self.old.text }
+        ensures ahead { IfOk result (λ given. TakesNext self.old (Some given) self.new) }
+        ensures memory { OnErr result (HasSomething self.old) }
         ensures begun { OnOk result (HasStarted self.old self.new) }
     {
-        let rest = &text[self.at..];
+        let rest = &self.text[self.at..];
         let opening = opening_of(&mut self.reads, false, quote, &rest[2..]);
         let len = if opening.is_triple { 4 } else { 2 };
-        self.begin_fstring(opening, len, text)
+        self.begin_fstring(opening, len)
     }
 
     /// Whether comments are pending. They are yielded before all else.
@@ -1030,20 +1005,22 @@ impl Reader {
 
     /// Passes the first pending comment. Returns the offsets where it begins and ends.
     #[inline(always)]
-    pub fn pass_pending_comment(&mut self, text: &str) -> (usize, usize)
+    pub fn pass_pending_comment(&mut self) -> (usize, usize)
         requires some { self.old.pending.from < self.old.pending.to }
-        requires ready { IsReady text.now self.old self.old.stage }
-        ensures ahead { (lexemes : List (Spanned TokenView)) (fault : Option (Spanned Fault)) → IsAhead text.now self.old self.old.stage lexemes fault → IsAheadPast text.now (comment_lexeme text.now result.0 result.1) self.new lexemes fault }
-        ensures inside { IsCommentIn text.now result.0 result.1 }
-        ensures reads { (beside : ℕ) → HasReadAt text.now beside self.old self.old.stage → HasRead text.now beside self.new }
+        requires ready { IsReady self.old.text.now self.old self.old.stage }
+        ensures text { self.new.text ≡ self.old.text }
+        ensures ahead { PassesNext self.old (comment_lexeme self.old.text.now result.0 result.1) self.new }
+        ensures inside { IsCommentIn self.old.text.now result.0 result.1 }
+        ensures reads { (beside : ℕ) → HasReadAt self.old.text.now beside self.old self.old.stage → HasRead self.old.text.now beside self.new }
     {
-        self.pending.pass_comment(&mut self.reads, text)
+        self.pending.pass_comment(&mut self.reads, self.text)
     }
 
     /// Takes the first pending lexeme where no comments are pending; `None` if there is none.
     #[inline(always)]
     pub fn next_mark(&mut self) -> Option<(usize, Token, usize)>
         requires none { self.old.pending.to ≤ self.old.pending.from }
+        ensures text { self.new.text ≡ self.old.text }
         ensures ahead { (text : Text) (lexemes : List (Spanned TokenView)) (fault : Option (Spanned Fault)) → IsAhead text self.old self.old.stage lexemes fault → IsAheadAfter text result self.new lexemes fault }
         ensures stays { result ≡ None → self.new ≡ self.old }
         ensures mark { IfSome result (λ lexeme. IsMark (token_view lexeme.1)) }
@@ -1054,22 +1031,28 @@ impl Reader {
 
     /// The f-string text that comes next, if it has no escapes and no LF. Else the error is the
     /// length in bytes of the run without these at its start; 0 outside of f-string text.
+    #[tactic(auto, using(crate::proofs::TakenPieces::ReaderReads::reads_ahead, crate::proofs::TakenPieces::SameTexts::looked_sound))]
     #[inline(always)]
-    pub fn plain_text(&mut self, text: &str) -> Result<PlainText, usize>
-        requires fits { length text.now < 2 ^ 32 }
-        requires ready { IsReady text.now self.old self.old.stage }
-        ensures ahead { (lexemes : List (Spanned TokenView)) (fault : Option (Spanned Fault)) → IsAhead text.now self.old self.old.stage lexemes fault → IsAhead text.now self.new self.new.stage lexemes fault }
-        ensures code { IsAtCode text.now self.old → IsAtCode text.now self.new }
-        ensures stands { IfOk result (λ found. IsPlainTextHere text.now self.new found) }
+    pub fn plain_text(&mut self) -> Result<PlainText, usize>
+        requires sound { IsSound self.old }
+        ensures text { self.new.text ≡ self.old.text }
+        ensures sound { IsSound self.new }
+        ensures ahead { KeepsAhead self.old self.new }
+        ensures code { IsAtCode self.old.text.now self.old → IsAtCode self.new.text.now self.new }
+        ensures stands { IfOk result (λ found. IsPlainTextHere self.new.text.now self.new found) }
         ensures some { IfOk result (λ found. (0 < found.stop_len) × (found.stop_len ≤ 3)) }
         ensures lookahead { IfOk result (λ found. HasLookedHere (found.len + 3) (6 * found.len + 4) self.old self.new) }
-        ensures other { IfErr result (λ run. (self.new.at + run ≤ next_line text.now self.new.at) × HasLookedHere 0 (6 * run + 4) self.old self.new) }
+        ensures other { IfErr result (λ run. (self.new.at + run ≤ next_line self.new.text.now self.new.at) × HasLookedHere 0 (6 * run + 4) self.old self.new) }
     {
         if !self.reads_on() {
             return Err(0);
         }
         match self.nesting.mode() {
-            LexerMode::InText(opening) => plain_text(&mut self.reads, opening, &text[self.at..]),
+            LexerMode::InText(opening) => plain_text(
+                &mut self.reads,
+                opening,
+                &self.text[self.at..],
+            ),
             _ => Err(0),
         }
     }
@@ -1077,13 +1060,13 @@ impl Reader {
     /// Passes the f-string text here, which has no escapes and isn't empty. What ends it becomes
     /// pending.
     #[inline(always)]
-    pub fn pass_text(&mut self, found: PlainText, text: &str)
-        requires fits { length text.now < 2 ^ 32 }
-        requires ready { IsReady text.now self.old self.old.stage }
-        requires stands { IsPlainTextHere text.now self.old found }
+    pub fn pass_text(&mut self, found: PlainText)
+        requires sound { IsSound self.old }
+        requires stands { IsPlainTextHere self.old.text.now self.old found }
         requires some { 0 < found.len }
-        ensures ahead { (lexemes : List (Spanned TokenView)) (fault : Option (Spanned Fault)) → IsAhead text.now self.old self.old.stage lexemes fault → IsAheadPast text.now (fstring_text_lexeme text.now self.old.at found.len) self.new lexemes fault }
-        ensures edges { IsCharBoundary text.now self.old.at × IsCharBoundary text.now (self.old.at + found.len) }
+        ensures text { self.new.text ≡ self.old.text }
+        ensures ahead { PassesNext self.old (fstring_text_lexeme self.old.text.now self.old.at found.len) self.new }
+        ensures edges { IsCharBoundary self.old.text.now self.old.at × IsCharBoundary self.old.text.now (self.old.at + found.len) }
         ensures passed { IsPassedBy (self.old.at + (found.len + found.stop_len)) self.old self.new × (self.new.stage ≡ Stage.Onward) }
     {
         let between = self.at + found.len;
@@ -1099,12 +1082,12 @@ impl Reader {
 
     /// Passes the f-string text here, which is empty, and takes what ends it.
     #[inline(always)]
-    pub fn pass_text_end(&mut self, found: PlainText, text: &str) -> (usize, Token, usize)
-        requires fits { length text.now < 2 ^ 32 }
-        requires ready { IsReady text.now self.old self.old.stage }
-        requires stands { IsPlainTextHere text.now self.old found }
+    pub fn pass_text_end(&mut self, found: PlainText) -> (usize, Token, usize)
+        requires sound { IsSound self.old }
+        requires stands { IsPlainTextHere self.old.text.now self.old found }
         requires none { found.len ≡ 0 }
-        ensures ahead { (lexemes : List (Spanned TokenView)) (fault : Option (Spanned Fault)) → IsAhead text.now self.old self.old.stage lexemes fault → IsAheadAfter text.now (Some result) self.new lexemes fault }
+        ensures text { self.new.text ≡ self.old.text }
+        ensures ahead { TakesNext self.old (Some result) self.new }
         ensures mark { IsMark (token_view result.1) }
         ensures passed { IsPassedBy (self.old.at + (found.len + found.stop_len)) self.old self.new × (self.new.stage ≡ Stage.Onward) }
     {
@@ -1118,102 +1101,93 @@ impl Reader {
 
     /// Takes the keyword or symbol of `len` bytes here.
     #[inline(always)]
-    pub fn take_terminal(
-        &mut self,
-        terminal: Terminal,
-        len: usize,
-        text: &str,
-    ) -> (usize, Token, usize)
-        requires fits { length text.now < 2 ^ 32 }
-        requires ready { IsReady text.now self.old self.old.stage }
-        requires stands { IsWordHere text.now self.old (record { class = class.Fixed terminal; len = len }) }
-        ensures ahead { (lexemes : List (Spanned TokenView)) (fault : Option (Spanned Fault)) → IsAhead text.now self.old self.old.stage lexemes fault → IsAheadAfter text.now (Some result) self.new lexemes fault }
+    pub fn take_terminal(&mut self, terminal: Terminal, len: usize) -> (usize, Token, usize)
+        requires sound { IsSound self.old }
+        requires stands { IsWordHere self.old.text.now self.old (record { class = class.Fixed terminal; len = len }) }
+        ensures text { self.new.text ≡ self.old.text }
+        ensures ahead { TakesNext self.old (Some result) self.new }
         ensures token { IsTokenOf terminal (token_view result.1) }
-        ensures code { IsInCode self.new → IsAtCode text.now self.new }
+        ensures code { IsInCode self.new → IsAtCode self.old.text.now self.new }
         ensures taken { IsTaken len self.old self.new }
     {
         let begin = self.at;
         let token = token_in(&self.nesting, terminal);
-        self.pass_token(&token, len, text);
+        self.pass_token(&token, len);
         (begin, token, begin + len)
     }
 
     /// Takes the integer of one digit here, whose value is `digit`.
     #[inline(always)]
-    pub fn take_digit(&mut self, digit: u8, text: &str) -> (usize, Token, usize)
-        requires fits { length text.now < 2 ^ 32 }
-        requires ready { IsReady text.now self.old self.old.stage }
-        requires stands { IsWordHere text.now self.old (record { class = class.Decimal; len = 1 }) }
-        requires digit { IsDigitAt digit (drop self.old.at text.now) }
-        ensures ahead { (lexemes : List (Spanned TokenView)) (fault : Option (Spanned Fault)) → IsAhead text.now self.old self.old.stage lexemes fault → IsAheadAfter text.now (Some result) self.new lexemes fault }
-        ensures code { IsAtCode text.now self.new }
+    pub fn take_digit(&mut self, digit: u8) -> (usize, Token, usize)
+        requires sound { IsSound self.old }
+        requires stands { IsWordHere self.old.text.now self.old (record { class = class.Decimal; len = 1 }) }
+        requires digit { IsDigitAt digit (drop self.old.at self.old.text.now) }
+        ensures text { self.new.text ≡ self.old.text }
+        ensures ahead { TakesNext self.old (Some result) self.new }
+        ensures code { IsAtCode self.new.text.now self.new }
         ensures taken { IsTaken 1 self.old self.new }
     {
         let begin = self.at;
         let token = digit_token(digit);
-        self.pass_token(&token, 1, text);
+        self.pass_token(&token, 1);
         (begin, token, begin + 1)
     }
 
     /// Takes the number here, which begins with a digit and isn't a 0 before more digits. Don't use
     /// the reader after an `AllocError`.
     #[inline(always)]
-    pub fn take_number(
-        &mut self,
-        word: Word,
-        text: &str,
-    ) -> Result<(usize, Token, usize), AllocError>
-        requires fits { length text.now < 2 ^ 32 }
-        requires ready { IsReady text.now self.old self.old.stage }
-        requires stands { IsWordHere text.now self.old word }
+    pub fn take_number(&mut self, word: Word) -> Result<(usize, Token, usize), AllocError>
+        requires sound { IsSound self.old }
+        requires stands { IsWordHere self.old.text.now self.old word }
         requires class { is_number word.class ≡ true }
-        requires number { begins_plain_number (drop self.old.at text.now) ≡ true }
-        ensures ahead { IfOk result (λ given. (lexemes : List (Spanned TokenView)) (fault : Option (Spanned Fault)) → IsAhead text.now self.old self.old.stage lexemes fault → IsAheadAfter text.now (Some given) self.new lexemes fault) }
-        ensures memory { OnErr result ((lexemes : List (Spanned TokenView)) (fault : Option (Spanned Fault)) → IsAhead text.now self.old self.old.stage lexemes fault → IsSomething lexemes fault) }
-        ensures code { OnOk result (IsAtCode text.now self.new) }
+        requires number { begins_plain_number (drop self.old.at self.old.text.now) ≡ true }
+        ensures text { self.new.text ≡ self.old.text }
+        ensures ahead { IfOk result (λ given. TakesNext self.old (Some given) self.new) }
+        ensures memory { OnErr result (HasSomething self.old) }
+        ensures code { OnOk result (IsAtCode self.new.text.now self.new) }
         ensures taken { OnOk result (IsTaken word.len self.old self.new) }
     {
         let begin = self.at;
-        let rest = &text[begin..];
+        let rest = &self.text[begin..];
         let token = number_token(self.alloc, word.class, &rest[..word.len])?;
-        self.pass_token(&token, word.len, text);
+        self.pass_token(&token, word.len);
         Ok((begin, token, begin + word.len))
     }
 
     /// Takes the bang of an f-string expression here.
     #[inline(always)]
-    pub fn take_bang(&mut self, text: &str) -> (usize, Token, usize)
-        requires fits { length text.now < 2 ^ 32 }
-        requires ready { IsReady text.now self.old self.old.stage }
-        requires stands { IsBangHere text.now self.old }
-        ensures ahead { (lexemes : List (Spanned TokenView)) (fault : Option (Spanned Fault)) → IsAhead text.now self.old self.old.stage lexemes fault → IsAheadAfter text.now (Some result) self.new lexemes fault }
-        ensures code { IsAtCode text.now self.new }
+    pub fn take_bang(&mut self) -> (usize, Token, usize)
+        requires sound { IsSound self.old }
+        requires stands { IsBangHere self.old.text.now self.old }
+        ensures text { self.new.text ≡ self.old.text }
+        ensures ahead { TakesNext self.old (Some result) self.new }
+        ensures code { IsAtCode self.new.text.now self.new }
         ensures taken { IsTaken 1 self.old self.new }
     {
         let begin = self.at;
         let token = Token::FStringBang;
-        self.pass_token(&token, 1, text);
+        self.pass_token(&token, 1);
         (begin, token, begin + 1)
     }
 
     /// The next lexeme of the text; `None` where none is left, but maybe its fault. Don't use the
     /// reader after an `AllocError`.
-    pub fn next(&mut self, text: &str) -> Result<Option<(usize, Token, usize)>, AllocError>
-        requires fits { length text.now < 2 ^ 32 }
-        requires ready { IsReady text.now self.old self.old.stage }
-        ensures next { IfOk result (λ given. (lexemes : List (Spanned TokenView)) (fault : Option (Spanned Fault)) → IsAhead text.now self.old self.old.stage lexemes fault → IsAheadAfter text.now given self.new lexemes fault) }
-        ensures end { IfOk result (λ given. given ≡ None → IsAtEnd text.now self.new) }
-        ensures memory { OnErr result ((lexemes : List (Spanned TokenView)) (fault : Option (Spanned Fault)) → IsAhead text.now self.old self.old.stage lexemes fault → IsSomething lexemes fault) }
-        ensures reads { OnOk result ((beside : ℕ) → HasReadAt text.now beside self.old self.old.stage → HasRead text.now beside self.new) }
+    pub fn next(&mut self) -> Result<Option<(usize, Token, usize)>, AllocError>
+        requires { IsSound self.old }
+        ensures text { self.new.text ≡ self.old.text }
+        ensures next { IfOk result (λ given. TakesNext self.old given self.new) }
+        ensures end { IfOk result (λ given. given ≡ None → IsAtEnd self.old.text.now self.new) }
+        ensures memory { OnErr result (HasSomething self.old) }
+        ensures reads { OnOk result ((beside : ℕ) → HasReadAt self.old.text.now beside self.old self.old.stage → HasRead self.old.text.now beside self.new) }
     {
         loop {
-            if let Some(lexeme) = self.pending.next(&mut self.reads, self.alloc, text)? {
+            if let Some(lexeme) = self.pending.next(&mut self.reads, self.alloc, self.text)? {
                 return Ok(Some(lexeme));
             }
             match self.stage {
-                Stage::Begin => self.read_first_margin(text)?,
+                Stage::Begin => self.read_first_margin()?,
                 Stage::Onward => {
-                    if let Some(lexeme) = self.read_piece(text)? {
+                    if let Some(lexeme) = self.read_piece()? {
                         return Ok(Some(lexeme));
                     }
                 }

@@ -9,18 +9,18 @@ use Rattle.starlark_grammar.specs.Words.{Text}
 use Rattle.starlark_grammar.specs.declared.class.Class.TheVariants as class
 use Rattle.starlark_grammar.proofs.Order.Inside.{lexemes_few}
 use Rattle.starlark_reader.specs.Inner.Pending.{pending_lexemes}
-use Rattle.starlark_reader.specs.Inner.Reader.{IsAhead, IsAheadAfter, IsAheadPast, IsAtCode, IsInCode, IsSomething, IsWordHere, newline_if}
+use Rattle.starlark_reader.specs.Inner.Reader.{IsAhead, IsAheadAfter, IsAheadPast, IsAtCode, IsInCode, IsSomething, IsText, IsWordHere, newline_if}
 use Rattle.starlark_reader.specs.Inner.ReadBounds.{HasLooked, IsMarginRead, IsTaken}
 use Rattle.starlark_reader.specs.declared.reader.Reader.{Reader}
 use Rattle.starlark_reader.specs.declared.reader.Stage.TheVariants as stages
 use Rattle.starlark_reader.proofs.TakenPieces.ReaderReads.{looked_reads, margin_reads, taken_reads}
 use Rattle.starlark_syntax.proofs.LexerItems.{one_more}
 use Rattle.starlark_syntax.proofs.LexerReads.{goes_on, look_paid, nothing_kept, nothing_looked, same_word, word_inside, word_opened}
-use Rattle.starlark_syntax.proofs.LexerStates.{IsGoingOn, IsSameText}
+use Rattle.starlark_syntax.proofs.LexerStates.{IsGoingOn, IsSameText, same_lexing}
 use Rattle.starlark_syntax.proofs.PlainLexemes.{newline_passed, passed_same}
 use Rattle.starlark_syntax.proofs.Reaches.{reached, word_line}
-use Rattle.starlark_syntax.specs.Inner.LexerStates.{HasPassed, HasPassedNext, IsAtOpener, IsAtWord, IsLexing, IsTakenNext, is_out_of_memory, left_in, passed_count, plain_mark, view_of}
-use Rattle.starlark_syntax.specs.Inner.Looked.{HasOpened, HasSpared, IsInReach, IsLooked, is_nothing, is_text_opener, looked_len}
+use Rattle.starlark_syntax.specs.Inner.LexerStates.{HasPassed, HasPassedNext, IsAtOpener, IsAtWord, IsLexing, IsLexingIn, IsTakenNext, is_out_of_memory, left_in, passed_count, plain_mark, view_of}
+use Rattle.starlark_syntax.specs.Inner.Looked.{HasOpened, HasReadWord, HasSpared, IsInReach, IsLooked, is_nothing, is_text_opener, looked_len}
 use Rattle.starlark_syntax.specs.declared.lexer_state.FastPath.{FastPath}
 use Rattle.starlark_syntax.specs.declared.lexer_state.FastPath.TheVariants as fast
 use Rattle.starlark_syntax.specs.declared.lexer_state.LexerState.{LexerState}
@@ -33,20 +33,31 @@ use Rattle.starlark_token.specs.declared.tokens.Token.{Token}
 use Rattle.starlark_words.specs.declared.scanner.word.Word.{Word}
 
 -- the reader took something
-pub taken_next : {E : Type 0} (old : LexerState) (reader : Reader) (taken : Result (ℕ × Token × ℕ) E) → IsLexing old → old.has_ended ≡ false → IfOk taken (λ lexeme. IsAheadAfter old.text.now (Some lexeme) reader (left_in old) (outcome old.text.now).fault)
-    → OnErr taken (IsSomething (left_in old) (outcome old.text.now).fault) → IsTakenNext (record old { reader = reader }) taken
-taken_next old reader taken lexing going ahead memory = record { fits = lexing.0; going = going; few = (lexing.1 going).0; ahead = ahead; memory = memory; reach = lexing.4 }
+pub taken_next : {E : Type 0} (old : LexerState) (reader : Reader) (taken : Result (ℕ × Token × ℕ) E) → reader.text ≡ old.reader.text → IsLexing old → old.has_ended ≡ false → IfOk taken (λ lexeme. IsAheadAfter old.reader.text.now (Some lexeme) reader (left_in old) (outcome old.reader.text.now).fault)
+    → OnErr taken (IsSomething (left_in old) (outcome old.reader.text.now).fault) → IsTakenNext (record old { reader = reader }) taken
+taken_next old reader taken same lexing going ahead memory =
+    let text = sym (ap (λ t. t.now) same) in
+    record {
+      text = subst IsText text lexing.0;
+      going = going;
+      few = subst (λ (t : Text). old.yielded_count ≤ length (outcome t).lexemes) text (lexing.1 going).0;
+      ahead = subst (λ (t : Text). IfOk taken (λ lexeme. IsAheadAfter t (Some lexeme) reader (drop old.yielded_count (map shown_lexeme (outcome t).lexemes)) (outcome t).fault)) text ahead;
+      memory = subst (λ (t : Text). OnErr taken (IsSomething (drop old.yielded_count (map shown_lexeme (outcome t).lexemes)) (outcome t).fault)) text memory;
+      reach = subst (λ (t : Text). IsInReach t old.looked_to) text lexing.4;
+    }
 
 -- one more lexeme can be counted
-pub one_more_fits : (state : LexerState) → length state.text.now < 2 ^ 32 → state.yielded_count ≤ length (outcome state.text.now).lexemes → state.yielded_count + 1 ≤ 2 ^ 34
-one_more_fits state fits few = omega (arith, few, lexemes_few state.text.now fits)
+pub one_more_fits : (state : LexerState) → length state.reader.text.now < 2 ^ 32 → state.yielded_count ≤ length (outcome state.reader.text.now).lexemes → state.yielded_count + 1 ≤ 2 ^ 34
+one_more_fits state fits few = omega (arith, few, lexemes_few state.reader.text.now fits)
 
 -- a lexeme was passed, and is counted
-pub past_lexing : (old : LexerState) (lexeme : Spanned TokenView) (reader : Reader) (it : Lookahead) → length old.text.now < 2 ^ 32 → old.has_ended ≡ false → IsInReach old.text.now old.looked_to
-    → IsAheadPast old.text.now lexeme reader (left_in old) (outcome old.text.now).fault → IsLooked old.text.now reader old.looked_to it → IsLexing (record old { reader = reader; yielded_count = old.yielded_count + 1; lookahead = it })
-past_lexing old lexeme reader it fits going reach past looked =
-    let further = one_more (map shown_lexeme (outcome old.text.now).lexemes) old.yielded_count lexeme past.0 past.1 in
-    (fits, (λ on. (omega (arith, further.0, length-map (outcome old.text.now).lexemes shown_lexeme), rw further.1 past.2)), goes_on it old.has_ended going, (λ on. looked), reach)
+pub past_lexing : (old : LexerState) (lexeme : Spanned TokenView) (reader : Reader) (it : Lookahead) → reader.text ≡ old.reader.text → IsText old.reader.text.now → old.has_ended ≡ false → IsInReach old.reader.text.now old.looked_to
+    → IsAheadPast old.reader.text.now lexeme reader (left_in old) (outcome old.reader.text.now).fault → IsLooked old.reader.text.now reader old.looked_to it → IsLexing (record old { reader = reader; yielded_count = old.yielded_count + 1; lookahead = it })
+past_lexing old lexeme reader it same text going reach past looked =
+    let further = one_more (map shown_lexeme (outcome old.reader.text.now).lexemes) old.yielded_count lexeme past.0 past.1 in
+    let lexing : IsLexingIn old.reader.text.now (record old { reader = reader; yielded_count = old.yielded_count + 1; lookahead = it }) =
+    (text, (λ on. (omega (arith, further.0, length-map (outcome old.reader.text.now).lexemes shown_lexeme), rw further.1 past.2)), goes_on it old.has_ended going, (λ on. looked), reach) in
+    same_lexing old.reader.text.now (record old { reader = reader; yielded_count = old.yielded_count + 1; lookahead = it }) (ap (λ t. t.now) same) lexing
 
 nothing_is : (it : Lookahead) → is_nothing it ≡ true → it ≡ lookahead.Nothing
 nothing_is lookahead.Nothing nothing = refl
@@ -54,116 +65,118 @@ nothing_is lookahead.Front nothing = cc
 nothing_is lookahead.All nothing = cc
 
 -- the scanner has found a word
-pub at_word : (first state : LexerState) (mid : Reader) (word : Word) → IsLexing first → IsGoingOn first state → is_nothing state.lookahead ≡ true → HasLooked word.len ((5 * word.len - 4) + 3) state.reader mid
-    → IsAhead state.text.now mid mid.stage (left_in state) (outcome state.text.now).fault → IsWordHere state.text.now mid word → IsAtWord (record state { reader = mid }) word
-at_word first state mid word lexing on nothing looked ahead stands =
-    let quick = nothing_looked state.text.now state.reader state.looked_to state.has_ended state.lookahead nothing on.4 on.5 in
+pub at_word : (first state : LexerState) (mid : Reader) (word : Word) → mid.text ≡ state.reader.text → IsLexing first → IsGoingOn first state → is_nothing state.lookahead ≡ true → HasLooked word.len ((5 * word.len - 4) + 3) state.reader mid
+    → IsAhead state.reader.text.now mid mid.stage (left_in state) (outcome state.reader.text.now).fault → IsWordHere mid.text.now mid word → IsAtWord (record state { reader = mid }) word
+at_word first state mid word same lexing on nothing looked ahead stands =
+    let quick = nothing_looked state.reader.text.now state.reader state.looked_to state.has_ended state.lookahead nothing on.4 on.5 in
     let inv = lexing.1 (sym on.2 ∙ quick.0) in
     record {
-      fits = rw on.0 lexing.0;
+      text = rw (same, on.0) lexing.0;
       going = quick.0;
-      few = rw (on.0, on.1) inv.0;
-      ahead = ahead;
+      few = rw (same, on.0, on.1) inv.0;
+      ahead = subst (λ (t : Text). IsAhead t mid mid.stage (drop state.yielded_count (map shown_lexeme (outcome t).lexemes)) (outcome t).fault) (sym (ap (λ t. t.now) same)) ahead;
       stands = stands;
       lookahead = nothing_is state.lookahead nothing;
-      read = (state.reader, quick.1.stage, quick.2, quick.3, looked);
-      reach = on.6;
+      read = subst (λ (t : Text). HasReadWord t state.looked_to word.len mid) (sym (ap (λ t. t.now) same)) (state.reader, quick.1.stage, quick.2, quick.3, looked);
+      reach = rw same on.6;
     }
 
 -- where the fast path doesn't pass it by itself, its bytes are spent as lookahead
 pub at_opener : (state : LexerState) (is_text : Bool) (len to : ℕ) → IsAtOpener state is_text len → to ≡ state.reader.at + looked_len is_text len
-    → IsLexing (record state { looked_to = to; lookahead = lookahead.Front }) × (is_text ≡ true → HasOpened state.text.now state.reader to)
+    → IsLexing (record state { looked_to = to; lookahead = lookahead.Front }) × (is_text ≡ true → HasOpened state.reader.text.now state.reader to)
 at_opener state is_text len to opener is =
     let of = opener.0 in
     let at = opener.2 in
     let front = at.stands.front in
-    let inside = word_inside state.text.now state.reader _ _ of len at.stands.stage at.ahead (sym front) in
+    let inside = word_inside state.reader.text.now state.reader _ _ of len at.stands.stage at.ahead (sym front) in
     let first = at.read in
     let paid = first.3 in
-    let read = looked_reads state.text.now paid.0 len ((5 * len - 4) + 3) first.0 state.reader first.1 paid.2 first.4 in
+    let read = looked_reads state.reader.text.now paid.0 len ((5 * len - 4) + 3) first.0 state.reader first.1 paid.2 first.4 in
     let look = look_paid is_text len (looked_len is_text len) inside.0 refl in
-    let code : IsAtCode state.text.now state.reader = record { stage = at.stands.stage; idle = at.stands.idle; code = at.stands.code } in (
+    let code : IsAtCode state.reader.text.now state.reader = record { stage = at.stands.stage; idle = at.stands.idle; code = at.stands.code } in (
       (
-        at.fits,
+        at.text,
         (λ on. (at.few, at.ahead)),
         at.going,
         (λ on. (
           code,
           omega (arith, inside.1, is, look.most),
           (λ other n again two text.
-              let same = same_word (drop state.reader.at state.text.now) of other len n front again in
+              let same = same_word (drop state.reader.at state.reader.text.now) of other len n front again in
               let plain : is_text ≡ false = sym opener.1 ∙ ap is_text_opener (sym same.0) ∙ text in
               omega (arith, is, look.other plain (omega (arith, two, same.1)), same.1)),
           (paid.0 + ((5 * len - 4) + 3), omega (arith, paid.1, first.2, first.4.0, inside.0, is, look.paid), read),
         )),
-        reached state.text.now state.reader _ state.reader.at _ at.stands.stage at.ahead refl (omega (arith, word_line state.text.now state.reader.at len of (omega (arith, inside.1)) (sym front), is, look.most)),
+        reached state.reader.text.now state.reader _ state.reader.at _ at.stands.stage at.ahead refl (omega (arith, word_line state.reader.text.now state.reader.at len of (omega (arith, inside.1)) (sym front), is, look.most)),
       ),
-      (λ text. word_opened state.text.now state.reader of len to (paid.0 + ((5 * len - 4) + 3)) front (omega (arith, is, look.text text)) (omega (arith, paid.1, first.2, first.4.0, inside.0, is, look.text text)) read),
+      (λ text. word_opened state.reader.text.now state.reader of len to (paid.0 + ((5 * len - 4) + 3)) front (omega (arith, is, look.text text)) (omega (arith, paid.1, first.2, first.4.0, inside.0, is, look.text text)) read),
     )
 
 pub opener_inside : (state : LexerState) (is_text : Bool) (len : ℕ) → IsAtOpener state is_text len → (len < 2 ^ 33) × (state.reader.at + looked_len is_text len ≤ 2 ^ 34)
 opener_inside state is_text len opener =
     let at = opener.2 in
-    let inside = word_inside state.text.now state.reader _ _ opener.0 len at.stands.stage at.ahead (sym at.stands.front) in
+    let inside = word_inside state.reader.text.now state.reader _ _ opener.0 len at.stands.stage at.ahead (sym at.stands.front) in
     let look = look_paid is_text len (looked_len is_text len) inside.0 refl in
-    (omega (arith, inside.1, at.fits), omega (arith, inside.1, at.fits, look.most))
+    (omega (arith, inside.1, at.text.fits), omega (arith, inside.1, at.text.fits, look.most))
 
 -- after a newline that doesn't count it goes on
-pub line_end_passed : (first state : LexerState) (mid new : Reader) (len : ℕ) → IsGoingOn first state → is_nothing state.lookahead ≡ true → IsAtWord (record state { reader = mid }) (record { class = class.LineEnd; len = len })
-    → IsAhead state.text.now new new.stage (left_in state) (outcome state.text.now).fault → IsAtCode state.text.now new → IsTaken len mid new → IsGoingOn first (record state { reader = new })
-line_end_passed first state mid new len on nothing at ahead code taken =
+pub line_end_passed : (first state : LexerState) (mid new : Reader) (len : ℕ) → mid.text ≡ state.reader.text → new.text ≡ mid.text → IsGoingOn first state → is_nothing state.lookahead ≡ true
+    → IsAtWord (record state { reader = mid }) (record { class = class.LineEnd; len = len }) → IsAhead mid.text.now new new.stage (left_in (record state { reader = mid })) (outcome mid.text.now).fault → IsAtCode mid.text.now new → IsTaken len mid new
+    → IsGoingOn first (record state { reader = new })
+line_end_passed first state mid new len same again on nothing at ahead code taken =
+    let text = sym (ap (λ t. t.now) again) in
     let word = at.read in
     let paid = word.3 in
-    let read = taken_reads state.text.now paid.0 len ((5 * len - 4) + 3) len word.0 mid new word.1 paid.2 word.4 (omega (arith)) (omega (arith, taken.0)) (taken.1, taken.2) in (
-      on.0,
+    let read = taken_reads mid.text.now paid.0 len ((5 * len - 4) + 3) len word.0 mid new word.1 paid.2 word.4 (omega (arith)) (omega (arith, taken.0)) (taken.1, taken.2) in (
+      again ∙ same ∙ on.0,
       on.1,
       on.2,
-      (λ going. ahead),
+      (λ going. subst (λ (t : Text). IsAhead t new new.stage (drop state.yielded_count (map shown_lexeme (outcome t).lexemes)) (outcome t).fault) text ahead),
       on.4,
-      (λ going. nothing_kept state.text.now new state.looked_to paid.0 state.lookahead nothing code (omega (arith, word.2, word.4.0, taken.1.0)) (omega (arith, paid.1)) read),
-      on.6,
+      (λ going. subst (λ (t : Text). IsLooked t new state.looked_to state.lookahead) text (nothing_kept mid.text.now new state.looked_to paid.0 state.lookahead nothing code (omega (arith, word.2, word.4.0, taken.1.0)) (omega (arith, paid.1)) read)),
+      rw again at.reach,
       (λ ended. let both : true ≡ false = sym ended ∙ at.going in cc),
     )
 
 -- what was read of a newline that counts, and of the margin after it
-margin_read : (state : LexerState) (len : ℕ) (new : Reader) → IsAtWord state (record { class = class.LineEnd; len = len }) → IsMarginRead state.text.now len state.reader new new.stage → HasSpared state.text.now 0 new state.looked_to
+margin_read : (state : LexerState) (len : ℕ) (new : Reader) → IsAtWord state (record { class = class.LineEnd; len = len }) → IsMarginRead state.reader.text.now len state.reader new new.stage → HasSpared state.reader.text.now 0 new state.looked_to
 margin_read state len new at margin =
     let word = at.read in
     let paid = word.3 in
-    let inside = word_inside state.text.now state.reader _ _ class.LineEnd len at.stands.stage at.ahead (sym at.stands.front) in
-    (paid.0, paid.1, margin_reads state.text.now paid.0 len word.0 state.reader new inside.1 inside.0 word.1 paid.2 word.4 margin)
+    let inside = word_inside state.reader.text.now state.reader _ _ class.LineEnd len at.stands.stage at.ahead (sym at.stands.front) in
+    (paid.0, paid.1, margin_reads state.reader.text.now paid.0 len word.0 state.reader new inside.1 inside.0 word.1 paid.2 word.4 margin)
 
 -- after which lexemes may be pending
-pub pending_newline : (state : LexerState) (len : ℕ) (new : Reader) → IsAtWord state (record { class = class.LineEnd; len = len }) → IsCharBoundary state.text.now (state.reader.at + len) → IsMarginRead state.text.now len state.reader new new.stage
-    → IsAheadAfter state.text.now (newline_if true state.reader.at len) new (left_in state) (outcome state.text.now).fault
+pub pending_newline : (state : LexerState) (len : ℕ) (new : Reader) → new.text ≡ state.reader.text → IsAtWord state (record { class = class.LineEnd; len = len }) → IsCharBoundary state.reader.text.now (state.reader.at + len) → IsMarginRead state.reader.text.now len state.reader new new.stage
+    → IsAheadAfter state.reader.text.now (newline_if true state.reader.at len) new (left_in state) (outcome state.reader.text.now).fault
     → HasPassedNext state (fast.Passed (plain_mark kind.Newline state.reader.at (state.reader.at + len))) (record state { reader = new; yielded_count = state.yielded_count + 1; lookahead = lookahead.All })
-pending_newline state len new at last margin is = record {
-  passed = newline_passed state state state.reader new len (refl, refl) at.fits at.stands.stage at.ahead last is;
-  lexing = past_lexing state _ new lookahead.All at.fits at.going at.reach is (margin_read state len new at margin);
-  after = rw at.going refl;
+pending_newline state len new same at last margin is = record {
+  passed = newline_passed state state state.reader new len (refl, refl) at.text.fits at.stands.stage at.ahead last is;
+  lexing = past_lexing state _ new lookahead.All same at.text at.going at.reach is (margin_read state len new at margin);
+  after = rw (same, at.going) refl;
 }
 
 -- after which none is pending
-pub plain_newline : (state : LexerState) (len : ℕ) (new : Reader) → IsAtWord state (record { class = class.LineEnd; len = len }) → IsCharBoundary state.text.now (state.reader.at + len) → IsMarginRead state.text.now len state.reader new new.stage
-    → (new.stage ≡ stages.Onward) × IsInCode new × ((text : Text) → pending_lexemes text new.pending ≡ []) → IsAheadAfter state.text.now (newline_if true state.reader.at len) new (left_in state) (outcome state.text.now).fault
+pub plain_newline : (state : LexerState) (len : ℕ) (new : Reader) → new.text ≡ state.reader.text → IsAtWord state (record { class = class.LineEnd; len = len }) → IsCharBoundary state.reader.text.now (state.reader.at + len) → IsMarginRead state.reader.text.now len state.reader new new.stage
+    → (new.stage ≡ stages.Onward) × IsInCode new × ((text : Text) → pending_lexemes text new.pending ≡ []) → IsAheadAfter state.reader.text.now (newline_if true state.reader.at len) new (left_in state) (outcome state.reader.text.now).fault
     → HasPassedNext state (fast.Passed (plain_mark kind.Newline state.reader.at (state.reader.at + len))) (record state { reader = new; yielded_count = state.yielded_count + 1 })
-plain_newline state len new at last margin onward is =
-    let laid = subst (IsMarginRead state.text.now len state.reader new) onward.0 margin in
+plain_newline state len new same at last margin onward is =
+    let laid = subst (IsMarginRead state.reader.text.now len state.reader new) onward.0 margin in
     let paid = margin_read state len new at margin in
     let past : state.looked_to ≤ new.at = omega (arith, at.read.2, at.read.4.0, laid.1) in
-    let code : IsAtCode state.text.now new = record { stage = onward.0; idle = (is.2.is_pending, onward.2 state.text.now); code = onward.1 } in
+    let code : IsAtCode state.reader.text.now new = record { stage = onward.0; idle = (is.2.is_pending, onward.2 state.reader.text.now); code = onward.1 } in
     record {
-      passed = newline_passed state state state.reader new len (refl, refl) at.fits at.stands.stage at.ahead last is;
-      lexing = past_lexing state _ new state.lookahead at.fits at.going at.reach is (nothing_kept state.text.now new state.looked_to paid.0 state.lookahead (ap is_nothing at.lookahead) code past (omega (arith, paid.1)) paid.2);
-      after = rw at.going refl;
+      passed = newline_passed state state state.reader new len (refl, refl) at.text.fits at.stands.stage at.ahead last is;
+      lexing = past_lexing state _ new state.lookahead same at.text at.going at.reach is (nothing_kept state.reader.text.now new state.looked_to paid.0 state.lookahead (ap is_nothing at.lookahead) code past (omega (arith, paid.1)) paid.2);
+      after = rw (same, at.going) refl;
     }
 
 -- the margin after a newline has a fault
-pub faulty_margin : (state : LexerState) (len : ℕ) (new : Reader) → IsAtWord state (record { class = class.LineEnd; len = len }) → IsMarginRead state.text.now len state.reader new new.stage
-    → IsAhead state.text.now new new.stage (left_in state) (outcome state.text.now).fault → HasPassedNext state fast.Undecided (record state { reader = new; lookahead = lookahead.All })
-faulty_margin state len new at margin ahead =
+pub faulty_margin : (state : LexerState) (len : ℕ) (new : Reader) → new.text ≡ state.reader.text → IsAtWord state (record { class = class.LineEnd; len = len }) → IsMarginRead state.reader.text.now len state.reader new new.stage
+    → IsAhead state.reader.text.now new new.stage (left_in state) (outcome state.reader.text.now).fault → HasPassedNext state fast.Undecided (record state { reader = new; lookahead = lookahead.All })
+faulty_margin state len new same at margin ahead =
     let none : state.yielded_count + 0 ≡ state.yielded_count = omega (arith) in
-    record { passed = tt; lexing = (at.fits, (λ on. (at.few, ahead)), tt, (λ on. margin_read state len new at margin), at.reach); after = rw (at.going, none) refl }
+    record { passed = tt; lexing = same_lexing state.reader.text.now (record state { reader = new; lookahead = lookahead.All }) (ap (λ t. t.now) same) (at.text, (λ on. (at.few, ahead)), tt, (λ on. margin_read state len new at margin), at.reach); after = rw (same, at.going, none) refl }
 
 -- what the fast path passed after line ends that don't count, it passed of the lexer before them
 pub record HasPassedSince (first : LexerState) (found : FastPath) (new : LexerState) : Type 0 where

@@ -27,8 +27,8 @@ use Rattle.starlark_token.specs.Lexemes.{lexeme_view, shown_lexeme}
 use Rattle.starlark_token.specs.TokenViews.{TokenView}
 use Rattle.starlark_token.specs.declared.tokens.Token.{Token}
 
-pub cut_after : (state : LexerState) (found : Option ℕ) → IsLexing state → state.has_ended ≡ false → IfSome found (λ at. IsCutBefore state.text.now at (length (left_in state)))
-    → IfSome found (IsCutAfter state.text.now state.yielded_count)
+pub cut_after : (state : LexerState) (found : Option ℕ) → IsLexing state → state.has_ended ≡ false → IfSome found (λ at. IsCutBefore state.reader.text.now at (length (left_in state)))
+    → IfSome found (IsCutAfter state.reader.text.now state.yielded_count)
 cut_after state None lexing going before = tt
 cut_after state (Some at) lexing going before = record {
   inside = before.inside;
@@ -37,14 +37,14 @@ cut_after state (Some at) lexing going before = record {
     arith,
     before.count,
     (lexing.1 going).0,
-    length-drop state.yielded_count (map shown_lexeme (outcome state.text.now).lexemes),
-    length-map (outcome state.text.now).lexemes shown_lexeme,
+    length-drop state.yielded_count (map shown_lexeme (outcome state.reader.text.now).lexemes),
+    length-map (outcome state.reader.text.now).lexemes shown_lexeme,
   );
 }
 
 -- What a lexer knows of cuts
 
-known_is : (state : LexerState) → known_cut state ≡ (if not state.has_ended && nat_lt 0 state.yielded_count then reached_cut state.text.now state.reader state.reader.stage state.reader.before else None)
+known_is : (state : LexerState) → known_cut state ≡ (if not state.has_ended && nat_lt 0 state.yielded_count then reached_cut state.reader.text.now state.reader state.reader.stage state.reader.before else None)
 unfolding known_cut
 known_is state = refl
 
@@ -70,30 +70,30 @@ reached_is text reader stages.Onward before.Layout at on layout is = by (reader.
         (((on, layout, parts.0), sym place), omega (arith, first, place), omega (arith, inside, place))
 
 -- the reader has reached each cut that is known
-pub known_reached : (state : LexerState) (at : ℕ) → known_cut state ≡ Some at → (state.has_ended ≡ false) × (IsReached state.reader at × (0 < at) × (at < length state.text.now))
+pub known_reached : (state : LexerState) (at : ℕ) → known_cut state ≡ Some at → (state.has_ended ≡ false) × (IsReached state.reader at × (0 < at) × (at < length state.reader.text.now))
 known_reached state at is = by state.has_ended (nat_lt 0 state.yielded_count) refl (sym (known_is state) ∙ is)
   where
     found : Option ℕ
-    found = reached_cut state.text.now state.reader state.reader.stage state.reader.before
+    found = reached_cut state.reader.text.now state.reader state.reader.stage state.reader.before
 
-    by : (ended some : Bool) → state.has_ended ≡ ended → (if not ended && some then found else None) ≡ Some at → (state.has_ended ≡ false) × (IsReached state.reader at × (0 < at) × (at < length state.text.now))
+    by : (ended some : Bool) → state.has_ended ≡ ended → (if not ended && some then found else None) ≡ Some at → (state.has_ended ≡ false) × (IsReached state.reader at × (0 < at) × (at < length state.reader.text.now))
     by true some e same = cc
     by false false e same = cc
-    by false true e same = (e, reached_is state.text.now state.reader state.reader.stage state.reader.before at refl refl same)
+    by false true e same = (e, reached_is state.reader.text.now state.reader state.reader.stage state.reader.before at refl refl same)
 
 -- each cut that the reader has reached after a lexeme is known
-cut_known : (state : LexerState) (at : ℕ) → state.has_ended ≡ false → 0 < state.yielded_count → IsReached state.reader at → 0 < at → at < length state.text.now → known_cut state ≡ Some at
+cut_known : (state : LexerState) (at : ℕ) → state.has_ended ≡ false → 0 < state.yielded_count → IsReached state.reader at → 0 < at → at < length state.reader.text.now → known_cut state ≡ Some at
 cut_known state at going some reached first inside =
     let place : at ≡ state.reader.pending.from = reached.1 in
     let yielded = lt-ltb 0 state.yielded_count some in
     let after_start = lt-ltb 0 state.reader.pending.from (omega (arith, first, place)) in
-    let before_end = lt-ltb state.reader.pending.from (length state.text.now) (omega (arith, inside, place)) in
+    let before_end = lt-ltb state.reader.pending.from (length state.reader.text.now) (omega (arith, inside, place)) in
     known_is state ∙ rw (going, yielded, reached.0.0, reached.0.1, reached.0.2, after_start, before_end) (ap Some (sym place))
 
 no_cut_yet : (state : LexerState) → state.yielded_count ≡ 0 → known_cut state ≡ None
 no_cut_yet state none = known_is state ∙ rw none (by state.has_ended)
   where
-    by : (ended : Bool) → (if not ended && false then reached_cut state.text.now state.reader state.reader.stage state.reader.before else None) ≡ None
+    by : (ended : Bool) → (if not ended && false then reached_cut state.reader.text.now state.reader state.reader.stage state.reader.before else None) ≡ None
     by true = refl
     by false = refl
 
@@ -105,12 +105,12 @@ fresh_view state text file is =
 
 -- After a lexeme
 
-pub knows_cut : (old new : LexerState) (lexeme : Spanned TokenView) (fault : Option (Spanned Fault)) → IsLexing old → old.has_ended ≡ false → IsAheadPast old.text.now lexeme new.reader (left_in old) fault
-    → new.text.now ≡ old.text.now → new.yielded_count ≡ old.yielded_count + 1 → new.has_ended ≡ false → KnowsCut new.text.now new.yielded_count (known_cut new)
+pub knows_cut : (old new : LexerState) (lexeme : Spanned TokenView) (fault : Option (Spanned Fault)) → IsLexing old → old.has_ended ≡ false → IsAheadPast old.reader.text.now lexeme new.reader (left_in old) fault
+    → new.reader.text.now ≡ old.reader.text.now → new.yielded_count ≡ old.yielded_count + 1 → new.has_ended ≡ false → KnowsCut new.reader.text.now new.yielded_count (known_cut new)
 knows_cut old new lexeme fault lexing going past text count goes = λ at cut.
     let counted = subst (λ (t : Text). length (without_closing (outcome (take at t)).lexemes) ≡ new.yielded_count) text cut.lexemes in
     let left = ap length past.1 in
-    let before : IsCutBefore old.text.now at (length past.0) = record {
+    let before : IsCutBefore old.reader.text.now at (length past.0) = record {
       inside = subst (λ (t : Text). at < length t) text cut.inside;
       is_kept = subst (λ (t : Text). is_kept_cut t at ≡ true) text cut.is_kept;
       count = omega (
@@ -119,16 +119,16 @@ knows_cut old new lexeme fault lexing going past text count goes = λ at cut.
         count,
         left,
         (lexing.1 going).0,
-        length-drop old.yielded_count (map shown_lexeme (outcome old.text.now).lexemes),
-        length-map (outcome old.text.now).lexemes shown_lexeme,
+        length-drop old.yielded_count (map shown_lexeme (outcome old.reader.text.now).lexemes),
+        length-map (outcome old.reader.text.now).lexemes shown_lexeme,
       );
     } in
-    cut_known new at goes (omega (arith, count)) (past.3 at before) (kept_some new.text.now at cut.is_kept) cut.inside
+    cut_known new at goes (omega (arith, count)) (past.3 at before) (kept_some new.reader.text.now at cut.is_kept) cut.inside
 
 pub answers_cut : (old : LexerState) (answer : Option (Result (ℕ × Token × ℕ) (OrMemory (Diagnosed ErrorKind)))) (new : LexerState) → IsLexing old → old.has_ended ≡ false → HasAnswered old answer new
     → view_of new ≡ record (view_of old) { yielded_count = old.yielded_count + yielded_by answer; has_ended = old.has_ended || is_ended_by answer; reads = new.reader.reads }
-    → IfSome answer (λ item. OnOk item (KnowsCut new.text.now new.yielded_count (known_cut new)))
+    → IfSome answer (λ item. OnOk item (KnowsCut new.reader.text.now new.yielded_count (known_cut new)))
 answers_cut old None new lexing going is after = tt
 answers_cut old (Some (Err refused)) new lexing going is after = tt
 answers_cut old (Some (Ok lexeme)) new lexing going is after =
-    knows_cut old new (lexeme_view lexeme) (outcome old.text.now).fault lexing going is (ap (λ (v : StateView). v.text) after) (ap (λ (v : StateView). v.yielded_count) after) (ap (λ (v : StateView). v.has_ended) after ∙ ap (λ b. b || false) going)
+    knows_cut old new (lexeme_view lexeme) (outcome old.reader.text.now).fault lexing going is (ap (λ (v : StateView). v.text) after) (ap (λ (v : StateView). v.yielded_count) after) (ap (λ (v : StateView). v.has_ended) after ∙ ap (λ b. b || false) going)

@@ -8,6 +8,7 @@ use Rattle.starlark_grammar.specs.Tokens.{Fault, Spanned}
 use Rattle.starlark_grammar.specs.declared.class.Class.{Class}
 use Rattle.starlark_token.specs.TokenViews.{TokenView}
 use Rattle.starlark_reader.specs.declared.reader.Stage.TheVariants as stages
+use Rattle.starlark_reader.proofs.TakenPieces.SameTexts.{over_code, over_reads}
 use Rattle.starlark_reader.proofs.TakenPieces.CodePlaces.{word_class, word_len, word_some}
 use Rattle.starlark_reader.proofs.TakenPieces.PieceTaken.{left_onward}
 use Rattle.starlark_grammar.specs.Words.{Text, class_in, language, line_ends, names, openers, symbols}
@@ -35,6 +36,12 @@ pub goes_on : (it : Lookahead) (has_ended : Bool) → has_ended ≡ false → Go
 goes_on lookahead.Nothing has_ended e = e
 goes_on lookahead.Front has_ended e = e
 goes_on lookahead.All has_ended e = tt
+
+-- the reader may borrow another text
+pub over_looked : (text : Text) (reader over : Reader) (to : ℕ) (it : Lookahead) → IsLooked text reader to it → IsLooked text (record reader { text = over.text }) to it
+over_looked text reader over to lookahead.Nothing is = (over_code text reader over is.0, is.1, (is.2.0, is.2.1, over_reads text reader over is.2.0 reader.stage is.2.2))
+over_looked text reader over to lookahead.Front is = (over_code text reader over is.0, is.1, is.2, (is.3.0, is.3.1, over_reads text reader over is.3.0 reader.stage is.3.2))
+over_looked text reader over to lookahead.All is = (is.0, is.1, over_reads text reader over is.0 reader.stage is.2)
 
 -- what each test tells
 pub nothing_looked : (text : Text) (reader : Reader) (to : ℕ) (has_ended : Bool) (it : Lookahead) → is_nothing it ≡ true → GoesOn it has_ended → (has_ended ≡ false → IsLooked text reader to it)

@@ -11,7 +11,7 @@ use Rattle.starlark_grammar.specs.Reading.{outcome}
 use Rattle.starlark_reader.specs.Inner.Reader.{IsAhead}
 use Rattle.starlark_syntax.specs.Inner.LexerStates.{HasAnswered, HasGivenNext, HasThrown, IsLexing, IsLexingIn, StateView, has_fault, left_in, view_of}
 use Rattle.starlark_syntax.specs.Inner.Looked.{GoesOn, IsInReach, IsLooked}
-use Rattle.starlark_reader.specs.Inner.Reader.{IsAtEnd, IsLeft, IsOver, IsRaw, IsSomething, is_fault}
+use Rattle.starlark_reader.specs.Inner.Reader.{IsAtEnd, IsLeft, IsOver, IsRaw, IsSomething, IsSound, is_fault}
 use Rattle.starlark_reader.proofs.TakenPieces.NextLexeme.{nothing_next}
 use Rattle.starlark_reader.proofs.NextLines.{restart_inside}
 use Rattle.starlark_reader.specs.Inner.ReadBounds.{HasReadAt}
@@ -33,12 +33,20 @@ use Rattle.starlark_token.specs.Lexemes.{IsWithin, shown_lexeme}
 use Rattle.starlark_token.specs.TextItems.{LexerItem, items}
 use Rattle.starlark_token.specs.declared.tokens.Token.{Token}
 
+-- a state that lexes a text, which its reader has
+pub same_lexing : (text : Text) (state : LexerState) → state.reader.text.now ≡ text → IsLexingIn text state → IsLexing state
+same_lexing text state same lexing = subst (λ (t : Text). IsLexingIn t state) (sym same) lexing
+
+-- its reader is as a call needs it
+pub lexing_sound : (state : LexerState) → IsLexing state → state.has_ended ≡ false → IsSound state.reader
+lexing_sound state lexing going = record { text = lexing.0; ready = (_, _, (lexing.1 going).1) }
+
 -- what holds after each line end that was passed
 abbrev pub IsGoingOn : LexerState → LexerState → Type 0
 IsGoingOn first now =
-    (now.text ≡ first.text) × (now.yielded_count ≡ first.yielded_count) × (now.has_ended ≡ first.has_ended)
-    × (now.has_ended ≡ false → IsAhead now.text.now now.reader now.reader.stage (left_in now) (outcome now.text.now).fault)
-    × GoesOn now.lookahead now.has_ended × (now.has_ended ≡ false → IsLooked now.text.now now.reader now.looked_to now.lookahead) × IsInReach now.text.now now.looked_to
+    (now.reader.text ≡ first.reader.text) × (now.yielded_count ≡ first.yielded_count) × (now.has_ended ≡ first.has_ended)
+    × (now.has_ended ≡ false → IsAhead now.reader.text.now now.reader now.reader.stage (left_in now) (outcome now.reader.text.now).fault)
+    × GoesOn now.lookahead now.has_ended × (now.has_ended ≡ false → IsLooked now.reader.text.now now.reader now.looked_to now.lookahead) × IsInReach now.reader.text.now now.looked_to
     × (now.has_ended ≡ true → now ≡ first)
 
 pub lexing_on : (first now : LexerState) → IsLexing first → IsGoingOn first now → IsLexing now
@@ -47,9 +55,9 @@ lexing_on first now lexing on =
 
 -- the text and the number of yielded items are the same
 abbrev pub IsSameText : LexerState → LexerState → Type 0
-IsSameText first now = (now.text.now ≡ first.text.now) × (now.yielded_count ≡ first.yielded_count)
+IsSameText first now = (now.reader.text.now ≡ first.reader.text.now) × (now.yielded_count ≡ first.yielded_count)
 
-pub same_text : (first mid now : LexerState) → IsGoingOn first mid → now.text ≡ mid.text → now.yielded_count ≡ mid.yielded_count → IsSameText first now
+pub same_text : (first mid now : LexerState) → IsGoingOn first mid → now.reader.text ≡ mid.reader.text → now.yielded_count ≡ mid.yielded_count → IsSameText first now
 same_text first mid now on text count = (rw (text, on.0) refl, count ∙ on.1)
 
 pub answered_same : (first now : LexerState) (answer : Option (Result (ℕ × Token × ℕ) (OrMemory (Diagnosed ErrorKind)))) (new : LexerState) → IsSameText first now → HasAnswered now answer new → HasAnswered first answer new
@@ -66,22 +74,22 @@ or_false true = refl
 or_false false = refl
 
 -- what is answered is the next item of the text
-pub answers_item : (file : SourceFile) (state : LexerState) (answer : Option (Result (ℕ × Token × ℕ) (OrMemory (Diagnosed ErrorKind)))) (new : LexerState) → is_some answer ≡ true → state.yielded_count ≤ length (outcome state.text.now).lexemes → HasAnswered state answer new
-    → AnswersNext file (slice_get (items state.text.now) state.yielded_count) answer
+pub answers_item : (file : SourceFile) (state : LexerState) (answer : Option (Result (ℕ × Token × ℕ) (OrMemory (Diagnosed ErrorKind)))) (new : LexerState) → is_some answer ≡ true → state.yielded_count ≤ length (outcome state.reader.text.now).lexemes → HasAnswered state answer new
+    → AnswersNext file (slice_get (items state.reader.text.now) state.yielded_count) answer
 answers_item file state None new some few is = cc
-answers_item file state (Some (Ok lexeme)) new some few is = rw (lexeme_item state.text.now state.yielded_count _ is.0 is.1) refl
+answers_item file state (Some (Ok lexeme)) new some few is = rw (lexeme_item state.reader.text.now state.yielded_count _ is.0 is.1) refl
 answers_item file state (Some (Err (Error exception))) new some few is = absurd is
-answers_item file state (Some (Err Memory)) new some few is = let item = some_item state.text.now state.yielded_count few is in rw item.1 tt
+answers_item file state (Some (Err Memory)) new some few is = let item = some_item state.reader.text.now state.yielded_count few is in rw item.1 tt
 
 -- and lies in it
-pub answers_within : (state : LexerState) (answer : Option (Result (ℕ × Token × ℕ) (OrMemory (Diagnosed ErrorKind)))) (new : LexerState) → is_some answer ≡ true → length state.text.now < 2 ^ 32 → HasAnswered state answer new → AnswersWithin state.text.now answer
+pub answers_within : (state : LexerState) (answer : Option (Result (ℕ × Token × ℕ) (OrMemory (Diagnosed ErrorKind)))) (new : LexerState) → is_some answer ≡ true → length state.reader.text.now < 2 ^ 32 → HasAnswered state answer new → AnswersWithin state.reader.text.now answer
 answers_within state None new some short is = tt
-answers_within state (Some (Ok lexeme)) new some short is = lexeme_within state.text.now state.yielded_count _ is.0 short is.1
+answers_within state (Some (Ok lexeme)) new some short is = lexeme_within state.reader.text.now state.yielded_count _ is.0 short is.1
 answers_within state (Some (Err (Error exception))) new some short is = absurd is
 answers_within state (Some (Err Memory)) new some short is = tt
 
 -- where there is out of memory, something was left
-pub refused_something : (state : LexerState) (refused : OrMemory (Diagnosed ErrorKind)) (new : LexerState) → HasAnswered state (Some (Err refused)) new → IsSomething (left_in state) (outcome state.text.now).fault
+pub refused_something : (state : LexerState) (refused : OrMemory (Diagnosed ErrorKind)) (new : LexerState) → HasAnswered state (Some (Err refused)) new → IsSomething (left_in state) (outcome state.reader.text.now).fault
 refused_something state (Error exception) new is = absurd is
 refused_something state Memory new is = is
 
@@ -91,27 +99,27 @@ pub none_same : (old : LexerState) (answer : Option (Result (ℕ × Token × ℕ
 none_same old None new none after = ((ap (λ (v : StateView). v.text) after, omega (arith, ap (λ (v : StateView). v.yielded_count) after)), ap (λ (v : StateView). v.has_ended) after ∙ or_false old.has_ended)
 none_same old (Some answer) new none after = cc
 
-pub none_at_end : (old : LexerState) (answer : Option (Result (ℕ × Token × ℕ) (OrMemory (Diagnosed ErrorKind)))) (new : LexerState) → is_some answer ≡ false → new.text.now ≡ old.text.now → HasAnswered old answer new → IsAtEnd new.text.now new.reader
+pub none_at_end : (old : LexerState) (answer : Option (Result (ℕ × Token × ℕ) (OrMemory (Diagnosed ErrorKind)))) (new : LexerState) → is_some answer ≡ false → new.reader.text.now ≡ old.reader.text.now → HasAnswered old answer new → IsAtEnd new.reader.text.now new.reader
 none_at_end old None new none same is = subst (λ (t : Text). IsAtEnd t new.reader) (sym same) is
 none_at_end old (Some answer) new none same is = cc
 
 -- what is said of a state, said of one with the same text and number of items
-pub moved_item : {A : Type 0} (P : Option LexerItem → A → Type 0) (old mid : LexerState) (answer : A) → IsSameText old mid → P (slice_get (items mid.text.now) mid.yielded_count) answer → P (slice_get (items old.text.now) old.yielded_count) answer
+pub moved_item : {A : Type 0} (P : Option LexerItem → A → Type 0) (old mid : LexerState) (answer : A) → IsSameText old mid → P (slice_get (items mid.reader.text.now) mid.yielded_count) answer → P (slice_get (items old.reader.text.now) old.yielded_count) answer
 moved_item P old mid answer same is = rw (same.0, same.1) at is
 
 -- so is the exception that is thrown after the last lexeme
-pub thrown_item : (file : SourceFile) (state : LexerState) (refused : OrMemory (Diagnosed ErrorKind)) (new : LexerState) → state.yielded_count ≤ length (outcome state.text.now).lexemes → HasThrown file state refused new
-    → AnswersNext file (slice_get (items state.text.now) state.yielded_count) (Some (Err refused))
-thrown_item file state (Error exception) new few is = rw (fault_item state.text.now state.yielded_count is.0 few is.1.none is.1.has) is.2
-thrown_item file state Memory new few is = let item = some_item state.text.now state.yielded_count few is in rw item.1 tt
+pub thrown_item : (file : SourceFile) (state : LexerState) (refused : OrMemory (Diagnosed ErrorKind)) (new : LexerState) → state.yielded_count ≤ length (outcome state.reader.text.now).lexemes → HasThrown file state refused new
+    → AnswersNext file (slice_get (items state.reader.text.now) state.yielded_count) (Some (Err refused))
+thrown_item file state (Error exception) new few is = rw (fault_item state.reader.text.now state.yielded_count is.0 few is.1.none is.1.has) is.2
+thrown_item file state Memory new few is = let item = some_item state.reader.text.now state.yielded_count few is in rw item.1 tt
 
-pub thrown_within : (file : SourceFile) (state : LexerState) (refused : OrMemory (Diagnosed ErrorKind)) (new : LexerState) → length state.text.now < 2 ^ 32 → HasThrown file state refused new → AnswersWithin state.text.now (Some (Err refused))
+pub thrown_within : (file : SourceFile) (state : LexerState) (refused : OrMemory (Diagnosed ErrorKind)) (new : LexerState) → length state.reader.text.now < 2 ^ 32 → HasThrown file state refused new → AnswersWithin state.reader.text.now (Some (Err refused))
 thrown_within file state (Error exception) new short is =
-    let inside = fault_within state.text.now is.0 is.1.has in
-    subst (λ (d : Diagnosed ErrorKind). IfSome d.span (λ place. IsWithin state.text.now place.span.begin place.span.end)) (sym is.2.2) (inside.0, inside.1, short)
+    let inside = fault_within state.reader.text.now is.0 is.1.has in
+    subst (λ (d : Diagnosed ErrorKind). IfSome d.span (λ place. IsWithin state.reader.text.now place.span.begin place.span.end)) (sym is.2.2) (inside.0, inside.1, short)
 thrown_within file state Memory new short is = tt
 
-pub thrown_read : (file : SourceFile) (state : LexerState) (refused : OrMemory (Diagnosed ErrorKind)) (new : LexerState) → HasThrown file state refused new → HasReadFor state.text.now (Some (Err refused)) new.reader.reads
+pub thrown_read : (file : SourceFile) (state : LexerState) (refused : OrMemory (Diagnosed ErrorKind)) (new : LexerState) → HasThrown file state refused new → HasReadFor state.reader.text.now (Some (Err refused)) new.reader.reads
 thrown_read file state (Error exception) new is = (is.1.most, is.1.reads)
 thrown_read file state Memory new is = tt
 
@@ -140,45 +148,45 @@ lexing_read_in text state lexing going =
     let paid = spared text state.reader state.looked_to state.lookahead (lexing.3 going) in
     read_at text state.reader state.looked_to paid.0 ahead.left lexing.4.inside (omega (arith, paid.1)) state.reader.stage ahead.is_left paid.2
 
-pub lexing_read : (state : LexerState) → IsLexing state → state.has_ended ≡ false → state.reader.reads ≤ most_reads state.text.now
-lexing_read state lexing going = lexing_read_in state.text.now state lexing going
+pub lexing_read : (state : LexerState) → IsLexing state → state.has_ended ≡ false → state.reader.reads ≤ most_reads state.reader.text.now
+lexing_read state lexing going = lexing_read_in state.reader.text.now state lexing going
 
 -- so it is after each call that doesn't run out of memory
 pub answers_read : (old : LexerState) (answer : Option (Result (ℕ × Token × ℕ) (OrMemory (Diagnosed ErrorKind)))) (new : LexerState) → is_some answer ≡ true → old.has_ended ≡ false → HasAnswered old answer new → IsLexing new
-    → view_of new ≡ record (view_of old) { yielded_count = old.yielded_count + yielded_by answer; has_ended = old.has_ended || is_ended_by answer; reads = new.reader.reads } → HasReadFor old.text.now answer new.reader.reads
+    → view_of new ≡ record (view_of old) { yielded_count = old.yielded_count + yielded_by answer; has_ended = old.has_ended || is_ended_by answer; reads = new.reader.reads } → HasReadFor old.reader.text.now answer new.reader.reads
 answers_read old None new some going is lexing after = cc
 answers_read old (Some (Ok lexeme)) new some going is lexing after =
-    let text : new.text.now ≡ old.text.now = ap (λ (v : StateView). v.text) after in
+    let text : new.reader.text.now ≡ old.reader.text.now = ap (λ (v : StateView). v.text) after in
     let goes : new.has_ended ≡ false = ap (λ (v : StateView). v.has_ended) after ∙ ap (λ b. b || false) going in
     subst (λ (t : Text). new.reader.reads ≤ most_reads t) text (lexing_read new lexing goes)
 answers_read old (Some (Err (Error exception))) new some going is lexing after = absurd is
 answers_read old (Some (Err Memory)) new some going is lexing after = tt
 
 -- At the end, where no fault was reached, nothing is left, and each byte was read.
-pub at_end : (state : LexerState) → IsLexing state → state.has_ended ≡ false → IsAtEnd state.text.now state.reader → has_fault state ≡ false
-    → (left_in state ≡ []) × ((outcome state.text.now).fault ≡ None) × (length state.text.now ≤ state.reader.reads)
+pub at_end : (state : LexerState) → IsLexing state → state.has_ended ≡ false → IsAtEnd state.reader.text.now state.reader → has_fault state ≡ false
+    → (left_in state ≡ []) × ((outcome state.reader.text.now).fault ≡ None) × (length state.reader.text.now ≤ state.reader.reads)
 at_end state lexing going end none = by state.reader.stage refl end.1 (sym (ap (λ ended. not ended && is_fault state.reader.stage) going) ∙ none)
   where
-    by : (now : Stage) → state.reader.stage ≡ now → IsOver now → is_fault now ≡ false → (left_in state ≡ []) × ((outcome state.text.now).fault ≡ None) × (length state.text.now ≤ state.reader.reads)
+    by : (now : Stage) → state.reader.stage ≡ now → IsOver now → is_fault now ≡ false → (left_in state ≡ []) × ((outcome state.reader.text.now).fault ≡ None) × (length state.reader.text.now ≤ state.reader.reads)
     by stages.Begin e over h = absurd over
     by stages.Onward e over h = absurd over
     by (stages.Fault begin fault last) e over h = cc
     by stages.Closed e over h =
-        let last = nothing_next state.text.now state.reader state.reader (left_in state) (outcome state.text.now).fault (record { at = refl; nesting = refl; levels = refl; before = refl }) end.0 refl e e (lexing.1 going).1 in
-        let paid = spared state.text.now state.reader state.looked_to state.lookahead (lexing.3 going) in
-        let read = subst (HasReadAt state.text.now paid.0 state.reader) e paid.2 in
-        (last.0, last.1, omega (arith, read.0, lexing.0))
+        let last = nothing_next state.reader.text.now state.reader state.reader (left_in state) (outcome state.reader.text.now).fault (record { at = refl; nesting = refl; levels = refl; before = refl }) end.0 refl e e (lexing.1 going).1 in
+        let paid = spared state.reader.text.now state.reader state.looked_to state.lookahead (lexing.3 going) in
+        let read = subst (HasReadAt state.reader.text.now paid.0 state.reader) e paid.2 in
+        (last.0, last.1, omega (arith, read.0, lexing.0.fits))
 
 -- So nothing more is answered.
 pub ends_here : (file : SourceFile) (old : LexerState) (answer : Option (Result (ℕ × Token × ℕ) (OrMemory (Diagnosed ErrorKind)))) (new : LexerState) → is_some answer ≡ false → IsLexing new → old.has_ended ≡ false → HasAnswered old answer new
     → view_of new ≡ record (view_of old) { yielded_count = old.yielded_count + yielded_by answer; has_ended = old.has_ended || is_ended_by answer; reads = new.reader.reads } → has_fault new ≡ false
-    → AnswersNext file (slice_get (items old.text.now) old.yielded_count) answer × HasReadFor old.text.now answer new.reader.reads
+    → AnswersNext file (slice_get (items old.reader.text.now) old.yielded_count) answer × HasReadFor old.reader.text.now answer new.reader.reads
 ends_here file old (Some answer) new none lexing going is after faultless = cc
 ends_here file old None new none lexing going is after faultless =
     let same = none_same old None new none after in
     let goes = same.1 ∙ going in
     let last = at_end new lexing goes (none_at_end old None new none same.0.0 is) faultless in
-    let item = nothing_item new.text.now new.yielded_count (lexing.1 goes).0 last.0 last.1 in (
+    let item = nothing_item new.reader.text.now new.yielded_count (lexing.1 goes).0 last.0 last.1 in (
       moved_item {A = Option (Result (ℕ × Token × ℕ) (OrMemory (Diagnosed ErrorKind)))} (AnswersNext file) old new None same.0 (rw item tt),
       (omega (arith, last.2, ap length same.0.0), omega (arith, lexing_read new lexing goes, ap length same.0.0)),
     )

@@ -72,13 +72,13 @@ pub past_something : (text : Text) (lexeme : Spanned TokenView) (reader : Reader
 past_something text lexeme reader lexemes fault past none whole = let both : lexeme ∷ past.0 ≡ [] = sym past.1 ∙ none in cc
 
 -- what is made of a plain lexeme is an answer
-pub taken_answer : (old mid : LexerState) (plain : PlainLexeme) (answer : Option (Result (ℕ × Token × ℕ) (OrMemory (Diagnosed ErrorKind)))) (new : LexerState) → HasPassed old (fast.Passed plain) mid → mid.text.now ≡ old.text.now → HasTaken mid plain answer new → HasAnswered old answer new
+pub taken_answer : (old mid : LexerState) (plain : PlainLexeme) (answer : Option (Result (ℕ × Token × ℕ) (OrMemory (Diagnosed ErrorKind)))) (new : LexerState) → HasPassed old (fast.Passed plain) mid → mid.reader.text.now ≡ old.reader.text.now → HasTaken mid plain answer new → HasAnswered old answer new
 taken_answer old mid plain None new passed text taken = absurd taken
 taken_answer old mid plain (Some (Ok lexeme)) new passed text taken =
     subst (λ (state : LexerState). HasAnswered old (Some (Ok lexeme)) state) (sym taken.1)
-    (subst (λ (view : Spanned TokenView). IsAheadPast old.text.now view mid.reader (left_in old) (outcome old.text.now).fault) (sym (taken.0 ∙ ap (λ (t : Text). plain_view t plain) text)) passed.1)
+    (subst (λ (view : Spanned TokenView). IsAheadPast old.reader.text.now view mid.reader (left_in old) (outcome old.reader.text.now).fault) (sym (taken.0 ∙ ap (λ (t : Text). plain_view t plain) text)) passed.1)
 taken_answer old mid plain (Some (Err (Error exception))) new passed text taken = absurd taken
-taken_answer old mid plain (Some (Err Memory)) new passed text taken = past_something old.text.now (plain_view old.text.now plain) mid.reader (left_in old) (outcome old.text.now).fault passed.1
+taken_answer old mid plain (Some (Err Memory)) new passed text taken = past_something old.reader.text.now (plain_view old.reader.text.now plain) mid.reader (left_in old) (outcome old.reader.text.now).fault passed.1
 
 pub taken_lexing : (mid : LexerState) (plain : PlainLexeme) (answer : Option (Result (ℕ × Token × ℕ) (OrMemory (Diagnosed ErrorKind)))) (new : LexerState) → IsLexing mid → HasTaken mid plain answer new → IsLexing new
 taken_lexing mid plain None new lexing taken = absurd taken
@@ -94,12 +94,12 @@ passed_same first now fast.Undecided new same is = is
 passed_same first now fast.OutOfMemory new same is = rw (same.0, same.1) at is
 
 -- a name was passed, where the text and the number of items are those before
-pub name_passed : (first state : LexerState) (mid new : Reader) (len : ℕ) → IsSameText first state → length state.text.now < 2 ^ 32 → mid.stage ≡ stages.Onward → new.stage ≡ stages.Onward → IsAhead state.text.now mid mid.stage (left_in state) (outcome state.text.now).fault
-    → new.at ≡ mid.at + len → IsAheadPast state.text.now (name_lexeme state.text.now mid.at len) new (left_in state) (outcome state.text.now).fault
-    → IsPlainIn first.text.now (record { kind = kind.Identifier; begin = mid.at; end = new.at; value_begin = mid.at; value_end = new.at })
-    × IsAheadPast first.text.now (plain_view first.text.now (record { kind = kind.Identifier; begin = mid.at; end = new.at; value_begin = mid.at; value_end = new.at })) new (left_in first) (outcome first.text.now).fault
+pub name_passed : (first state : LexerState) (mid new : Reader) (len : ℕ) → IsSameText first state → length state.reader.text.now < 2 ^ 32 → mid.stage ≡ stages.Onward → new.stage ≡ stages.Onward → IsAhead state.reader.text.now mid mid.stage (left_in state) (outcome state.reader.text.now).fault
+    → new.at ≡ mid.at + len → IsAheadPast state.reader.text.now (name_lexeme state.reader.text.now mid.at len) new (left_in state) (outcome state.reader.text.now).fault
+    → IsPlainIn first.reader.text.now (record { kind = kind.Identifier; begin = mid.at; end = new.at; value_begin = mid.at; value_end = new.at })
+    × IsAheadPast first.reader.text.now (plain_view first.reader.text.now (record { kind = kind.Identifier; begin = mid.at; end = new.at; value_begin = mid.at; value_end = new.at })) new (left_in first) (outcome first.reader.text.now).fault
 name_passed first state mid new len same short on onward ahead at is =
-    let text = state.text.now in
+    let text = state.reader.text.now in
     let front = reader_boundary text mid (left_in state) (outcome text).fault on ahead in
     let last = reader_boundary text new is.0 (outcome text).fault onward is.2 in
     let past = subst (λ (view : Spanned TokenView). IsAheadPast text view new (left_in state) (outcome text).fault) (name_shown text mid.at len new.at at) is in
@@ -108,26 +108,26 @@ name_passed first state mid new len same short on onward ahead at is =
     rw (same.0, same.1) at both
 
 -- a newline was passed
-pub newline_passed : (first state : LexerState) (mid new : Reader) (len : ℕ) → IsSameText first state → length state.text.now < 2 ^ 32 → mid.stage ≡ stages.Onward → IsAhead state.text.now mid mid.stage (left_in state) (outcome state.text.now).fault
-    → IsCharBoundary state.text.now (mid.at + len) → IsAheadAfter state.text.now (newline_if true mid.at len) new (left_in state) (outcome state.text.now).fault
-    → IsPlainIn first.text.now (record { kind = kind.Newline; begin = mid.at; end = mid.at + len; value_begin = mid.at + len; value_end = mid.at + len })
-    × IsAheadPast first.text.now (plain_view first.text.now (record { kind = kind.Newline; begin = mid.at; end = mid.at + len; value_begin = mid.at + len; value_end = mid.at + len })) new (left_in first) (outcome first.text.now).fault
+pub newline_passed : (first state : LexerState) (mid new : Reader) (len : ℕ) → IsSameText first state → length state.reader.text.now < 2 ^ 32 → mid.stage ≡ stages.Onward → IsAhead state.reader.text.now mid mid.stage (left_in state) (outcome state.reader.text.now).fault
+    → IsCharBoundary state.reader.text.now (mid.at + len) → IsAheadAfter state.reader.text.now (newline_if true mid.at len) new (left_in state) (outcome state.reader.text.now).fault
+    → IsPlainIn first.reader.text.now (record { kind = kind.Newline; begin = mid.at; end = mid.at + len; value_begin = mid.at + len; value_end = mid.at + len })
+    × IsAheadPast first.reader.text.now (plain_view first.reader.text.now (record { kind = kind.Newline; begin = mid.at; end = mid.at + len; value_begin = mid.at + len; value_end = mid.at + len })) new (left_in first) (outcome first.reader.text.now).fault
 unfolding token_view
 newline_passed first state mid new len same short on ahead last is =
-    let text = state.text.now in
+    let text = state.reader.text.now in
     let front = reader_boundary text mid (left_in state) (outcome text).fault on ahead in
     let both : IsPlainIn text (record { kind = kind.Newline; begin = mid.at; end = mid.at + len; value_begin = mid.at + len; value_end = mid.at + len }) × IsAheadPast text (plain_view text (record { kind = kind.Newline; begin = mid.at; end = mid.at + len; value_begin = mid.at + len; value_end = mid.at + len })) new (left_in state) (outcome text).fault =
     (plain_inside text kind.Newline mid.at (mid.at + len) (mid.at + len) (mid.at + len) short (omega (arith)) (omega (arith)) front last last last, is) in
     rw (same.0, same.1) at both
 
 -- a keyword or symbol lies in the text
-pub symbol_inside : (state : LexerState) (lexeme : ℕ × Token × ℕ) (new : LexerState) (plain : PlainLexeme) → length state.text.now < 2 ^ 32 → state.yielded_count ≤ length (outcome state.text.now).lexemes → IsUtf8 state.text.now
-    → HasAnswered state (Some (Ok lexeme)) new → plain ≡ record { kind = plain.kind; begin = lexeme.0; end = lexeme.2; value_begin = lexeme.2; value_end = lexeme.2 } → IsPlainIn state.text.now plain
+pub symbol_inside : (state : LexerState) (lexeme : ℕ × Token × ℕ) (new : LexerState) (plain : PlainLexeme) → length state.reader.text.now < 2 ^ 32 → state.yielded_count ≤ length (outcome state.reader.text.now).lexemes → IsUtf8 state.reader.text.now
+    → HasAnswered state (Some (Ok lexeme)) new → plain ≡ record { kind = plain.kind; begin = lexeme.0; end = lexeme.2; value_begin = lexeme.2; value_end = lexeme.2 } → IsPlainIn state.reader.text.now plain
 symbol_inside state lexeme new plain short few utf8 is places =
-    let item = lexeme_item state.text.now state.yielded_count _ is.0 is.1 in
+    let item = lexeme_item state.reader.text.now state.yielded_count _ is.0 is.1 in
     let within = answers_within state (Some (Ok lexeme)) new refl short is in
-    let between = given_between state.text.now state.yielded_count (lexeme_view lexeme) utf8 item in
-    subst (IsPlainIn state.text.now) (sym places) (plain_inside state.text.now plain.kind lexeme.0 lexeme.2 lexeme.2 lexeme.2 short within.0 (omega (arith)) between.0 between.1 between.1 between.1)
+    let between = given_between state.reader.text.now state.yielded_count (lexeme_view lexeme) utf8 item in
+    subst (IsPlainIn state.reader.text.now) (sym places) (plain_inside state.reader.text.now plain.kind lexeme.0 lexeme.2 lexeme.2 lexeme.2 short within.0 (omega (arith)) between.0 between.1 between.1 between.1)
 
 pub symbol_shown : (text : Text) (lexeme : ℕ × Token × ℕ) (plain : PlainLexeme) → token_view lexeme.1 ≡ Whole (token_of plain.kind (plain_value text plain)) → plain ≡ record { kind = plain.kind; begin = lexeme.0; end = lexeme.2; value_begin = lexeme.2; value_end = lexeme.2 }
     → lexeme_view lexeme ≡ plain_view text plain
@@ -137,16 +137,16 @@ symbol_shown text lexeme plain token places =
     ∙ ap (λ n. record { begin = plain.begin; node = Whole (plain_token text plain); end = n }) (sym (ap (λ (p : PlainLexeme). p.end) places))
 
 -- a lexeme without a value was passed
-mark_told : (state : LexerState) (it : PlainKind) (lexeme : ℕ × Token × ℕ) (new : LexerState) → length state.text.now < 2 ^ 32 → state.yielded_count ≤ length (outcome state.text.now).lexemes → IsUtf8 state.text.now
+mark_told : (state : LexerState) (it : PlainKind) (lexeme : ℕ × Token × ℕ) (new : LexerState) → length state.reader.text.now < 2 ^ 32 → state.yielded_count ≤ length (outcome state.reader.text.now).lexemes → IsUtf8 state.reader.text.now
     → ((value : Text) → token_view lexeme.1 ≡ Whole (token_of it value)) → HasAnswered state (Some (Ok lexeme)) new → HasPassed state (fast.Passed (plain_mark it lexeme.0 lexeme.2)) new
 mark_told state it lexeme new short few utf8 token is =
     let plain = plain_mark it lexeme.0 lexeme.2 in (
       symbol_inside state lexeme new plain short few utf8 is refl,
-      subst (λ (view : Spanned TokenView). IsAheadPast state.text.now view new.reader (left_in state) (outcome state.text.now).fault) (symbol_shown state.text.now lexeme plain (token _) refl) is,
+      subst (λ (view : Spanned TokenView). IsAheadPast state.reader.text.now view new.reader (left_in state) (outcome state.reader.text.now).fault) (symbol_shown state.reader.text.now lexeme plain (token _) refl) is,
     )
 
 -- a pending token was passed
-pub mark_passed : (state : LexerState) (it : Waiting) (lexeme : ℕ × Token × ℕ) (new : LexerState) → length state.text.now < 2 ^ 32 → state.yielded_count ≤ length (outcome state.text.now).lexemes → IsUtf8 state.text.now
+pub mark_passed : (state : LexerState) (it : Waiting) (lexeme : ℕ × Token × ℕ) (new : LexerState) → length state.reader.text.now < 2 ^ 32 → state.yielded_count ≤ length (outcome state.reader.text.now).lexemes → IsUtf8 state.reader.text.now
     → IsOfMark it (token_view lexeme.1) → HasAnswered state (Some (Ok lexeme)) new → HasPassed state (passed_as it lexeme.0 lexeme.2) new
 mark_passed state waiting.Nothing lexeme new short few utf8 token is = absurd token
 mark_passed state waiting.FStringText lexeme new short few utf8 token is = absurd token
@@ -200,5 +200,5 @@ passed_going old found new other ended = by old.has_ended refl
     by false is = is
 
 -- what was read to pass a lexeme
-pub passed_reads : (old new : LexerState) → IsLexing new → old.has_ended ≡ false → new.text.now ≡ old.text.now → new.has_ended ≡ (old.has_ended || false) → new.reader.reads ≤ most_reads old.text.now
+pub passed_reads : (old new : LexerState) → IsLexing new → old.has_ended ≡ false → new.reader.text.now ≡ old.reader.text.now → new.has_ended ≡ (old.has_ended || false) → new.reader.reads ≤ most_reads old.reader.text.now
 passed_reads old new lexing going text goes = subst (λ (t : Text). new.reader.reads ≤ most_reads t) text (lexing_read new lexing (goes ∙ ap (λ b. b || false) going))

@@ -33,6 +33,10 @@ use Rattle.starlark_grammar.specs.Reading.{outcome}
 use Rattle.starlark_grammar.specs.Tokens.{Fault, Lexeme, Spanned, moved}
 use Rattle.starlark_grammar.specs.Words.{Text}
 use Rattle.starlark_reader.specs.Inner.Reader.{IsSomething}
+use Rattle.starlark_reader.proofs.TakenPieces.SameTexts.{over_ahead, over_state}
+use Rattle.starlark_reader.specs.Inner.Reader.{IsText, history_of}
+use Rattle.starlark_reader.specs.declared.reader.Reader.{Reader}
+use Rattle.starlark_syntax.proofs.LexerReads.{over_looked}
 use Rattle.starlark_syntax.specs.Inner.LexerStates.{HasFound, IsAtFault, IsBegun, IsLexing, IsLexingIn, StateView}
 use Rattle.starlark_syntax.specs.Lexer.{HasReadToFault, most_reads}
 use Rattle.starlark_syntax.specs.declared.lexer_state.LexerState.{LexerState}
@@ -45,23 +49,32 @@ use Rattle.starlark_token.specs.declared.tokens.Token.{Token}
 
 -- A state that was lent another text
 
-pub lent_lexing : (part : Text) (old lent over : LexerState) → over ≡ record lent { text = over.text } → lent ≡ old → over.text.now ≡ part → IsLexingIn part old → IsLexing over
+over_lexing : (part : Text) (old : LexerState) (over : Reader) → IsLexingIn part old → IsLexingIn part (record old { reader = record old.reader { text = over.text } })
+over_lexing part old over lexing = (
+  lexing.0,
+  (λ on. ((lexing.1 on).0, over_ahead part old.reader over old.reader.stage _ _ (lexing.1 on).1)),
+  lexing.2,
+  (λ on. over_looked part old.reader over old.looked_to old.lookahead (lexing.3 on)),
+  lexing.4,
+)
+
+pub lent_lexing : (part : Text) (old lent over : LexerState) → over ≡ record lent { reader = record lent.reader { text = over.reader.text } } → lent ≡ old → over.reader.text.now ≡ part → IsLexingIn part old → IsLexing over
 lent_lexing part old lent over same is text lexing =
-    let whole : over ≡ record old { text = over.text } = same ∙ ap (λ (s : LexerState). record s { text = over.text }) is in
-    subst (λ (t : Text). IsLexingIn t over) (sym text) (subst (IsLexingIn part) (sym whole) lexing)
+    let whole : over ≡ record old { reader = record old.reader { text = over.reader.text } } = same ∙ ap (λ (s : LexerState). record s { reader = record s.reader { text = over.reader.text } }) is in
+    subst (λ (t : Text). IsLexingIn t over) (sym text) (subst (IsLexingIn part) (sym whole) (over_lexing part old over.reader lexing))
 
-pub back_lexing : (part : Text) (state back : LexerState) → back ≡ record state { text = back.text } → state.text.now ≡ part → IsLexing state → IsLexingIn part back
-back_lexing part state back same text lexing = subst (IsLexingIn part) (sym same) (subst (λ (t : Text). IsLexingIn t state) text lexing)
+pub back_lexing : (part : Text) (state back : LexerState) → back ≡ record state { reader = record state.reader { text = back.reader.text } } → state.reader.text.now ≡ part → IsLexing state → IsLexingIn part back
+back_lexing part state back same text lexing = subst (IsLexingIn part) (sym same) (over_lexing part state back.reader (subst (λ (t : Text). IsLexingIn t state) text lexing))
 
-at_fault_back : (text : Text) (fault : Spanned Fault) (state back : LexerState) → back ≡ record state { text = back.text } → IsAtFault text fault state → IsAtFault text fault back
+at_fault_back : (text : Text) (fault : Spanned Fault) (state back : LexerState) → back ≡ record state { reader = record state.reader { text = back.reader.text } } → IsAtFault text fault state → IsAtFault text fault back
 at_fault_back text fault state back same here =
     let stores = here.stores in
     let least = here.least in
     let spared = here.spared in
     let reach = here.reach in
-    subst (IsAtFault text fault) (sym same) (record { fits = here.fits; has = here.has; counted = here.counted; stores = stores; least = least; spared = spared; reach = reach })
+    subst (IsAtFault text fault) (sym same) (record { fits = here.fits; has = here.has; counted = here.counted; stores = λ untabbed. over_state text state.reader back.reader (history_of text) (stores untabbed); least = least; spared = spared; reach = reach })
 
-pub found_back : (text : Text) (old lent new back : LexerState) (item : Option (Result (ℕ × Token × ℕ) (OrMemory (ℕ × LexemeError × ℕ)))) → lent.yielded_count ≡ old.yielded_count → back ≡ record new { text = back.text }
+pub found_back : (text : Text) (old lent new back : LexerState) (item : Option (Result (ℕ × Token × ℕ) (OrMemory (ℕ × LexemeError × ℕ)))) → lent.yielded_count ≡ old.yielded_count → back ≡ record new { reader = record new.reader { text = back.reader.text } }
     → HasFound text lent item new → HasFound text old item back
 found_back text old lent new back (Some (Ok lexeme)) count same is =
     let reads : new.reader.reads ≡ back.reader.reads = sym (ap (λ (s : LexerState). s.reader.reads) same) in
@@ -144,6 +157,19 @@ if_not_err (Ok value) P none on = on
 if_not_err (Err error) P none on = cc
 
 -- A fault that keeps its line
+
+pub repaired_utf8 : (old : RecoveryState) (fault : Spanned Fault) → IsStopped old fault → KeepsLine (part_of old) fault → (mended : MendedText) → mended.text ≡ old.mended.text
+    → bytes_of mended ≡ filled (old.begin + fault.begin) (old.begin + repair_end (part_of old) fault) (bytes_of old.mended) → IsUtf8 (repaired (part_of old) fault)
+unfolding repaired
+repaired_utf8 old fault stopped keeps mended text bytes =
+    let is = stopped.is_part in
+    let len = is.len in
+    let last = repair_end (part_of old) fault in
+    let some = repairs_have_bytes (part_of old) fault keeps in
+    let inside : old.begin + last ≤ length (bytes_of old.mended) = omega (arith, some.1, len, part_len old is, part_begins old is) in
+    let utf8 = mended_utf8 mended (subst IsUtf8 (sym (ap (λ t. t.now) text)) is.utf8) in
+    let whole = begins_filled old.begin fault.begin last (bytes_of old.mended) (bytes_of mended) (whole_utf8 old is) utf8 bytes (omega (arith, inside, some.0)) (omega (arith, some.0)) inside is.whole in
+    subst IsUtf8 (ap (λ (t : Text). drop old.begin t) bytes ∙ filled_drop old.begin fault.begin last (bytes_of old.mended) (omega (arith, inside, some.0))) (IsUtf8-drop (bytes_of mended) old.begin utf8 whole)
 
 module _ (old : RecoveryState) (fault : Spanned Fault) (stopped : IsStopped old fault) (keeps : KeepsLine (part_of old) fault)
     (mended : MendedText) (state : LexerState) (earlier : ℕ) (text : mended.text ≡ old.mended.text)
@@ -236,11 +262,11 @@ module _ (old : RecoveryState) (fault : Spanned Fault) (stopped : IsStopped old 
 
 -- A fault that ends its line
 
-pub begun_lexing : (text any : Text) (state : LexerState) → length any < 2 ^ 32 → IsBegun text state → IsLexingIn any state
-begun_lexing text any state fits begun =
+pub begun_lexing : (text any : Text) (state : LexerState) → IsText any → IsBegun text state → IsLexingIn any state
+begun_lexing text any state is begun =
     let none : state.yielded_count ≡ 0 = ap (λ (v : StateView). v.yielded_count) begun.view in
     let place = begun.place in (
-      fits,
+      is,
       (λ on. (omega (arith, none), rw none (begun.ahead any))),
       rw begun.lookahead tt,
       (λ on. rw begun.lookahead (0, omega arith, begun.reads any)),
@@ -303,7 +329,7 @@ module _ (old : RecoveryState) (fault : Spanned Fault) (stopped : IsStopped old 
   abbrev again : RecoveryState
   again = record old { begin = passed.begin; state = state; comment = None; fault_count = old.fault_count + 1; earlier_reads = earlier }
 
-  begun_text : state.text.now ≡ drop passed.begin old.mended.text.now
+  begun_text : state.reader.text.now ≡ drop passed.begin old.mended.text.now
   begun_text = ap (λ (v : StateView). v.text) begun.view
 
   begun_count : state.yielded_count ≡ 0
@@ -328,7 +354,7 @@ module _ (old : RecoveryState) (fault : Spanned Fault) (stopped : IsStopped old 
         len = is.len;
         boundary = (boundary_again old fault stopped passed has);
         whole = has.boundary;
-        lexing = begun_lexing (drop passed.begin old.mended.text.now) (part_of again) state (omega (arith, len_again, fits)) begun;
+        lexing = begun_lexing (drop passed.begin old.mended.text.now) (part_of again) state (record { fits = omega (arith, len_again, fits); utf8 = IsUtf8-drop (bytes_of old.mended) passed.begin (whole_utf8 old is) has.boundary }) begun;
         own = λ none. begun_text ∙ sym (same_again old fault stopped passed has);
       }
 

@@ -74,7 +74,7 @@ module _ (new : RecoveryState) (text : Text) (file : SourceFile) (utf8 : IsUtf8 
       len = ap (λ (t : Text). length t) (bytes ∙ sym same);
       boundary = subst (λ (t : Text). IsCharBoundary t new.begin) (sym same) (subst (IsCharBoundary text) (sym start) (IsCharBoundary-start text utf8));
       whole = subst (λ (t : Text). IsCharBoundary t new.begin) (sym bytes) (subst (IsCharBoundary text) (sym start) (IsCharBoundary-start text utf8));
-      lexing = subst (λ (t : Text). IsLexingIn t new.state) (sym part) (begun_lexing text text new.state fits begun);
+      lexing = subst (λ (t : Text). IsLexingIn t new.state) (sym part) (begun_lexing text text new.state (record { fits = fits; utf8 = utf8 }) begun);
       own = λ uncopied. ap (λ (v : StateView). v.text) begun.view ∙ sym part;
     };
     onward = λ goes. record {
@@ -198,7 +198,7 @@ onward_same old state count is =
       reads = is.reads;
     }
 
-part_same : (old : RecoveryState) (state : LexerState) (comment : Option (ℕ × ℕ)) → IsPart old → IsLexingIn (part_of old) state → (old.mended.copy ≡ None → state.text.now ≡ part_of old) → IsPart (record old { state = state; comment = comment })
+part_same : (old : RecoveryState) (state : LexerState) (comment : Option (ℕ × ℕ)) → IsPart old → IsLexingIn (part_of old) state → (old.mended.copy ≡ None → state.reader.text.now ≡ part_of old) → IsPart (record old { state = state; comment = comment })
 part_same old state comment is lexing own = record { fits = is.fits; utf8 = is.utf8; len = is.len; boundary = is.boundary; whole = is.whole; lexing = lexing; own = own }
 
 -- where what is left ends, of the whole text
@@ -244,8 +244,8 @@ recovering_held old held is =
 
 -- Nothing is left
 
-module _ (old : RecoveryState) (is : IsRecovering old) (state : LexerState) (ended : old.state.has_ended ≡ true → state.reader ≡ old.state.reader) (found : old.state.has_ended ≡ false → HasFound (part_of old) old.state None state)
-    (lexing : IsLexingIn (part_of old) state) (count : state.yielded_count ≡ old.state.yielded_count + 0) (ends : state.has_ended ≡ (old.state.has_ended || false)) (own : old.mended.copy ≡ None → state.text.now ≡ part_of old) where
+module _ (old : RecoveryState) (is : IsRecovering old) (state : LexerState) (ended : old.state.has_ended ≡ true → state.reader.reads ≡ old.state.reader.reads) (found : old.state.has_ended ≡ false → HasFound (part_of old) old.state None state)
+    (lexing : IsLexingIn (part_of old) state) (count : state.yielded_count ≡ old.state.yielded_count + 0) (ends : state.has_ended ≡ (old.state.has_ended || false)) (own : old.mended.copy ≡ None → state.reader.text.now ≡ part_of old) where
   same_count : state.yielded_count ≡ old.state.yielded_count
   same_count = omega (arith, count)
 
@@ -288,7 +288,7 @@ module _ (old : RecoveryState) (is : IsRecovering old) (state : LexerState) (end
 -- A lexeme is next
 
 module _ (old : RecoveryState) (is : IsRecovering old) (state : LexerState) (from : ℕ) (token : Token) (to : ℕ) (going : old.state.has_ended ≡ false) (found : HasFound (part_of old) old.state (Some (Ok (from, token, to))) state)
-    (lexing : IsLexingIn (part_of old) state) (count : state.yielded_count ≡ old.state.yielded_count + 1) (ends : state.has_ended ≡ (old.state.has_ended || false)) (own : old.mended.copy ≡ None → state.text.now ≡ part_of old) (last : Option (ℕ × ℕ)) (comment : last ≡ last_comment (token_view token) state.yielded_count to old.comment)
+    (lexing : IsLexingIn (part_of old) state) (count : state.yielded_count ≡ old.state.yielded_count + 1) (ends : state.has_ended ≡ (old.state.has_ended || false)) (own : old.mended.copy ≡ None → state.reader.text.now ≡ part_of old) (last : Option (ℕ × ℕ)) (comment : last ≡ last_comment (token_view token) state.yielded_count to old.comment)
     (within : IsWithin (part_of old) from to) (between : IsCharBoundary (part_of old) from × IsCharBoundary (part_of old) to) where
   abbrev past : RecoveryState
   past = record old { state = state; comment = last }
@@ -370,7 +370,7 @@ memory_item : (file : SourceFile) (left : List LexerItem) (item : LexerItem) (mo
 memory_item file left item more is = subst (λ (l : List LexerItem). AnswersNext file (slice_get l 0) (Some (Err Memory))) (sym is) tt
 
 module _ (old : RecoveryState) (is : IsRecovering old) (state : LexerState) (going : old.state.has_ended ≡ false) (found : HasFound (part_of old) old.state (Some (Err Memory)) state)
-    (lexing : IsLexingIn (part_of old) state) (ends : state.has_ended ≡ (old.state.has_ended || true)) (own : old.mended.copy ≡ None → state.text.now ≡ part_of old) where
+    (lexing : IsLexingIn (part_of old) state) (ends : state.has_ended ≡ (old.state.has_ended || true)) (own : old.mended.copy ≡ None → state.reader.text.now ≡ part_of old) where
   ended_now : state.has_ended ≡ true
   ended_now = ends ∙ ap (λ b. b || true) going
 
@@ -395,7 +395,7 @@ span_has P file fault exception is one = subst (λ (d : Diagnosed ErrorKind). If
 -- A fault is next
 
 module _ (old : RecoveryState) (is : IsRecovering old) (state : LexerState) (raw : ℕ × LexemeError × ℕ) (going : old.state.has_ended ≡ false) (found : HasFound (part_of old) old.state (Some (Err (Error raw))) state)
-    (lexing : IsLexingIn (part_of old) state) (count : state.yielded_count ≡ old.state.yielded_count + 1) (ends : state.has_ended ≡ (old.state.has_ended || true)) (own : old.mended.copy ≡ None → state.text.now ≡ part_of old)
+    (lexing : IsLexingIn (part_of old) state) (count : state.yielded_count ≡ old.state.yielded_count + 1) (ends : state.has_ended ≡ (old.state.has_ended || true)) (own : old.mended.copy ≡ None → state.reader.text.now ≡ part_of old)
     (within : IsWithin (part_of old) raw.0 raw.2) (between : IsCharBoundary (part_of old) raw.0 × IsCharBoundary (part_of old) raw.2) where
   abbrev at_fault : RecoveryState
   at_fault = record old { state = state }
@@ -491,10 +491,10 @@ none_by (Some copy) none = cc
 pub advanced_in_text : {X : Type 0} (old : RecoveryState) → IsRecovering old → (copy : Option X) → false ≡ is_some copy → (copy ≡ None → old.mended.copy ≡ None)
     → (item : Option (Result (ℕ × Token × ℕ) (OrMemory (ℕ × LexemeError × ℕ)))) (state : LexerState)
     → (old.state.has_ended ≡ true → (item ≡ None) × (state ≡ old.state))
-    → (old.state.has_ended ≡ false → HasFound old.state.text.now old.state item state)
-    → IsLexingIn state.text.now state
-    → OffsetsHold (IsWithin old.state.text.now) item
-    → OffsetsHold (λ from to. IsCharBoundary old.state.text.now from × IsCharBoundary old.state.text.now to) item
+    → (old.state.has_ended ≡ false → HasFound old.state.reader.text.now old.state item state)
+    → IsLexingIn state.reader.text.now state
+    → OffsetsHold (IsWithin old.state.reader.text.now) item
+    → OffsetsHold (λ from to. IsCharBoundary old.state.reader.text.now from × IsCharBoundary old.state.reader.text.now to) item
     → lexing.view_of state ≡ record (lexing.view_of old.state) { yielded_count = old.state.yielded_count + yielded_by item; has_ended = old.state.has_ended || is_ended_by item; reads = state.reader.reads }
     → IsAdvanced old item (record old { state = state })
 advanced_in_text old is copy some none item state ended found lexing within between after =
@@ -502,7 +502,7 @@ advanced_in_text old is copy some none item state ended found lexing within betw
     let text = ap (λ (v : StateView). v.text) after ∙ own in
     record {
       recovering = is;
-      ended = λ on. ((ended on).0, ap (λ (s : LexerState). s.reader) (ended on).1);
+      ended = λ on. ((ended on).0, ap (λ (s : LexerState). s.reader.reads) (ended on).1);
       found = λ going. subst (λ (t : Text). HasFound t old.state item state) own (found going);
       lexing = subst (λ (t : Text). IsLexingIn t state) text lexing;
       within = subst (λ (t : Text). OffsetsHold (IsWithin t) item) own within;

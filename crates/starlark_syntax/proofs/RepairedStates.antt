@@ -1,6 +1,7 @@
 -- A lexer that goes on in a repaired text.
 use Rattle.std.proofs.Common.{◌≡◌, ◌≤◌, ◌-◌, ℕ, ◌++◌, false, map, length, length-append, drop, ap, subst, sym, ◌∙◌, arith}
 use Rattle.std.proofs.lemmas.List.{drop-map}
+use Rattle.std.specs.Str.{IsUtf8}
 use Rattle.starlark_grammar.specs.Found.{passed_count}
 use Rattle.starlark_grammar.specs.Reading.{outcome}
 use Rattle.starlark_grammar.specs.RepairLaws.{KeepsLine, semicolons}
@@ -33,10 +34,10 @@ passed_few text fault keeps =
     )
 
 -- what the reader has ahead is what the lexer has left
-pub lexing_repaired : (text : Text) (fault : Spanned Fault) (old : LexerState) (reader : Reader) (count : ℕ) (here : IsAtFault text fault old) → KeepsLine text fault → count ≡ passed_count text fault
+pub lexing_repaired : (text : Text) (fault : Spanned Fault) (old : LexerState) (reader : Reader) (count : ℕ) (here : IsAtFault text fault old) → KeepsLine text fault → IsUtf8 (repaired text fault) → count ≡ passed_count text fault
     → IsAhead (repaired text fault) reader reader.stage (map shown_lexeme (drop (passed_count text fault) (outcome (repaired text fault)).lexemes)) (outcome (repaired text fault)).fault
     → HasRead (repaired text fault) here.spared.0 reader → IsLexingIn (repaired text fault) (record old { yielded_count = count; has_ended = false; lookahead = lookahead.All; reader = reader })
-lexing_repaired text fault old reader count here keeps is ahead read =
+lexing_repaired text fault old reader count here keeps utf8 is ahead read =
     let few = passed_few text fault keeps in
     let len = repaired_len text fault keeps in
     let fits = here.fits in
@@ -45,7 +46,7 @@ lexing_repaired text fault old reader count here keeps is ahead read =
     let spared = here.spared in
     let left : map shown_lexeme (drop (passed_count text fault) (outcome (repaired text fault)).lexemes) ≡ drop count (map shown_lexeme (outcome (repaired text fault)).lexemes) =
     sym (drop-map shown_lexeme (passed_count text fault) (outcome (repaired text fault)).lexemes) ∙ ap (λ n. drop n (map shown_lexeme (outcome (repaired text fault)).lexemes)) (sym is) in (
-      omega (arith, len, fits),
+      record { fits = omega (arith, len, fits); utf8 = utf8 },
       (λ on. (omega (arith, few, is), subst (λ l. IsAhead (repaired text fault) reader reader.stage l (outcome (repaired text fault)).fault) left ahead)),
       tt,
       (λ on. (spared.0, omega (arith, spared.1), read)),

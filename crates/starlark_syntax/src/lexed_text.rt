@@ -91,12 +91,12 @@ impl<'a> LexedText<'a> {
         code_map: &CodeMap,
     ) -> Result<LexedText<'a>, AllocError>
         requires lexing { IsLexing state.old }
-        requires begun { IsBegun state.old.text.now state.old }
-        ensures text { IfOk result (λ lexed. lexed.text ≡ state.old.text.now) }
+        requires begun { IsBegun state.old.reader.text.now state.old }
+        ensures text { IfOk result (λ lexed. lexed.text ≡ state.old.reader.text.now) }
         ensures lexed { IfOk result (λ lexed. IsLexed code_map.now lexed) }
         ensures counted { IfOk result (λ lexed. lexed.reads ≡ state.new.reader.reads) }
-        ensures most_reads { IfOk result (λ lexed. lexed.reads ≤ most_reads state.old.text.now) }
-        ensures least_reads { IfOk result (λ lexed. lexed.fault ≡ None → length state.old.text.now ≤ lexed.reads) }
+        ensures most_reads { IfOk result (λ lexed. lexed.reads ≤ most_reads state.old.reader.text.now) }
+        ensures least_reads { IfOk result (λ lexed. lexed.fault ≡ None → length state.old.reader.text.now ≤ lexed.reads) }
     {
         let text = state.text();
         let part = read_part(alloc, state, Known::none())?;
@@ -245,8 +245,8 @@ impl<'a> LexedText<'a> {
         self.relex_with(&mut state, from, edited, code_map)
     }
 
-    /// Lexes the text again after an edit, from a state that has just begun, whose count of reads is
-    /// that of the lexed text. It does what `relex` says.
+    /// Lexes the text again after an edit, as `relex` says. It puts the state that lexes the rest in
+    /// the place of `state`, whose count of reads is that of the lexed text.
     fn relex_with(
         self,
         state: &mut LexerState<'a>,
@@ -258,8 +258,6 @@ impl<'a> LexedText<'a> {
         requires new { IsCharBoundary edited.now from }
         requires same { take from self.text ≡ take from edited.now }
         requires fits { length edited.now < 2 ^ 32 }
-        requires lexing { IsLexing state.old }
-        requires begun { IsBegun edited.now state.old }
         ensures text { IfOk result (λ lexed. lexed.text ≡ edited.now) }
         ensures lexed { IfOk result (λ lexed. IsLexed code_map.now lexed) }
         ensures counted { IfOk result (λ lexed. lexed.reads ≡ state.new.reader.reads) }
@@ -270,7 +268,7 @@ impl<'a> LexedText<'a> {
         let alloc = *old.lexemes.allocator();
         let begin = begin_of(&old.cuts, from);
         let rest = &edited[begin.at..];
-        state.set_text(rest);
+        *state = LexerState::new(alloc, rest);
         let known = Known::after(old.text, &old.cuts, begin.cuts, old.fault.is_some());
         let Ok(part) = read_part(alloc, state, known) else {
             return Err(old);

@@ -86,8 +86,6 @@ impl<'a> Lexer<'a> {
         ensures cut { IfSome result (λ item. OnOk item (KnowsCut self.new.text self.new.yielded_count self.new.cut)) }
         ensures reads { self.old.has_ended ≡ false → HasReadFor self.old.text result self.new.reads }
     {
-        // The proof of `between` needs that the text is UTF-8, which the read of a `&str` says.
-        let _text = self.text();
         let item = self.state.next();
         if item.is_some() {
             return item;
@@ -120,7 +118,6 @@ impl<'a> Lexer<'a> {
         ensures cut { IfSome result (λ plain. KnowsCut self.new.text self.new.yielded_count self.new.cut) }
         ensures reads { IfSome result (λ plain. self.new.reads ≤ most_reads self.old.text) }
     {
-        let _text = self.text();
         match self.state.next_plain() {
             FastPath::Passed(plain) => Some(plain),
             FastPath::Symbol(terminal, lexeme) => Some(PlainLexeme::of_symbol(terminal, lexeme)),
@@ -161,14 +158,6 @@ impl<'a> Lexer<'a> {
         ensures { result ≡ self.now.reads }
     {
         self.state.reads()
-    }
-
-    /// The text.
-    #[inline(always)]
-    fn text(&self) -> &str
-        ensures { result.now ≡ self.now.text }
-    {
-        self.state.text()
     }
 }
 

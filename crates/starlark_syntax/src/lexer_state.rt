@@ -4,7 +4,7 @@
 ghost use Rattle.std.specs.Prelude.{◌≡◌, ◌<◌, ◌≤◌, ◌+◌, ◌-◌, ◌^◌, ◌&&◌, ◌||◌, ℕ, None, Some, codes, length, nat_eq, true, false, IfSome, IsSome, OnOk};
 ghost use Rattle.std.specs.List.{ends_with};
 ghost use Rattle.std.specs.Option.{is_some};
-ghost use Rattle.std.specs.Str.{IsCharBoundary};
+ghost use Rattle.std.specs.Str.{IsCharBoundary, IsUtf8};
 ghost use Rattle.starlark_grammar.specs.Cuts.{is_settled};
 ghost use Rattle.starlark_grammar.specs.Found.{passed_count as passed_lexemes};
 ghost use Rattle.starlark_grammar.specs.RepairLaws.{KeepsLine};
@@ -31,7 +31,7 @@ use starlark_base::codemap::{CodeMap, OrMemory};
 use starlark_reader::reader::{LineEnd, Reader};
 use starlark_token::lexeme_error::LexemeError;
 use starlark_token::tokens::Token;
-use starlark_words::scanner::{Class, LiteralKind, Terminal, Word};
+use starlark_words::scanner::{Class, LiteralKind, Terminal, Word, begins_plain_number};
 use std::alloc::{AllocError, Global};
 
 /// An item with the fault itself, between two offsets, in the place of its exception.
@@ -45,12 +45,11 @@ pub(crate) type Item = Result<(usize, Token, usize), OrMemory<(usize, LexemeErro
 // In this order for the reason that `Reader` has one.
 #[derive(Drop)]
 pub struct LexerState<'a> {
-    text: &'a str,
     yielded_count: usize,
     looked_to: usize,
     lookahead: Lookahead,
     has_ended: bool,
-    reader: Reader,
+    reader: Reader<'a>,
     passed_begin: usize,
     passed_end: usize,
     alloc: Global,
@@ -69,7 +68,7 @@ enum Lookahead {
 
 /// Lookahead state after a keyword or symbol: only the bracket depth can have changed it.
 #[inline(always)]
-fn looked_in_code(reader: &Reader) -> Lookahead
+fn looked_in_code(reader: &Reader<'_>) -> Lookahead
     ensures { IsFoundInCode reader.now result }
 {
     if reader.is_in_code() {
@@ -81,7 +80,7 @@ fn looked_in_code(reader: &Reader) -> Lookahead
 
 /// Lookahead state after a lexeme that leaves the lexer in code.
 #[inline(always)]
-fn looked_further(reader: &Reader, looked_to: usize) -> Lookahead
+fn looked_further(reader: &Reader<'_>, looked_to: usize) -> Lookahead
     ensures { IsFoundFurther reader.now looked_to result }
 {
     if looked_to <= reader.at() {
@@ -205,7 +204,7 @@ fn looked_len(is_text: bool, len: usize) -> usize
 
 /// Lookahead state after any lexeme. Below `looked_to` it is spent.
 #[inline(always)]
-fn looked_after(reader: &Reader, looked_to: usize) -> Lookahead
+fn looked_after(reader: &Reader<'_>, looked_to: usize) -> Lookahead
     ensures { IsFoundOut reader.now looked_to result }
 {
     if reader.is_at_code() && looked_to <= reader.at() {
@@ -224,8 +223,7 @@ impl<'a> LexerState<'a> {
     {
         LexerState {
             alloc,
-            text,
-            reader: Reader::new(alloc),
+            reader: Reader::new(alloc, text),
             yielded_count: 0,
             has_ended: false,
             lookahead: Lookahead::All,
@@ -235,17 +233,6 @@ impl<'a> LexerState<'a> {
         }
     }
 
-    /// Lexes another text instead, of which nothing was read yet either.
-    pub(crate) fn set_text(&mut self, text: &'a str)
-        requires fits { length text.now < 2 ^ 32 }
-        requires unread { IsBegun self.old.text.now self.old }
-        requires lexing { IsLexing self.old }
-        ensures lexing { IsLexing self.new }
-        ensures begun { IsBegun text.now self.new }
-    {
-        self.text = text;
-    }
-
     /// Next lexeme by the slow path: the reader's.
     #[inline(always)]
     fn next_of_reader(&mut self) -> Option<Lexeme>
@@ -253,7 +240,7 @@ impl<'a> LexerState<'a> {
         requires going { self.old.has_ended ≡ false }
         ensures { HasGivenNext self.old result self.new }
     {
-        match self.reader.next(self.text) {
+        match self.reader.next() {
             Ok(Some(lexeme)) => {
                 self.yielded_count += 1;
                 self.lookahead = looked_after(&self.reader, self.looked_to);
@@ -280,7 +267,7 @@ impl<'a> LexerState<'a> {
         lookahead: Lookahead,
     ) -> Option<Lexeme>
         requires taken { IsTakenNext self.old taken }
-        requires looked { OnOk taken (IsLooked self.old.text.now self.old.reader self.old.looked_to lookahead) }
+        requires looked { OnOk taken (IsLooked self.old.reader.text.now self.old.reader self.old.looked_to lookahead) }
         ensures { HasGivenNext self.old result self.new }
     {
         match taken {
@@ -301,8 +288,8 @@ impl<'a> LexerState<'a> {
     #[inline(always)]
     fn item_in_code(&mut self, taken: Result<(usize, Token, usize), AllocError>) -> Option<Lexeme>
         requires taken { IsTakenNext self.old taken }
-        requires code { OnOk taken (IsAtCode self.old.text.now self.old.reader) }
-        requires reads { OnOk taken (HasSpared self.old.text.now 0 self.old.reader self.old.looked_to) }
+        requires code { OnOk taken (IsAtCode self.old.reader.text.now self.old.reader) }
+        requires reads { OnOk taken (HasSpared self.old.reader.text.now 0 self.old.reader self.old.looked_to) }
         ensures { HasGivenNext self.old result self.new }
     {
         let lookahead = looked_further(&self.reader, self.looked_to);
@@ -323,25 +310,25 @@ impl<'a> LexerState<'a> {
         if !self.lookahead.is_front() {
             return self.next_of_reader();
         }
-        let front = self.reader.front(self.text);
-        if let Some(digit) = self.reader.single_digit(front, self.text) {
-            let lexeme = self.reader.take_digit(digit, self.text);
+        let front = self.reader.front();
+        if let Some(digit) = self.reader.single_digit(front) {
+            let lexeme = self.reader.take_digit(digit);
             return self.item_in_code(Ok(lexeme));
         }
-        if self.reader.number_stands(front, self.text) {
-            let word = self.reader.number(front, self.text);
-            let taken = self.reader.take_number(word, self.text);
+        if begins_plain_number(front) {
+            let word = self.reader.number(front);
+            let taken = self.reader.take_number(word);
             return self.item_in_code(taken);
         }
-        if let Some(quote) = self.reader.fstring_opener(front, self.text) {
-            let taken = self.reader.take_fstring(quote, self.text);
+        if let Some(quote) = self.reader.fstring_opener(front) {
+            let taken = self.reader.take_fstring(quote);
             return self.item_of(taken, Lookahead::All);
         }
-        if let Some(quote) = self.reader.bytes_opener(front, self.text) {
+        if let Some(quote) = self.reader.bytes_opener(front) {
             let kind = LiteralKind::Bytes;
-            return match self.reader.plain_body_len(kind, false, quote, 2, self.text) {
+            return match self.reader.plain_body_len(kind, false, quote, 2) {
                 Ok(body) => {
-                    let taken = self.reader.take_plain_bytes(quote, body, self.text);
+                    let taken = self.reader.take_plain_bytes(quote, body);
                     self.item_in_code(taken)
                 }
                 Err(run) => {
@@ -351,12 +338,12 @@ impl<'a> LexerState<'a> {
                 }
             };
         }
-        if self.reader.bang_stands(front, self.text) {
-            let lexeme = self.reader.take_bang(self.text);
+        if self.reader.bang_stands(front) {
+            let lexeme = self.reader.take_bang();
             return self.item_in_code(Ok(lexeme));
         }
-        if let Some(len) = self.reader.comment_len(front, self.text) {
-            let taken = self.reader.take_comment(len, self.text);
+        if let Some(len) = self.reader.comment_len(front) {
+            let taken = self.reader.take_comment(len);
             return self.item_in_code(taken);
         }
         self.lookahead = Lookahead::All;
@@ -371,7 +358,7 @@ impl<'a> LexerState<'a> {
         requires lexing { IsLexing self.old }
         requires going { self.old.has_ended ≡ false }
         requires front { self.old.lookahead ≡ Lookahead.Front }
-        requires opened { HasOpened self.old.text.now self.old.reader self.old.looked_to }
+        requires opened { HasOpened self.old.reader.text.now self.old.reader self.old.looked_to }
         ensures passed { 0 < result → HasPassed self.old (FastPath.Passed (plain_string self.old.reader.at result self.new.reader.at)) self.new }
         ensures lexing { IsLexing self.new }
         ensures some { 0 < result → view_of self.new ≡ record (view_of self.old) { yielded_count = self.old.yielded_count + 1; reads = self.new.reader.reads } }
@@ -386,16 +373,13 @@ impl<'a> LexerState<'a> {
                 },
                 len,
             },
-        ) = self.reader.text_opener(self.text)
+        ) = self.reader.text_opener()
         else {
             self.lookahead = Lookahead::All;
             return 0;
         };
         let kind = LiteralKind::Text;
-        let body = match self
-            .reader
-            .plain_body_len(kind, is_raw, quote, len, self.text)
-        {
+        let body = match self.reader.plain_body_len(kind, is_raw, quote, len) {
             Ok(body) => body,
             Err(run) => {
                 self.looked_to = self.reader.at() + len + 1 + run;
@@ -403,8 +387,7 @@ impl<'a> LexerState<'a> {
                 return 0;
             }
         };
-        self.reader
-            .pass_plain_text(is_raw, quote, len, body, self.text);
+        self.reader.pass_plain_text(is_raw, quote, len, body);
         self.yielded_count += 1;
         self.lookahead = Lookahead::Nothing;
         len
@@ -419,7 +402,7 @@ impl<'a> LexerState<'a> {
         requires some { self.old.reader.pending.from < self.old.reader.pending.to }
         ensures { HasPassedNext self.old (FastPath.Passed (plain_comment result.0 result.1)) self.new }
     {
-        let place = self.reader.pass_pending_comment(self.text);
+        let place = self.reader.pass_pending_comment();
         self.yielded_count += 1;
         self.lookahead = looked_after(&self.reader, self.looked_to);
         place
@@ -434,8 +417,6 @@ impl<'a> LexerState<'a> {
         ensures passed { HasPassedNext self.old (passed_as result self.new.passed_begin self.new.passed_end) self.new }
         ensures stays { result ≡ Waiting.Nothing → self.new ≡ self.old }
     {
-        // The proof needs that the text is UTF-8, which the read of a `&str` says.
-        let _text = self.text();
         let Some((begin, token, end)) = self.reader.next_mark() else {
             return Waiting::Nothing;
         };
@@ -454,12 +435,10 @@ impl<'a> LexerState<'a> {
         requires going { self.old.has_ended ≡ false }
         ensures { HasPassedNext self.old (passed_as result self.new.passed_begin self.new.passed_end) self.new }
     {
-        // The proof needs that the text is UTF-8, which the read of a `&str` says.
-        let _text = self.text();
         if self.reader.at() < self.looked_to || !self.reader.reads_on() {
             return Waiting::Nothing;
         }
-        let found = match self.reader.plain_text(self.text) {
+        let found = match self.reader.plain_text() {
             Ok(found) => found,
             Err(run) => {
                 self.looked_to = self.reader.at() + run + 1;
@@ -469,7 +448,7 @@ impl<'a> LexerState<'a> {
         };
         self.yielded_count += 1;
         if found.len == 0 {
-            let (begin, token, end) = self.reader.pass_text_end(found, self.text);
+            let (begin, token, end) = self.reader.pass_text_end(found);
             self.passed_begin = begin;
             self.passed_end = end;
             self.lookahead = looked_after(&self.reader, self.looked_to);
@@ -477,7 +456,7 @@ impl<'a> LexerState<'a> {
         }
         self.passed_begin = self.reader.at();
         self.passed_end = self.passed_begin + found.len;
-        self.reader.pass_text(found, self.text);
+        self.reader.pass_text(found);
         self.lookahead = Lookahead::All;
         Waiting::FStringText
     }
@@ -509,7 +488,7 @@ impl<'a> LexerState<'a> {
     {
         let begin = self.reader.at();
         self.yielded_count += 1;
-        self.reader.pass_name(len, self.text);
+        self.reader.pass_name(len);
         FastPath::Passed(PlainLexeme::name(begin, self.reader.at()))
     }
 
@@ -520,7 +499,7 @@ impl<'a> LexerState<'a> {
         ensures { HasPassedNext self.old result self.new }
     {
         self.yielded_count += 1;
-        let lexeme = self.reader.take_terminal(terminal, len, self.text);
+        let lexeme = self.reader.take_terminal(terminal, len);
         self.lookahead = looked_in_code(&self.reader);
         FastPath::Symbol(terminal, lexeme)
     }
@@ -558,7 +537,7 @@ impl<'a> LexerState<'a> {
         ensures after { view_of self.new ≡ record (view_of self.old) { yielded_count = self.old.yielded_count + passed_count result; has_ended = self.old.has_ended || is_out_of_memory result; reads = self.new.reader.reads } }
     {
         while self.lookahead.is_nothing() {
-            let Some(Word { class, len }) = self.reader.common_word(self.text) else {
+            let Some(Word { class, len }) = self.reader.common_word() else {
                 self.looked_to = self.reader.at() + 1;
                 self.lookahead = Lookahead::Front;
                 return FastPath::Undecided;
@@ -568,7 +547,7 @@ impl<'a> LexerState<'a> {
                 Class::Fixed(terminal) => return self.pass_symbol(terminal, len),
                 Class::LineEnd => {
                     let begin = self.reader.at();
-                    let Ok(line_end) = self.reader.take_line_end(len, self.text) else {
+                    let Ok(line_end) = self.reader.take_line_end(len) else {
                         self.has_ended = true;
                         self.lookahead = Lookahead::All;
                         return FastPath::OutOfMemory;
@@ -603,11 +582,11 @@ impl<'a> LexerState<'a> {
     /// The item of a plain lexeme, which was passed. Out of memory ends the lexer.
     #[inline(always)]
     fn take(&mut self, plain: PlainLexeme) -> Option<Lexeme>
-        requires within { IsPlainIn self.old.text.now plain }
+        requires within { IsPlainIn self.old.reader.text.now plain }
         requires counted { 0 < self.old.yielded_count }
         ensures { HasTaken self.old plain result self.new }
     {
-        match token_of(plain, self.alloc, self.text) {
+        match token_of(plain, self.alloc, self.text()) {
             Ok(token) => Some(Ok((plain.begin, token, plain.end))),
             Err(_) => {
                 self.yielded_count -= 1;
@@ -658,14 +637,12 @@ impl<'a> LexerState<'a> {
     pub(crate) fn next_item(&mut self) -> Option<Item>
         requires lexing { IsLexing self.old }
         ensures ended { self.old.has_ended ≡ true → (result ≡ None) × (self.new ≡ self.old) }
-        ensures found { self.old.has_ended ≡ false → HasFound self.old.text.now self.old result self.new }
+        ensures found { self.old.has_ended ≡ false → HasFound self.old.reader.text.now self.old result self.new }
         ensures lexing { IsLexing self.new }
-        ensures within { OffsetsHold (IsWithin self.old.text.now) result }
-        ensures between { OffsetsHold (λ from to. IsCharBoundary self.old.text.now from × IsCharBoundary self.old.text.now to) result }
+        ensures within { OffsetsHold (IsWithin self.old.reader.text.now) result }
+        ensures between { OffsetsHold (λ from to. IsCharBoundary self.old.reader.text.now from × IsCharBoundary self.old.reader.text.now to) result }
         ensures after { view_of self.new ≡ record (view_of self.old) { yielded_count = self.old.yielded_count + yielded_by result; has_ended = self.old.has_ended || is_ended_by result; reads = self.new.reader.reads } }
     {
-        // The proof of `between` needs that the text is UTF-8, which the read of a `&str` says.
-        let _text = self.text();
         match self.next() {
             Some(Ok(lexeme)) => Some(Ok(lexeme)),
             Some(Err(_)) => Some(Err(OrMemory::Memory)),
@@ -673,19 +650,18 @@ impl<'a> LexerState<'a> {
         }
     }
 
-    /// The same state over another text.
+    /// Moves the state to another text, as `Reader::over` does.
     #[inline(always)]
     pub(crate) fn over<'b>(self, text: &'b str) -> LexerState<'b>
-        ensures text { result.text.now ≡ text.now }
-        ensures same { result ≡ record self.entry { text = result.text } }
+        ensures text { result.reader.text.now ≡ text.now }
+        ensures same { result ≡ record self.entry { reader = record self.entry.reader { text = result.reader.text } } }
     {
         LexerState {
-            text,
             yielded_count: self.yielded_count,
             looked_to: self.looked_to,
             lookahead: self.lookahead,
             has_ended: self.has_ended,
-            reader: self.reader,
+            reader: self.reader.over(text),
             passed_begin: self.passed_begin,
             passed_end: self.passed_end,
             alloc: self.alloc,
@@ -699,7 +675,7 @@ impl<'a> LexerState<'a> {
         requires fits { end < 2 ^ 32 }
         requires some { 0 < self.old.yielded_count }
         requires few { self.old.yielded_count ≤ 2 ^ 34 }
-        ensures lexing { (text : Text) (fault : Spanned Fault) → IsAtFault text fault self.old → KeepsLine text fault → begin ≡ fault.begin → end ≡ repair_end text fault → IsCharBoundary (repaired text fault) end → IsLexingIn (repaired text fault) self.new }
+        ensures lexing { (text : Text) (fault : Spanned Fault) → IsAtFault text fault self.old → KeepsLine text fault → begin ≡ fault.begin → end ≡ repair_end text fault → IsCharBoundary (repaired text fault) end → IsUtf8 (repaired text fault) → IsLexingIn (repaired text fault) self.new }
         ensures count { (text : Text) (fault : Spanned Fault) → IsAtFault text fault self.old → begin ≡ fault.begin → end ≡ repair_end text fault → self.new.yielded_count ≡ passed_lexemes text fault }
         ensures going { self.new.has_ended ≡ false }
     {
@@ -728,7 +704,7 @@ impl<'a> LexerState<'a> {
     /// The fault after the last lexeme, between two offsets, if one is left. It ends the lexer.
     pub(crate) fn take_fault(&mut self) -> Option<(usize, LexemeError, usize)>
         requires lexing { IsLexing self.old }
-        requires end { self.old.has_ended ≡ false → IsAtEnd self.old.text.now self.old.reader }
+        requires end { self.old.has_ended ≡ false → IsAtEnd self.old.reader.text.now self.old.reader }
         ensures ended { self.old.has_ended ≡ true → (result ≡ None) × (self.new ≡ self.old) }
         ensures last { self.old.has_ended ≡ false → HasTakenLast self.old result self.new }
         ensures some { IsSome result → has_fault self.old ≡ true }
@@ -752,7 +728,7 @@ impl<'a> LexerState<'a> {
     pub(crate) fn take_exception(&mut self, code_map: &CodeMap) -> OrMemory<EvalException>
         requires lexing { IsLexing self.old }
         requires fault { has_fault self.old ≡ true }
-        requires end { IsAtEnd self.old.text.now self.old.reader }
+        requires end { IsAtEnd self.old.reader.text.now self.old.reader }
         ensures thrown { HasThrown code_map.now self.old result self.new }
         ensures lexing { IsLexing self.new }
         ensures after { view_of self.new ≡ record (view_of self.old) { yielded_count = self.old.yielded_count + thrown_count result; has_ended = true; reads = self.new.reader.reads } }
@@ -775,10 +751,10 @@ impl<'a> LexerState<'a> {
     pub(crate) fn cut(&self) -> Option<usize>
         requires lexing { IsLexing self.now }
         requires going { self.now.has_ended ≡ false }
-        ensures kept { IfSome result (λ at. IsCutBefore self.now.text.now at (length (left_in self.now))) }
-        ensures reached { (at : ℕ) → IsReached self.now.reader at → 0 < at → at < length self.now.text.now → result ≡ Some at }
+        ensures kept { IfSome result (λ at. IsCutBefore self.now.reader.text.now at (length (left_in self.now))) }
+        ensures reached { (at : ℕ) → IsReached self.now.reader at → 0 < at → at < length self.now.reader.text.now → result ≡ Some at }
     {
-        self.reader.cut(self.text)
+        self.reader.cut()
     }
 
     /// Whether an error has ended the lexer.
@@ -792,9 +768,9 @@ impl<'a> LexerState<'a> {
     /// The text.
     #[inline(always)]
     pub(crate) fn text(&self) -> &'a str
-        ensures { result.now ≡ self.now.text.now }
+        ensures { result.now ≡ self.now.reader.text.now }
     {
-        self.text
+        self.reader.text()
     }
 
     /// Counts reads of `len` other bytes if those so far leave room for them. Returns whether they do.
@@ -805,7 +781,7 @@ impl<'a> LexerState<'a> {
         ensures lexing { IsLexing self.new }
         ensures after { view_of self.new ≡ record (view_of self.old) { reads = self.new.reader.reads } }
         ensures counted { result ≡ true → self.old.reader.reads + len < self.new.reader.reads }
-        ensures most { result ≡ true → self.new.reader.reads ≤ most_reads self.old.text.now }
+        ensures most { result ≡ true → self.new.reader.reads ≤ most_reads self.old.reader.text.now }
     {
         self.reader.count_others(len)
     }
@@ -827,10 +803,10 @@ impl<'a> LexerState<'a> {
 
     /// Whether the text is a clean cut, after its last lexeme. The look at its last byte is counted.
     pub(crate) fn is_clean_cut(&mut self) -> bool
-        ensures value { (history : History) → IsStateAfter self.old.text.now history self.old.reader → result ≡ (is_settled history && ends_with nat_eq self.old.text.now (codes "\n")) }
+        ensures value { (history : History) → IsStateAfter self.old.reader.text.now history self.old.reader → result ≡ (is_settled history && ends_with nat_eq self.old.reader.text.now (codes "\n")) }
         ensures least { self.old.reader.reads < 2 ^ 64 - 1 → self.old.reader.reads ≤ self.new.reader.reads }
         ensures most { self.new.reader.reads ≤ self.old.reader.reads + 1 }
     {
-        self.reader.is_settled() && self.reader.ends_with_lf(self.text)
+        self.reader.is_clean_cut()
     }
 }

@@ -82,13 +82,13 @@ pub(crate) fn meeting_at(
     requires lexing { IsLexing state.old }
     requires going { state.old.has_ended ≡ false }
     requires cuts { AllByRecursion (λ (cut : Cut). cut.at ≤ length known.text.now) known.cuts.now }
-    requires inside { IfSome place (λ at. at < length state.old.text.now) }
+    requires inside { IfSome place (λ at. at < length state.old.reader.text.now) }
     ensures lexing { IsLexing state.new }
     ensures after { view_of state.new ≡ record (view_of state.old) { reads = state.new.reader.reads } }
     ensures place { IfSome result (λ meeting. place ≡ Some meeting.at) }
-    ensures met { IfSome result (IsMet state.old.text.now known.entry.text.now known.entry.cuts.now) }
-    ensures least { IfSome result (λ meeting. length state.old.text.now ≤ state.new.reader.reads) }
-    ensures most { IfSome result (λ meeting. state.new.reader.reads ≤ most_reads state.old.text.now) }
+    ensures met { IfSome result (IsMet state.old.reader.text.now known.entry.text.now known.entry.cuts.now) }
+    ensures least { IfSome result (λ meeting. length state.old.reader.text.now ≤ state.new.reader.reads) }
+    ensures most { IfSome result (λ meeting. state.new.reader.reads ≤ most_reads state.old.reader.text.now) }
 {
     let at = place?;
     let text = state.text().as_bytes();

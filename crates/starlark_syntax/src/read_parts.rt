@@ -81,14 +81,14 @@ pub(crate) fn read_part(
     known: Known<'_>,
 ) -> Result<ReadPart, AllocError>
     requires lexing { IsLexing state.old }
-    requires begun { IsBegun state.old.text.now state.old }
+    requires begun { IsBegun state.old.reader.text.now state.old }
     requires cuts { AllByRecursion (λ (cut : Cut). cut.at ≤ length known.text.now) known.cuts.now }
-    ensures part { IfOk result (λ part. part.met ≡ None → IsReadPart state.old.text.now (part_view part)) }
-    ensures met { IfOk result (λ part. IfSome part.met (λ meeting. IsMet state.old.text.now known.entry.text.now known.entry.cuts.now meeting × IsReadPartTo state.old.text.now meeting.at (part_view part))) }
+    ensures part { IfOk result (λ part. part.met ≡ None → IsReadPart state.old.reader.text.now (part_view part)) }
+    ensures met { IfOk result (λ part. IfSome part.met (λ meeting. IsMet state.old.reader.text.now known.entry.text.now known.entry.cuts.now meeting × IsReadPartTo state.old.reader.text.now meeting.at (part_view part))) }
     ensures faultless { IfOk result (λ part. IfSome part.met (λ meeting. part.fault ≡ None)) }
     ensures counted { IfOk result (λ part. part.reads ≡ state.new.reader.reads) }
-    ensures most { IfOk result (λ part. part.reads ≤ most_reads state.old.text.now) }
-    ensures least { IfOk result (λ part. part.fault ≡ None → length state.old.text.now ≤ part.reads) }
+    ensures most { IfOk result (λ part. part.reads ≤ most_reads state.old.reader.text.now) }
+    ensures least { IfOk result (λ part. part.fault ≡ None → length state.old.reader.text.now ≤ part.reads) }
 {
     let text = state.text();
     let mut cuts = Vec::new(alloc);

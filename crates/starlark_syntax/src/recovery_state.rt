@@ -84,14 +84,14 @@ impl<'a> RecoveryState<'a> {
     #[inline(always)]
     fn advance(&mut self) -> Option<Item>
         requires { IsRecovering self.old }
-        ensures ended { self.old.state.has_ended ≡ true → (result ≡ None) × (self.new.state.reader ≡ self.old.state.reader) }
+        ensures ended { self.old.state.has_ended ≡ true → (result ≡ None) × (self.new.state.reader.reads ≡ self.old.state.reader.reads) }
         ensures found { self.old.state.has_ended ≡ false → HasFound (part_of self.old) self.old.state result self.new.state }
         ensures lexing { IsLexingIn (part_of self.old) self.new.state }
         ensures within { OffsetsHold (IsWithin (part_of self.old)) result }
         ensures between { OffsetsHold (λ from to. IsCharBoundary (part_of self.old) from × IsCharBoundary (part_of self.old) to) result }
         ensures count { self.new.state.yielded_count ≡ self.old.state.yielded_count + yielded_by result }
         ensures ends { self.new.state.has_ended ≡ (self.old.state.has_ended || is_ended_by result) }
-        ensures own { self.old.mended.copy ≡ None → self.new.state.text.now ≡ part_of self.old }
+        ensures own { self.old.mended.copy ≡ None → self.new.state.reader.text.now ≡ part_of self.old }
         ensures after { self.new ≡ record self.old { state = self.new.state } }
     {
         let Some(copy) = self.mended.copy() else {

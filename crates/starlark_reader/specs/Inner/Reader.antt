@@ -1,6 +1,6 @@
 -- What is ahead of a reader in its text, as the grammar sees it.
-use Rattle.std.specs.Prelude.{◌≡◌, ◌==◌, ◌&&◌, not, Bool, true, false, ℕ, ◌+◌, ◌-◌, ◌≤◌, ◌<◌, List, [], ◌∷◌, ◌++◌, map, length, drop, take, Option, Some, None, option_to_list, ⊤}
-use Rattle.std.specs.Str.{IsCharBoundary}
+use Rattle.std.specs.Prelude.{◌≡◌, ◌==◌, ◌&&◌, not, Bool, true, false, ℕ, ◌+◌, ◌-◌, ◌≤◌, ◌<◌, ◌^◌, List, [], ◌∷◌, ◌++◌, map, length, drop, take, Option, Some, None, option_to_list, ⊤}
+use Rattle.std.specs.Str.{IsCharBoundary, IsUtf8}
 use Rattle.starlark_grammar.specs.Words.{Text, language}
 use Rattle.starlark_grammar.specs.Tokens as grammar
 use Rattle.starlark_grammar.specs.Margins.{has_tab, is_content, margin_of, open_widths}
@@ -139,6 +139,16 @@ pub record IsAhead (text : Text) (reader : Reader) (stage : Stage) (lexemes : Li
 abbrev pub IsReady : Text → Reader → Stage → Type 0
 IsReady text reader stage = (lexemes : List (grammar.Spanned TokenView)) × (fault : Option (grammar.Spanned grammar.Fault)) × IsAhead text reader stage lexemes fault
 
+-- a text is UTF-8, and short enough for offsets of 32 bits
+pub record IsText (text : Text) : Type 0 where
+  pub fits : length text < 2 ^ 32
+  pub utf8 : IsUtf8 text
+
+-- what holds of a reader between two calls, unless memory ran out
+pub record IsSound (reader : Reader) : Type 0 where
+  pub text : IsText reader.text.now
+  pub ready : IsReady reader.text.now reader reader.stage
+
 -- what is ahead after a lexeme was passed; a kept cut right after it is reached
 abbrev pub IsAheadPast : Text → grammar.Spanned TokenView → Reader → List (grammar.Spanned TokenView) → Option (grammar.Spanned grammar.Fault) → Type 0
 IsAheadPast text lexeme reader lexemes fault = (more : List (grammar.Spanned TokenView)) × (lexemes ≡ lexeme ∷ more) × IsAhead text reader reader.stage more fault × ((at : ℕ) → IsCutBefore text at (length more) → IsReached reader at)
@@ -173,6 +183,39 @@ step_here text history reader = next_step language history (drop reader.at text)
 abbrev pub left_here : Text → History → Reader → grammar.Outcome
 left_here text history reader = remaining_outcome history reader.at (drop reader.at text)
 
+-- no lexeme is pending, and the step at the reader's offset is as `P` says
+pub record IsAtStep (reader : Reader) (P : History → Step → Type 0) : Type 0 where
+  pub text : IsText reader.text.now
+  pub stage : reader.stage ≡ stage.Onward
+  pub stands : (history : History) × IsStateAfter reader.text.now history reader × P history (step_here reader.text.now history reader)
+  pub idle : IsIdle reader.text.now reader.pending
+
+-- the step is that of a newline of `len` bytes, with the margin after it
+abbrev pub IsLineEndStep : Reader → ℕ → History → Step → Type 0
+IsLineEndStep reader len history step = step ≡ pieces.line_end len (open_widths history.widths) (drop len (drop reader.at reader.text.now))
+
+-- a newline of `len` bytes that counts is at the reader's offset, and ends at a character boundary
+pub record IsAtLineEnd (reader : Reader) (len : ℕ) : Type 0 where
+  pub here : IsAtStep reader (IsLineEndStep reader len)
+  pub cut : IsCharBoundary reader.text.now (reader.at + len)
+
+-- the step at the old offset, if it is as `P` says, was read: of its lexemes the first may be the one given
+abbrev pub Takes : Reader → (History → Step → Type 0) → Option (ℕ × Token × ℕ) → Reader → Type 0
+Takes old P given new =
+    (history : History) → IsStateAfter old.text.now history old → P history (step_here old.text.now history old) → IsRead old.text.now (left_here old.text.now history old) given new
+
+-- the same is ahead as before
+abbrev pub KeepsAhead : Reader → Reader → Type 0
+KeepsAhead old new = (lexemes : List (grammar.Spanned TokenView)) (fault : Option (grammar.Spanned grammar.Fault)) → IsAhead old.text.now old old.stage lexemes fault → IsAhead old.text.now new new.stage lexemes fault
+
+-- of what was ahead the first lexeme was passed, …
+abbrev pub PassesNext : Reader → grammar.Spanned TokenView → Reader → Type 0
+PassesNext old lexeme new = (lexemes : List (grammar.Spanned TokenView)) (fault : Option (grammar.Spanned grammar.Fault)) → IsAhead old.text.now old old.stage lexemes fault → IsAheadPast old.text.now lexeme new lexemes fault
+
+-- … or yielded, if one was
+abbrev pub TakesNext : Reader → Option (ℕ × Token × ℕ) → Reader → Type 0
+TakesNext old given new = (lexemes : List (grammar.Spanned TokenView)) (fault : Option (grammar.Spanned grammar.Fault)) → IsAhead old.text.now old old.stage lexemes fault → IsAheadAfter old.text.now given new lexemes fault
+
 -- a measure that decreases with each piece
 abbrev pub left_to_read : Text → Reader → Stage → ℕ
 left_to_read text reader stage.Begin = length text + 3
@@ -198,6 +241,10 @@ is_fault now = false
 -- a lexeme is ahead, or the fault
 abbrev pub IsSomething : List (grammar.Spanned TokenView) → Option (grammar.Spanned grammar.Fault) → Type 0
 IsSomething lexemes fault = lexemes ≡ [] → fault ≡ None → ⊥
+
+-- something was ahead
+abbrev pub HasSomething : Reader → Type 0
+HasSomething old = (lexemes : List (grammar.Spanned TokenView)) (fault : Option (grammar.Spanned grammar.Fault)) → IsAhead old.text.now old old.stage lexemes fault → IsSomething lexemes fault
 
 -- the fault of the text, between two offsets
 abbrev pub IsRaw : grammar.Spanned grammar.Fault → ℕ × LexemeError × ℕ → Type 0

@@ -42,7 +42,7 @@ pub record IsCollected (text : Text) (state : LexerState) (found : List (ℕ × 
   pub view : view_of state ≡ record { text = text; yielded_count = length found; has_ended = false; reads = state.reader.reads }
   pub all : map shown_lexeme (outcome text).lexemes ≡ map lexeme_view found ++ left_in state
 
-pub text_is : (text : Text) (state : LexerState) (found : List (ℕ × Token × ℕ)) → IsCollected text state found → state.text.now ≡ text
+pub text_is : (text : Text) (state : LexerState) (found : List (ℕ × Token × ℕ)) → IsCollected text state found → state.reader.text.now ≡ text
 text_is text state found is = ap (λ (v : StateView). v.text) is.view
 
 pub goes_on : (text : Text) (state : LexerState) (found : List (ℕ × Token × ℕ)) → IsCollected text state found → state.has_ended ≡ false
@@ -53,9 +53,9 @@ pub one_more : (text : Text) (old new : LexerState) (found : List (ℕ × Token 
     → view_of new ≡ record (view_of old) { yielded_count = old.yielded_count + 1; has_ended = false; reads = new.reader.reads }
     → IsCollected text new (found ++ lexeme ∷ []) × (length found < length (outcome text).lexemes) × ((at : ℕ) → IsCutBefore text at (length (left_in new)) → IsReached new.reader at)
 one_more text old new found lexeme is answer lexing after =
-    let same : old.text.now ≡ text = text_is text old found is in
+    let same : old.reader.text.now ≡ text = text_is text old found is in
     let left : left_in new ≡ answer.0 =
-    ap (λ (v : StateView). drop v.yielded_count (map shown_lexeme (outcome v.text).lexemes)) after ∙ (next_left (map shown_lexeme (outcome old.text.now).lexemes) old.yielded_count (lexeme_view lexeme) answer.0 answer.1).1 in
+    ap (λ (v : StateView). drop v.yielded_count (map shown_lexeme (outcome v.text).lexemes)) after ∙ (next_left (map shown_lexeme (outcome old.reader.text.now).lexemes) old.yielded_count (lexeme_view lexeme) answer.0 answer.1).1 in
     let all : map shown_lexeme (outcome text).lexemes ≡ map lexeme_view found ++ lexeme_view lexeme ∷ left_in new = is.all ∙ ap (λ vs. map lexeme_view found ++ vs) (answer.1 ∙ ap (λ vs. lexeme_view lexeme ∷ vs) (sym left)) in
     let parts : map lexeme_view (found ++ lexeme ∷ []) ++ left_in new ≡ map lexeme_view found ++ lexeme_view lexeme ∷ left_in new =
     ap (λ vs. vs ++ left_in new) (map-append lexeme_view found (lexeme ∷ [])) ∙ append_assoc (map lexeme_view found) (lexeme_view lexeme ∷ []) (left_in new) in
@@ -67,7 +67,7 @@ one_more text old new found lexeme is answer lexing after =
         all = all ∙ sym parts;
       },
       omega (arith, count, length-map (outcome text).lexemes shown_lexeme, length-map found lexeme_view),
-      λ at cut. answer.3 at (subst (λ n. IsCutBefore old.text.now at n) (ap length left) (subst (λ (t : Text). IsCutBefore t at (length (left_in new))) (sym same) cut)),
+      λ at cut. answer.3 at (subst (λ n. IsCutBefore old.reader.text.now at n) (ap length left) (subst (λ (t : Text). IsCutBefore t at (length (left_in new))) (sym same) cut)),
     )
 
 -- where only the number of reads changes
@@ -93,14 +93,14 @@ pub less_left : {A : Type 0} (all : ℕ) (old new : List A) (x : A) → new ≡ 
 less_left all old new x is some = omega (arith, ap length is, length-append old (x ∷ []), some)
 
 -- none yet
-pub collected_none : (state : LexerState) (found : List (ℕ × Token × ℕ)) → found ≡ [] → IsLexing state → IsBegun state.text.now state → IsCollected state.text.now state found
+pub collected_none : (state : LexerState) (found : List (ℕ × Token × ℕ)) → found ≡ [] → IsLexing state → IsBegun state.reader.text.now state → IsCollected state.reader.text.now state found
 collected_none state found none lexing begun =
     let none_yet : state.yielded_count ≡ 0 = ap (λ (v : StateView). v.yielded_count) begun.view in
     record {
       lexing = lexing;
-      view = begun.view ∙ ap (λ (ls : List (ℕ × Token × ℕ)). record { text = state.text.now; yielded_count = length ls; has_ended = false; reads = 0 }) (sym none)
-          ∙ ap (λ n. record { text = state.text.now; yielded_count = length found; has_ended = false; reads = n }) (sym (ap (λ (v : StateView). v.reads) begun.view));
-      all = sym (ap (λ (ls : List (ℕ × Token × ℕ)). map lexeme_view ls ++ left_in state) none ∙ ap (λ n. drop n (map shown_lexeme (outcome state.text.now).lexemes)) none_yet);
+      view = begun.view ∙ ap (λ (ls : List (ℕ × Token × ℕ)). record { text = state.reader.text.now; yielded_count = length ls; has_ended = false; reads = 0 }) (sym none)
+          ∙ ap (λ n. record { text = state.reader.text.now; yielded_count = length found; has_ended = false; reads = n }) (sym (ap (λ (v : StateView). v.reads) begun.view));
+      all = sym (ap (λ (ls : List (ℕ × Token × ℕ)). map lexeme_view ls ++ left_in state) none ∙ ap (λ n. drop n (map shown_lexeme (outcome state.reader.text.now).lexemes)) none_yet);
     }
 
 -- all of them, where none is left
@@ -201,7 +201,7 @@ all_held text cuts more count so same last at kept = go (nat_lt at (length text)
 pub fault_given : (text : Text) (state new : LexerState) (part : PartView) (found : ℕ × LexemeError × ℕ) → IsCollected text state part.lexemes → HasTakenLast state (Some found) new
     → AreCutsSoFar text (length part.lexemes) part.cuts → part.fault ≡ Some found → part.is_cut ≡ false → part.has_tab ≡ has_read_none new.reader → IsReadPart text part
 fault_given text state new part found is last so thrown no_cut tab =
-    let same : state.text.now ≡ text = text_is text state part.lexemes is in
+    let same : state.reader.text.now ≡ text = text_is text state part.lexemes is in
     let fault : (outcome text).fault ≡ Some last.0 = ap (λ (t : Text). (outcome t).fault) (sym same) ∙ last.1.has in
     record {
       lexemes = none_left text state part.lexemes is last.1.none;
@@ -256,7 +256,7 @@ pub record HasPushed (text : Text) (state : LexerState) (lexemes pushed : List (
 
 pub pushed_one : (text : Text) (old new : LexerState) (lexemes pushed : List (ℕ × Token × ℕ)) (lexeme : ℕ × Token × ℕ) (cuts found : List Cut) (place : Option ℕ) (len : ℕ) → IsCollected text old lexemes → AreCutsSoFar text (length lexemes) cuts
     → HasAnswered old (Some (Ok lexeme)) new → IsLexing new → view_of new ≡ record (view_of old) { yielded_count = old.yielded_count + 1; has_ended = false; reads = new.reader.reads }
-    → pushed ≡ lexemes ++ lexeme ∷ [] → IfSome place (λ at. IsCutBefore new.text.now at (length (left_in new))) → ((at : ℕ) → IsReached new.reader at → 0 < at → at < length new.text.now → place ≡ Some at)
+    → pushed ≡ lexemes ++ lexeme ∷ [] → IfSome place (λ at. IsCutBefore new.reader.text.now at (length (left_in new))) → ((at : ℕ) → IsReached new.reader at → 0 < at → at < length new.reader.text.now → place ≡ Some at)
     → len ≡ length pushed → found ≡ cuts ++ cuts_at place len → HasPushed text new lexemes pushed found
 pushed_one text old new lexemes pushed lexeme cuts found place len is so answer lexing after push kept reached counted all =
     let more = one_more text old new lexemes lexeme is answer lexing after in

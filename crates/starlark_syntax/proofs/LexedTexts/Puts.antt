@@ -3,7 +3,7 @@ use Rattle.std.proofs.Common.{◌≡◌, ℕ, zero, suc, ◌+◌, ◌-◌, ◌<�
 use Rattle.std.specs.Option.{is_some}
 use Rattle.std.specs.Result.{is_err}
 use Rattle.std.proofs.lemmas.Bool.{eqb-true}
-use Rattle.std.specs.Prelude.{OnOk, Option, Result, ◌&&◌, ◌||◌, ◌==◌, nat_lt, slice_get}
+use Rattle.std.specs.Prelude.{OnErr, OnOk, Option, Result, ◌&&◌, ◌||◌, ◌==◌, nat_lt, slice_get}
 use Rattle.std.specs.List.{AllByRecursion}
 use Rattle.std.proofs.lemmas.List.{length-map, length-take-le, map-append, take-append-drop}
 use Rattle.starlark_grammar.specs.Words.{Text}
@@ -172,3 +172,8 @@ not_some (Some x) has is e = let no : true ≡ false = sym is ∙ e in cc
 pub succeeded : {A E : Type 0} (P : Type 0) (result : Result A E) (has : Bool) → has ≡ is_err result → has ≡ false → OnOk result P → P
 succeeded P (Ok x) has is e holds = holds
 succeeded P (Err x) has is e holds = let no : true ≡ false = sym is ∙ e in cc
+
+-- what holds of one that failed
+pub broken : {A E : Type 0} (P : Type 0) (result : Result A E) (has : Bool) → has ≡ is_err result → has ≡ true → OnErr result P → P
+broken P (Ok x) has is e holds = let no : false ≡ true = sym is ∙ e in cc
+broken P (Err x) has is e holds = holds

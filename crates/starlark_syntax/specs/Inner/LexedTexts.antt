@@ -5,7 +5,7 @@ use Rattle.starlark_grammar.specs.Words.{Text}
 use Rattle.starlark_grammar.specs.Tokens as grammar
 use Rattle.starlark_grammar.specs.Reading.{outcome}
 use Rattle.starlark_grammar.specs.Cuts.{is_clean_cut, is_kept_cut, without_closing}
-use Rattle.starlark_token.specs.TokenViews.{TokenView, Whole, is_newline_view}
+use Rattle.starlark_token.specs.TokenViews.{TokenView, is_newline_view}
 use Rattle.starlark_token.specs.declared.tokens.Token.{Token}
 use Rattle.starlark_syntax.specs.Inner.RawItems.{IsRawIn}
 use Rattle.starlark_token.specs.declared.lexeme_error.LexemeError.{LexemeError}

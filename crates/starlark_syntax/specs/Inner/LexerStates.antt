@@ -9,7 +9,7 @@ use Rattle.starlark_grammar.specs.Tokens.{Fault, Spanned}
 use Rattle.starlark_grammar.specs.Words.{Text}
 use Rattle.starlark_grammar.specs.declared.class.Class.{Class}
 use Rattle.starlark_words.specs.declared.scanner.word.Word.{Word}
-use Rattle.starlark_reader.specs.Inner.Reader.{IsAhead, IsAheadAfter, IsAheadPast, IsAtEnd, IsRaw, IsSomething, IsStateAfter, IsStateAtFault, IsTokenOf, IsWordHere, begins_with_tab, has_read_none, history_of, is_fault}
+use Rattle.starlark_reader.specs.Inner.Reader.{IsAhead, IsAheadAfter, IsAheadPast, IsAtEnd, IsRaw, IsSomething, IsStateAfter, IsStateAtFault, IsText, IsTokenOf, IsWordHere, begins_with_tab, has_read_none, history_of, is_fault}
 use Rattle.starlark_reader.specs.Inner.ReadBounds.{HasRead, LeavesRepair}
 use Rattle.starlark_reader.specs.declared.reader.Before.{Before}
 use Rattle.starlark_reader.specs.declared.reader.Before.TheVariants as before
@@ -39,7 +39,7 @@ use Rattle.starlark_token.specs.declared.tokens.Token.{Token}
 
 -- the lexemes of the text that weren't yielded yet
 abbrev pub left_in : LexerState → List (Spanned TokenView)
-left_in state = drop state.yielded_count (map shown_lexeme (outcome state.text.now).lexemes)
+left_in state = drop state.yielded_count (map shown_lexeme (outcome state.reader.text.now).lexemes)
 
 -- the state as users of a lexer see it, without its cut
 pub record StateView : Type 0 where
@@ -49,7 +49,7 @@ pub record StateView : Type 0 where
   pub reads : ℕ
 
 abbrev pub view_of : LexerState → StateView
-view_of state = record { text = state.text.now; yielded_count = state.yielded_count; has_ended = state.has_ended; reads = state.reader.reads }
+view_of state = record { text = state.reader.text.now; yielded_count = state.yielded_count; has_ended = state.has_ended; reads = state.reader.reads }
 
 -- the offset that a reader has reached in a flat margin, if that is before the text's end
 abbrev pub reached_cut : Text → Reader → Stage → Before → Option ℕ
@@ -59,13 +59,13 @@ reached_cut text reader stage before = None
 
 -- where the text may be cut, if the reader knows after a lexeme
 unfoldable pub known_cut : LexerState → Option ℕ
-known_cut state = if not state.has_ended && nat_lt 0 state.yielded_count then reached_cut state.text.now state.reader state.reader.stage state.reader.before else None
+known_cut state = if not state.has_ended && nat_lt 0 state.yielded_count then reached_cut state.reader.text.now state.reader state.reader.stage state.reader.before else None
 
 -- What the reader has ahead are the lexemes of a text that weren't yielded yet, and the fault after them; and what was read
 -- is paid for. After an error nothing of this is known.
 abbrev pub IsLexingIn : Text → LexerState → Type 0
 IsLexingIn text state =
-    (length text < 2 ^ 32)
+    IsText text
     × (state.has_ended ≡ false → (state.yielded_count ≤ length (outcome text).lexemes)
     × IsAhead text state.reader state.reader.stage (drop state.yielded_count (map shown_lexeme (outcome text).lexemes)) (outcome text).fault)
     × GoesOn state.lookahead state.has_ended
@@ -74,7 +74,7 @@ IsLexingIn text state =
 
 -- So it is of the state's own text.
 abbrev pub IsLexing : LexerState → Type 0
-IsLexing state = IsLexingIn state.text.now state
+IsLexing state = IsLexingIn state.reader.text.now state
 
 -- Lexing a text has begun, and nothing was looked at yet: the reader has all of any text ahead.
 pub record IsBegun (text : Text) (state : LexerState) : Type 0 where
@@ -87,10 +87,10 @@ pub record IsBegun (text : Text) (state : LexerState) : Type 0 where
 -- What a call answers: the first lexeme that is left, or nothing where none is; or out of memory in the place of a lexeme or
 -- the fault.
 abbrev pub HasAnswered : LexerState → Option (Result (ℕ × Token × ℕ) (OrMemory (Diagnosed ErrorKind))) → LexerState → Type 0
-HasAnswered old (Some (Ok lexeme)) new = IsAheadAfter old.text.now (Some lexeme) new.reader (left_in old) (outcome old.text.now).fault
+HasAnswered old (Some (Ok lexeme)) new = IsAheadAfter old.reader.text.now (Some lexeme) new.reader (left_in old) (outcome old.reader.text.now).fault
 HasAnswered old (Some (Err (Error exception))) new = ⊥
-HasAnswered old (Some (Err Memory)) new = IsSomething (left_in old) (outcome old.text.now).fault
-HasAnswered old None new = IsAtEnd old.text.now new.reader
+HasAnswered old (Some (Err Memory)) new = IsSomething (left_in old) (outcome old.reader.text.now).fault
+HasAnswered old None new = IsAtEnd old.reader.text.now new.reader
 
 -- whether a fault was reached, and isn't taken yet
 abbrev pub has_fault : LexerState → Bool
@@ -110,18 +110,18 @@ pub record IsAtFault (text : Text) (fault : Spanned Fault) (state : LexerState) 
 -- What was read up to the fault of a text, which is all that is left of it.
 pub record HasReachedFault (old : LexerState) (fault : Spanned Fault) (new : LexerState) : Type 0 where
   pub none : left_in old ≡ []
-  pub has : (outcome old.text.now).fault ≡ Some fault
-  pub tab : has_read_none new.reader ≡ begins_with_tab old.text.now
-  pub most : new.reader.reads ≤ most_reads old.text.now
-  pub reads : HasReadToFault old.text.now new.reader.reads
-  pub here : IsAtFault old.text.now fault new
+  pub has : (outcome old.reader.text.now).fault ≡ Some fault
+  pub tab : has_read_none new.reader ≡ begins_with_tab old.reader.text.now
+  pub most : new.reader.reads ≤ most_reads old.reader.text.now
+  pub reads : HasReadToFault old.reader.text.now new.reader.reads
+  pub here : IsAtFault old.reader.text.now fault new
 
 -- What is taken after the last lexeme: the fault, between two offsets, or nothing where the text has none.
 abbrev pub HasTakenLast : LexerState → Option (ℕ × LexemeError × ℕ) → LexerState → Type 0
 HasTakenLast old (Some found) new = (fault : Spanned Fault) × HasReachedFault old fault new × IsRaw fault found
 HasTakenLast old None new =
-    (left_in old ≡ []) × ((outcome old.text.now).fault ≡ None) × IsStateAfter old.text.now (history_of old.text.now) new.reader
-    × (more_reads 0 (length old.text.now) ≤ new.reader.reads) × (new.reader.reads < most_reads old.text.now)
+    (left_in old ≡ []) × ((outcome old.reader.text.now).fault ≡ None) × IsStateAfter old.reader.text.now (history_of old.reader.text.now) new.reader
+    × (more_reads 0 (length old.reader.text.now) ≤ new.reader.reads) × (new.reader.reads < most_reads old.reader.text.now)
 
 -- What a call finds next in a text: the first lexeme that is left, after the last one the fault, or nothing where there is
 -- none; or out of memory in the place of either.
@@ -137,7 +137,7 @@ HasFound text old None new =
 -- The exception of the fault after the last lexeme, or out of memory in its place.
 abbrev pub HasThrown : SourceFile → LexerState → OrMemory (Diagnosed ErrorKind) → LexerState → Type 0
 HasThrown file old (Error exception) new = (fault : Spanned Fault) × HasReachedFault old fault new × IsException file fault exception
-HasThrown file old Memory new = IsSomething (left_in old) (outcome old.text.now).fault
+HasThrown file old Memory new = IsSomething (left_in old) (outcome old.reader.text.now).fault
 
 -- how many items it is
 abbrev pub thrown_count : OrMemory (Diagnosed ErrorKind) → ℕ
@@ -156,19 +156,19 @@ pub record HasGivenNext (old : LexerState) (item : Option (Result (ℕ × Token 
 
 -- The reader took the first lexeme that is left, which the lexer hasn't counted yet, or ran out of memory in its place.
 pub record IsTakenNext {E : Type 0} (state : LexerState) (taken : Result (ℕ × Token × ℕ) E) : Type 0 where
-  pub fits : length state.text.now < 2 ^ 32
+  pub text : IsText state.reader.text.now
   pub going : state.has_ended ≡ false
-  pub few : state.yielded_count ≤ length (outcome state.text.now).lexemes
-  pub ahead : IfOk taken (λ lexeme. IsAheadAfter state.text.now (Some lexeme) state.reader (left_in state) (outcome state.text.now).fault)
-  pub memory : OnErr taken (IsSomething (left_in state) (outcome state.text.now).fault)
-  pub reach : IsInReach state.text.now state.looked_to
+  pub few : state.yielded_count ≤ length (outcome state.reader.text.now).lexemes
+  pub ahead : IfOk taken (λ lexeme. IsAheadAfter state.reader.text.now (Some lexeme) state.reader (left_in state) (outcome state.reader.text.now).fault)
+  pub memory : OnErr taken (IsSomething (left_in state) (outcome state.reader.text.now).fault)
+  pub reach : IsInReach state.reader.text.now state.looked_to
 
 -- What the fast path tells: the first lexeme that is left, which it passed; or out of memory in the place of an item.
 abbrev pub HasPassed : LexerState → FastPath → LexerState → Type 0
-HasPassed old (fast.Passed plain) new = IsPlainIn old.text.now plain × IsAheadPast old.text.now (plain_view old.text.now plain) new.reader (left_in old) (outcome old.text.now).fault
-HasPassed old (fast.Symbol terminal lexeme) new = IsTokenOf terminal (token_view lexeme.1) × IsAheadAfter old.text.now (Some lexeme) new.reader (left_in old) (outcome old.text.now).fault
+HasPassed old (fast.Passed plain) new = IsPlainIn old.reader.text.now plain × IsAheadPast old.reader.text.now (plain_view old.reader.text.now plain) new.reader (left_in old) (outcome old.reader.text.now).fault
+HasPassed old (fast.Symbol terminal lexeme) new = IsTokenOf terminal (token_view lexeme.1) × IsAheadAfter old.reader.text.now (Some lexeme) new.reader (left_in old) (outcome old.reader.text.now).fault
 HasPassed old fast.Undecided new = ⊤
-HasPassed old fast.OutOfMemory new = IsSomething (left_in old) (outcome old.text.now).fault
+HasPassed old fast.OutOfMemory new = IsSomething (left_in old) (outcome old.reader.text.now).fault
 
 -- how many lexemes the fast path passed
 abbrev pub passed_count : FastPath → ℕ
@@ -189,14 +189,14 @@ pub record HasPassedNext (old : LexerState) (found : FastPath) (new : LexerState
 
 -- The lexer is at a word in code, which the scanner has found, and has spent no other lookahead.
 pub record IsAtWord (state : LexerState) (word : Word) : Type 0 where
-  pub fits : length state.text.now < 2 ^ 32
+  pub text : IsText state.reader.text.now
   pub going : state.has_ended ≡ false
-  pub few : state.yielded_count ≤ length (outcome state.text.now).lexemes
-  pub ahead : IsAhead state.text.now state.reader state.reader.stage (left_in state) (outcome state.text.now).fault
-  pub stands : IsWordHere state.text.now state.reader word
+  pub few : state.yielded_count ≤ length (outcome state.reader.text.now).lexemes
+  pub ahead : IsAhead state.reader.text.now state.reader state.reader.stage (left_in state) (outcome state.reader.text.now).fault
+  pub stands : IsWordHere state.reader.text.now state.reader word
   pub lookahead : state.lookahead ≡ lookahead.Nothing
-  pub read : HasReadWord state.text.now state.looked_to word.len state.reader
-  pub reach : IsInReach state.text.now state.looked_to
+  pub read : HasReadWord state.reader.text.now state.looked_to word.len state.reader
+  pub reach : IsInReach state.reader.text.now state.looked_to
 
 -- The lexer is at a word of any class, and `is_text` says whether that opens a text literal.
 abbrev pub IsAtOpener : LexerState → (is_text : Bool) → (len : ℕ) → Type 0
@@ -241,16 +241,16 @@ is_none_waiting it = false
 
 -- A plain lexeme that was passed is an item, or there was out of memory in its place, which ends the lexer.
 abbrev pub HasTaken : LexerState → PlainLexeme → Option (Result (ℕ × Token × ℕ) (OrMemory (Diagnosed ErrorKind))) → LexerState → Type 0
-HasTaken old plain (Some (Ok lexeme)) new = (lexeme_view lexeme ≡ plain_view old.text.now plain) × (new ≡ old)
+HasTaken old plain (Some (Ok lexeme)) new = (lexeme_view lexeme ≡ plain_view old.reader.text.now plain) × (new ≡ old)
 HasTaken old plain (Some (Err Memory)) new = new ≡ record old { yielded_count = old.yielded_count - 1; has_ended = true; lookahead = lookahead.All }
 HasTaken old plain answer new = ⊥
 
 -- An error that a lexer still has to say: out of memory in the place of an item.
 pub record HasRunOut (state : LexerState) : Type 0 where
   pub ended : state.has_ended ≡ true
-  pub few : state.yielded_count ≤ length (outcome state.text.now).lexemes
-  pub left : IsSomething (left_in state) (outcome state.text.now).fault
+  pub few : state.yielded_count ≤ length (outcome state.reader.text.now).lexemes
+  pub left : IsSomething (left_in state) (outcome state.reader.text.now).fault
 
 -- the lexer as its users see it, which hasn't ended until it has said so
 abbrev pub lexer_view : LexerState → SourceFile → (has_run_out : Bool) → LexerView
-lexer_view state file has_run_out = record { text = state.text.now; code_map = file; yielded_count = state.yielded_count; has_ended = state.has_ended && not has_run_out; reads = state.reader.reads; cut = known_cut state }
+lexer_view state file has_run_out = record { text = state.reader.text.now; code_map = file; yielded_count = state.yielded_count; has_ended = state.has_ended && not has_run_out; reads = state.reader.reads; cut = known_cut state }

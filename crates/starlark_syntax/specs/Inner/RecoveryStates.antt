@@ -86,7 +86,7 @@ pub record IsPart (state : RecoveryState) : Type 0 where
   pub boundary : IsCharBoundary state.mended.text.now state.begin
   pub whole : IsCharBoundary (bytes_of state.mended) state.begin
   pub lexing : IsLexingIn (part_of state) state.state
-  pub own : state.mended.copy ≡ None → state.state.text.now ≡ part_of state
+  pub own : state.mended.copy ≡ None → state.state.reader.text.now ≡ part_of state
 
 -- from byte `to` of the part on the text has no repair
 pub record IsMended (state : RecoveryState) (to : ℕ) : Type 0 where
@@ -111,14 +111,14 @@ pub record IsRecovering (state : RecoveryState) : Type 0 where
 -- the next item of the part was found
 pub record IsAdvanced (before : RecoveryState) (item : Option (Result (ℕ × Token × ℕ) (OrMemory (ℕ × LexemeError × ℕ)))) (now : RecoveryState) : Type 0 where
   pub recovering : IsRecovering before
-  pub ended : before.state.has_ended ≡ true → (item ≡ None) × (now.state.reader ≡ before.state.reader)
+  pub ended : before.state.has_ended ≡ true → (item ≡ None) × (now.state.reader.reads ≡ before.state.reader.reads)
   pub found : before.state.has_ended ≡ false → HasFound (part_of before) before.state item now.state
   pub lexing : IsLexingIn (part_of before) now.state
   pub within : OffsetsHold (IsWithin (part_of before)) item
   pub between : OffsetsHold (λ from to. IsCharBoundary (part_of before) from × IsCharBoundary (part_of before) to) item
   pub count : now.state.yielded_count ≡ before.state.yielded_count + yielded_by item
   pub ends : now.state.has_ended ≡ (before.state.has_ended || is_ended_by item)
-  pub own : before.mended.copy ≡ None → now.state.text.now ≡ part_of before
+  pub own : before.mended.copy ≡ None → now.state.reader.text.now ≡ part_of before
   pub after : now ≡ record before { state = now.state }
 
 -- the fault of the part was taken

@@ -1,4 +1,4 @@
-use Rattle.std.proofs.Common.{◌≡◌, ◌<◌, ◌+◌, ◌++◌, ◌∷◌, [], IfSome, List, Ok, Some, arith, ap, false, length, length-append, refl, subst, sym, ℕ, ◌∙◌}
+use Rattle.std.proofs.Common.{◌≡◌, ◌++◌, IfSome, List, Some, arith, ap, length, refl, subst, sym, ℕ, ◌∙◌}
 use Rattle.std.specs.List.{ends_with}
 use Rattle.std.specs.Option.{is_some}
 use Rattle.std.specs.Prelude.{◌&&◌, Option, codes, nat_eq}
@@ -8,38 +8,38 @@ use Rattle.starlark_grammar.specs.Words.{Text}
 use Rattle.starlark_reader.specs.Inner.MarginCuts.{IsCutBefore}
 use Rattle.starlark_reader.specs.Inner.Reader.{IsStateAfter}
 use Rattle.starlark_syntax.specs.Inner.LexedTexts.{IsMet, cuts_at, end_cuts}
-use Rattle.starlark_syntax.specs.Inner.LexerStates.{HasAnswered, StateView, left_in, view_of}
+use Rattle.starlark_syntax.specs.Inner.LexerStates.{StateView, left_in}
 use Rattle.starlark_token.specs.declared.tokens.Token.{Token}
-use Rattle.starlark_syntax.proofs.LexedTexts.Collected.{AreCutsSoFar, IsCollected, all_given, collected_none, fault_given, goes_on, less_left, no_cuts_yet, none_collected, pushed_one, same_collected, settled_is, some_given, text_is}
+use Rattle.starlark_syntax.proofs.LexedTexts.Collected.{AreCutsSoFar, all_given, collected_none, fault_given, goes_on, less_left, no_cuts_yet, none_collected, pushed_one, same_collected, settled_is, some_given, text_is}
 use Rattle.starlark_syntax.proofs.LexedTexts.Meetings.{met_front}
 use Rattle.starlark_syntax.proofs.read_parts.read_part.Goals as goal
 
 pub loop-item-init : goal.loop-item-init
 loop-item-init c = record {
   collected = collected_none c.args.state.now c.new-lexemes.result.items c.new-lexemes.ensures.items c.requires.lexing c.requires.begun;
-  cuts = subst (λ n. AreCutsSoFar c.args.state.now.text.now n c.new-cuts.result.items) (sym (ap length c.new-lexemes.ensures.items)) (no_cuts_yet c.args.state.now.text.now c.new-cuts.result.items c.new-cuts.ensures.items);
+  cuts = subst (λ n. AreCutsSoFar c.args.state.now.reader.text.now n c.new-cuts.result.items) (sym (ap length c.new-lexemes.ensures.items)) (no_cuts_yet c.args.state.now.reader.text.now c.new-cuts.result.items c.new-cuts.ensures.items);
 }
 
 pub loop-item-preserved : goal.loop-item-preserved
 loop-item-preserved c =
     let going = goes_on _ c.loop-item.state c.loop-item.lexemes.items c.loop-item.invariant.collected in
-    let pushed = pushed_one c.args.state.now.text.now c.loop-item.state c.next.new.self c.loop-item.lexemes.items c.push.new.self.items c.in-Ok.lexeme c.loop-item.cuts.items c.push_cut.new.cuts.items c.cut-place.result c.len.result c.loop-item.invariant.collected c.loop-item.invariant.cuts
+    let pushed = pushed_one c.args.state.now.reader.text.now c.loop-item.state c.next.new.self c.loop-item.lexemes.items c.push.new.self.items c.in-Ok.lexeme c.loop-item.cuts.items c.push_cut.new.cuts.items c.cut-place.result c.len.result c.loop-item.invariant.collected c.loop-item.invariant.cuts
     (rw c.in-Ok.is at (c.in-Some.ensures.answer going)) c.in-Some.ensures.lexing (rw (c.in-Ok.is, going) at c.in-Some.ensures.after) c.in_ok-push.ensures.items c.cut-place.ensures.kept c.cut-place.ensures.reached (omega (arith, c.len.ensures, c.push.new.self.ok)) c.in_ok-push_cut.ensures in
     record {
-      collected = same_collected c.args.state.now.text.now c.next.new.self c.meeting_at.new.state c.push.new.self.items pushed.collected c.meeting_at.ensures.lexing c.meeting_at.ensures.after;
+      collected = same_collected c.args.state.now.reader.text.now c.next.new.self c.meeting_at.new.state c.push.new.self.items pushed.collected c.meeting_at.ensures.lexing c.meeting_at.ensures.after;
       cuts = pushed.cuts;
     }
 
 pub returns-in-Some-meeting_at-clause-met : goal.returns-in-Some-meeting_at-clause-met
 returns-in-Some-meeting_at-clause-met c =
     let going = goes_on _ c.loop-item.state c.loop-item.lexemes.items c.loop-item.invariant.collected in
-    let pushed = pushed_one c.args.state.now.text.now c.loop-item.state c.next.new.self c.loop-item.lexemes.items c.push.new.self.items c.in-Ok.lexeme c.loop-item.cuts.items c.push_cut.new.cuts.items c.cut-place.result c.len.result c.loop-item.invariant.collected c.loop-item.invariant.cuts
+    let pushed = pushed_one c.args.state.now.reader.text.now c.loop-item.state c.next.new.self c.loop-item.lexemes.items c.push.new.self.items c.in-Ok.lexeme c.loop-item.cuts.items c.push_cut.new.cuts.items c.cut-place.result c.len.result c.loop-item.invariant.collected c.loop-item.invariant.cuts
     (rw c.in-Ok.is at (c.in-Some.ensures.answer going)) c.in-Some.ensures.lexing (rw (c.in-Ok.is, going) at c.in-Some.ensures.after) c.in_ok-push.ensures.items c.cut-place.ensures.kept c.cut-place.ensures.reached (omega (arith, c.len.ensures, c.push.new.self.ok)) c.in_ok-push_cut.ensures in
-    let text = c.args.state.now.text.now in
+    let text = c.args.state.now.reader.text.now in
     let same = text_is text c.next.new.self c.push.new.self.items pushed.collected in
     let counted : c.len.result ≡ length c.push.new.self.items = omega (arith, c.len.ensures, c.push.new.self.ok) in
     let reached : c.cut-place.result ≡ Some c.in-Some-meeting_at.meeting.at = c.in-Some-meeting_at.ensures.place in
-    let before : IsCutBefore text c.in-Some-meeting_at.meeting.at (length (left_in c.next.new.self)) = subst (λ (t : Text). IsCutBefore t c.in-Some-meeting_at.meeting.at (length (left_in c.next.new.self))) same (subst (λ (found : Option ℕ). IfSome found (λ at. IsCutBefore c.next.new.self.text.now at (length (left_in c.next.new.self)))) reached c.cut-place.ensures.kept) in
+    let before : IsCutBefore text c.in-Some-meeting_at.meeting.at (length (left_in c.next.new.self)) = subst (λ (t : Text). IsCutBefore t c.in-Some-meeting_at.meeting.at (length (left_in c.next.new.self))) same (subst (λ (found : Option ℕ). IfSome found (λ at. IsCutBefore c.next.new.self.reader.text.now at (length (left_in c.next.new.self)))) reached c.cut-place.ensures.kept) in
     let last : c.push_cut.new.cuts.items ≡ c.loop-item.cuts.items ++ cuts_at (Some c.in-Some-meeting_at.meeting.at) (length c.push.new.self.items) = c.in_ok-push_cut.ensures ∙ ap (λ n. c.loop-item.cuts.items ++ cuts_at c.cut-place.result n) counted ∙ ap (λ (found : Option ℕ). c.loop-item.cuts.items ++ cuts_at found (length c.push.new.self.items)) reached in (
       subst (λ (t : Text). IsMet t c.args.known.text.now c.args.known.cuts.now c.in-Some-meeting_at.meeting) same c.in-Some-meeting_at.ensures.met,
       met_front text c.next.new.self c.loop-item.cuts.items c.in-Some-meeting_at.meeting.at _ pushed.collected before pushed.cuts last,
@@ -48,9 +48,9 @@ returns-in-Some-meeting_at-clause-met c =
 pub loop-item-smaller : goal.loop-item-smaller
 loop-item-smaller c =
     let going = goes_on _ c.loop-item.state c.loop-item.lexemes.items c.loop-item.invariant.collected in
-    let pushed = pushed_one c.args.state.now.text.now c.loop-item.state c.next.new.self c.loop-item.lexemes.items c.push.new.self.items c.in-Ok.lexeme c.loop-item.cuts.items c.push_cut.new.cuts.items c.cut-place.result c.len.result c.loop-item.invariant.collected c.loop-item.invariant.cuts
+    let pushed = pushed_one c.args.state.now.reader.text.now c.loop-item.state c.next.new.self c.loop-item.lexemes.items c.push.new.self.items c.in-Ok.lexeme c.loop-item.cuts.items c.push_cut.new.cuts.items c.cut-place.result c.len.result c.loop-item.invariant.collected c.loop-item.invariant.cuts
     (rw c.in-Ok.is at (c.in-Some.ensures.answer going)) c.in-Some.ensures.lexing (rw (c.in-Ok.is, going) at c.in-Some.ensures.after) c.in_ok-push.ensures.items c.cut-place.ensures.kept c.cut-place.ensures.reached (omega (arith, c.len.ensures, c.push.new.self.ok)) c.in_ok-push_cut.ensures in
-    less_left (length (outcome c.args.state.now.text.now).lexemes) c.loop-item.lexemes.items c.push.new.self.items c.in-Ok.lexeme c.in_ok-push.ensures.items pushed.more
+    less_left (length (outcome c.args.state.now.reader.text.now).lexemes) c.loop-item.lexemes.items c.push.new.self.items c.in-Ok.lexeme c.in_ok-push.ensures.items pushed.more
 
 pub returns-in-Some-take_fault-clause-part : goal.returns-in-Some-take_fault-clause-part
 returns-in-Some-take_fault-clause-part c = λ none.
@@ -66,10 +66,10 @@ with_end_cut-requires c =
 
 pub returns-clause-part : goal.returns-clause-part
 returns-clause-part c = λ none.
-    let text = c.args.state.now.text.now in
+    let text = c.args.state.now.reader.text.now in
     let mid = none_collected text c.loop-item.state c.next.new.self c.next.result c.loop-item.lexemes.items (ap is_some c.in_default.is) c.loop-item.invariant.collected c.next.ensures.lexing c.next.ensures.after in
     let last = c.in_default-take_fault.ensures.last (goes_on text c.next.new.self c.loop-item.lexemes.items mid) in
-    let same : c.take_fault.new.self.text.now ≡ text = ap (λ (v : StateView). v.text) c.take_fault.ensures.after ∙ text_is text c.next.new.self c.loop-item.lexemes.items mid in
+    let same : c.take_fault.new.self.reader.text.now ≡ text = ap (λ (v : StateView). v.text) c.take_fault.ensures.after ∙ text_is text c.next.new.self c.loop-item.lexemes.items mid in
     let is_cut : c.is_clean_cut-is_cut.result ≡ is_clean_cut text =
     settled_is text c.next.new.self c.take_fault.new.self c.loop-item.lexemes.items c.is_clean_cut-is_cut.result mid last
     (λ history after. c.is_clean_cut-is_cut.ensures.value history (subst (λ (t : Text). IsStateAfter t history c.take_fault.new.self.reader) (sym same) after) ∙ ap (λ (t : Text). is_settled history && ends_with nat_eq t (codes "\n")) same) in

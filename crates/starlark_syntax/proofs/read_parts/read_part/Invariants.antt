@@ -5,7 +5,7 @@ use Rattle.starlark_syntax.proofs.read_parts.read_part.Given as goal
 
 abbrev pub invariant-loop-item : goal.invariant-loop-item
 invariant-loop-item l =
-    record { collected : IsCollected l.fn.state.text.now l.state l.lexemes.items; cuts : AreCutsSoFar l.fn.state.text.now (length l.lexemes.items) l.cuts.items }
+    record { collected : IsCollected l.fn.state.reader.text.now l.state l.lexemes.items; cuts : AreCutsSoFar l.fn.state.reader.text.now (length l.lexemes.items) l.cuts.items }
 
 abbrev pub decreases-loop-item : goal.decreases-loop-item
-decreases-loop-item l = length (outcome l.fn.state.text.now).lexemes - length l.lexemes.items
+decreases-loop-item l = length (outcome l.fn.state.reader.text.now).lexemes - length l.lexemes.items

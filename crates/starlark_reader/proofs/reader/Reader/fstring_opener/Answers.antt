@@ -1,6 +1,6 @@
-use Rattle.starlark_reader.proofs.TakenPieces.PieceTaken.{left_onward}
+use Rattle.starlark_reader.proofs.TakenPieces.SameTexts.{state_here}
 use Rattle.starlark_reader.proofs.reader.Reader.fstring_opener.Goals as goal
 
 pub range_from-requires : goal.range_from-requires
 range_from-requires c = λ some.
-    (left_onward c.args.text.now c.args.self.now c.requires.ready.0 c.requires.ready.1 c.requires.code.stage c.requires.ready.2).is_left.1.boundary
+    (state_here c.args.self.now c.requires.sound c.requires.code.stage).1.boundary

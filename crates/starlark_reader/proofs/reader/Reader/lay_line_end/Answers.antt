@@ -30,15 +30,15 @@ change_width-requires-clause-within c =
     let some = content c.in-Some.margin.is_content _ (sym c.keeps_widths.ensures ∙ c.if-not-keeps_widths.true) in
     let spaces : c.in-Some.margin.blanks.len ≡ c.in-Some.margin.blanks.width = ap (λ (margin : Margin). margin.blanks.len) (c.in-Some.ensures.spaces some) in
     let begin = c.args.self.now.at + c.args.len in
-    let rest : length c.range_from.result.now ≡ length c.args.text.now - begin = ap (λ (t : Text). length t) c.range_from.ensures.value ∙ length-drop begin c.args.text.now in
+    let rest : length c.range_from.result.now ≡ length c.args.self.now.text.now - begin = ap (λ (t : Text). length t) c.range_from.ensures.value ∙ length-drop begin c.args.self.now.text.now in
     omega (arith, spaces, rest, c.requires.cut.0, c.in-Some.ensures.within)
 
 pub keep_margin-requires-clause-idle : goal.keep_margin-requires-clause-idle
-keep_margin-requires-clause-idle c = after_none c.args.text.now c.args.self.now.pending c.requires.idle.1
+keep_margin-requires-clause-idle c = after_none c.args.self.now.text.now c.args.self.now.pending c.requires.here.idle.1
 
 -- the margin after the newline, as the text has it, …
 abbrev seen_at : In-Some → Seen
-seen_at c = margin_of (drop (c.args.self.now.at + c.args.len) c.args.text.now)
+seen_at c = margin_of (drop (c.args.self.now.at + c.args.len) c.args.self.now.text.now)
 
 -- … and as it was read
 margin_is : (c : In-Some) → IsMargin (seen_at c) c.in-Some.margin
@@ -57,29 +57,29 @@ returns-clause-read c = λ history kept stands.
     let levels = c.args.self.now.levels in
     let laid = c.keep_margin.ensures.laid history.widths seen kept.levels same in
     let end = margin_end (goal.at.returns-clause-read c).In-Some in
-    let taken = end_taken c.args.text.now c.args.self.now.at c.args.len levels levels history.widths margin c.keep_margin.new.pending kept.levels same c.utf8.text c.requires.cut c.keep_margin.ensures.place laid in
+    let taken = end_taken c.args.self.now.text.now c.args.self.now.at c.args.len levels levels history.widths margin c.keep_margin.new.pending kept.levels same c.requires.here.text.utf8 c.requires.cut c.keep_margin.ensures.place laid in
     let of : IsOfMargin (c.args.self.now.at + c.args.len) seen.at levels c.keep_margin.new.pending = rw same.at at c.keep_margin.ensures.place in
-    line_taken c.args.text.now history c.args.self.now c.args.len kept stands c.step_to.new.self _ token.Newline refl c.utf8.text (rw new taken) (rw new of)
+    line_taken c.args.self.now.text.now history c.args.self.now c.args.len kept stands c.step_to.new.self _ token.Newline refl c.requires.here.text.utf8 (rw new taken) (rw new of)
     (ap (λ (reader : Reader). reader.nesting) new) (ap (λ (reader : Reader). reader.before) new) (ap (λ (reader : Reader). reader.at) new ∙ end) (ap (λ (reader : Reader). reader.stage) new)
 
 pub returns-clause-less : goal.returns-clause-less
 returns-clause-less c =
     let new = c.step_to.ensures in
-    let stands = c.requires.stands in
+    let stands = c.requires.here.stands in
     let margin = c.in-Some.margin in
     let seen = seen_at (goal.at.returns-clause-less c).In-Some in
     let same = margin_is (goal.at.returns-clause-less c).In-Some in
     let levels = c.args.self.now.levels in
     let laid = c.keep_margin.ensures.laid stands.0.widths seen stands.1.levels same in
     let end = margin_end (goal.at.returns-clause-less c).In-Some in
-    let taken = end_taken c.args.text.now c.args.self.now.at c.args.len levels levels stands.0.widths margin c.keep_margin.new.pending stands.1.levels same c.utf8.text c.requires.cut c.keep_margin.ensures.place laid in
-    line_less c.args.text.now stands.0 c.args.self.now c.args.len stands.1 stands.2 c.step_to.new.self taken
+    let taken = end_taken c.args.self.now.text.now c.args.self.now.at c.args.len levels levels stands.0.widths margin c.keep_margin.new.pending stands.1.levels same c.requires.here.text.utf8 c.requires.cut c.keep_margin.ensures.place laid in
+    line_less c.args.self.now.text.now stands.0 c.args.self.now c.args.len stands.1 stands.2 c.step_to.new.self taken
     (ap (λ (reader : Reader). reader.stage) new) (ap (λ (reader : Reader). reader.at) new ∙ end)
 
 pub returns-clause-onward : goal.returns-clause-onward
 returns-clause-onward c = λ newline.
     let new = c.step_to.ensures in
     let place = c.keep_margin.ensures.place in
-    let remainder = ap lexemes_after c.keep_margin.ensures.stays ∙ after_none c.args.text.now c.args.self.now.pending c.requires.idle.1 in
+    let remainder = ap lexemes_after c.keep_margin.ensures.stays ∙ after_none c.args.self.now.text.now c.args.self.now.pending c.requires.here.idle.1 in
     let idle = λ (text : Text). nothing_left text c.keep_margin.new.pending (omega (arith, place.from, place.to, c.in-Some.ensures.plain)) remainder in
     (ap (λ (reader : Reader). reader.stage) new, ap (λ (reader : Reader). reader.nesting) new, λ text. ap (λ (reader : Reader). pending_lexemes text reader.pending) new ∙ idle text)

@@ -12,17 +12,17 @@ use Rattle.starlark_reader.proofs.TakenPieces.Taken.{line_less, line_refused, li
 use Rattle.starlark_reader.proofs.reader.Reader.lay_margin.Goals as goal
 
 pub take_margin-requires-clause-idle : goal.take_margin-requires-clause-idle
-take_margin-requires-clause-idle c = after_none c.args.text.now c.args.self.now.pending c.requires.idle.1
+take_margin-requires-clause-idle c = after_none c.args.self.now.text.now c.args.self.now.pending c.requires.line_end.here.idle.1
 
 pub returns-then-not-branch-clause-read : goal.returns-then-not-branch-clause-read
 returns-then-not-branch-clause-read c = λ history kept stands.
     let new = c.refuse.ensures in
-    let seen = margin_of (drop (c.args.self.now.at + c.args.len) c.args.text.now) in
+    let seen = margin_of (drop (c.args.self.now.at + c.args.len) c.args.self.now.text.now) in
     let margin : IsMargin seen c.args.margin = c.requires.margin in
     let left = rw c.if-not-branch.true at (c.in_ok-take_margin.ensures.laid history.widths seen kept.levels margin) in
-    let refused = end_refused c.args.text.now c.args.self.now.at c.args.len c.args.self.now.levels c.take_margin.new.levels history.widths c.args.margin c.nothing-self.result kept.levels margin _ _ left (c.nothing-self.ensures c.args.text.now)
+    let refused = end_refused c.args.self.now.text.now c.args.self.now.at c.args.len c.args.self.now.levels c.take_margin.new.levels history.widths c.args.margin c.nothing-self.result kept.levels margin _ _ left (c.nothing-self.ensures c.args.self.now.text.now)
     c.margin_fault-fault.result.0 c.margin_fault-fault.result.1 (c.margin_fault-fault.ensures seen margin) in
-    line_refused c.args.text.now history c.args.self.now c.args.len kept stands c.refuse.new.self c.margin_fault-fault.result.0 c.margin_fault-fault.result.1 (rw new refused)
+    line_refused c.args.self.now.text.now history c.args.self.now c.args.len kept stands c.refuse.new.self c.margin_fault-fault.result.0 c.margin_fault-fault.result.1 (rw new refused)
     (ap (λ (reader : Reader). reader.stage) new) (ap (λ (reader : Reader). reader.at) new) (ap (λ (reader : Reader). reader.nesting) new) (ap (λ (reader : Reader). reader.before) new)
 
 pub returns-clause-read : goal.returns-clause-read
@@ -30,29 +30,29 @@ unfolding token_view
 returns-clause-read c = λ history kept stands.
     let new = c.step_over.ensures in
     let begin = c.args.self.now.at + c.args.len in
-    let seen = margin_of (drop begin c.args.text.now) in
+    let seen = margin_of (drop begin c.args.self.now.text.now) in
     let margin : IsMargin seen c.args.margin = c.requires.margin in
     let laid = rw c.if-not-branch.false at (c.in_ok-take_margin.ensures.laid history.widths seen kept.levels margin) in
-    let taken = end_taken c.args.text.now c.args.self.now.at c.args.len c.args.self.now.levels c.take_margin.new.levels history.widths c.args.margin c.take_margin.new.pending kept.levels margin c.utf8.text c.requires.cut c.in_ok-take_margin.ensures.place laid in
+    let taken = end_taken c.args.self.now.text.now c.args.self.now.at c.args.len c.args.self.now.levels c.take_margin.new.levels history.widths c.args.margin c.take_margin.new.pending kept.levels margin c.requires.line_end.here.text.utf8 c.requires.line_end.cut c.in_ok-take_margin.ensures.place laid in
     let of : IsOfMargin begin seen.at c.args.self.now.levels c.take_margin.new.pending = rw margin.at at c.in_ok-take_margin.ensures.place in
-    line_taken c.args.text.now history c.args.self.now c.args.len kept stands c.step_over.new.self _ token.Newline refl c.utf8.text (rw new taken) (rw new of)
+    line_taken c.args.self.now.text.now history c.args.self.now c.args.len kept stands c.step_over.new.self _ token.Newline refl c.requires.line_end.here.text.utf8 (rw new taken) (rw new of)
     (ap (λ (reader : Reader). reader.nesting) new) (ap (λ (reader : Reader). reader.before) new) (ap (λ (reader : Reader). reader.at) new) (ap (λ (reader : Reader). reader.stage) new)
 
 pub returns-clause-less : goal.returns-clause-less
 returns-clause-less c =
     let new = c.step_over.ensures in
-    let stands = c.requires.stands in
+    let stands = c.requires.line_end.here.stands in
     let begin = c.args.self.now.at + c.args.len in
-    let seen = margin_of (drop begin c.args.text.now) in
+    let seen = margin_of (drop begin c.args.self.now.text.now) in
     let margin : IsMargin seen c.args.margin = c.requires.margin in
     let laid = rw c.if-not-branch.false at (c.in_ok-take_margin.ensures.laid stands.0.widths seen stands.1.levels margin) in
-    let taken = end_taken c.args.text.now c.args.self.now.at c.args.len c.args.self.now.levels c.take_margin.new.levels stands.0.widths c.args.margin c.take_margin.new.pending stands.1.levels margin c.utf8.text c.requires.cut c.in_ok-take_margin.ensures.place laid in
-    line_less c.args.text.now stands.0 c.args.self.now c.args.len stands.1 stands.2 c.step_over.new.self taken
+    let taken = end_taken c.args.self.now.text.now c.args.self.now.at c.args.len c.args.self.now.levels c.take_margin.new.levels stands.0.widths c.args.margin c.take_margin.new.pending stands.1.levels margin c.requires.line_end.here.text.utf8 c.requires.line_end.cut c.in_ok-take_margin.ensures.place laid in
+    line_less c.args.self.now.text.now stands.0 c.args.self.now c.args.len stands.1 stands.2 c.step_over.new.self taken
     (ap (λ (reader : Reader). reader.stage) new) (ap (λ (reader : Reader). reader.at) new)
 
 pub returns-then-not-branch-clause-reads : goal.returns-then-not-branch-clause-reads
 returns-then-not-branch-clause-reads c = λ before counted there.
-    let text = c.args.text.now in
+    let text = c.args.self.now.text.now in
     let new = c.refuse.ensures in
     let seen = margin_of (drop (c.args.self.now.at + c.args.len) text) in
     let none = (c.nothing-self.ensures []).1.inside in

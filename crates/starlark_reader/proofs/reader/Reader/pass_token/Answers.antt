@@ -16,31 +16,31 @@ one len node = record { len = len; lexemes = record { begin = 0; node = node; en
 pub step_over-requires-clause-fits : goal.step_over-requires-clause-fits
 step_over-requires-clause-fits c =
     let stands = c.requires.stands in
-    let here = piece_here c.args.text.now stands.0 c.args.self.now (one c.args.len stands.2.0) stands.1 stands.2.3 in
-    omega (arith, here.1, c.requires.fits)
+    let here = piece_here c.args.self.now.text.now stands.0 c.args.self.now (one c.args.len stands.2.0) stands.1 stands.2.3 in
+    omega (arith, here.1, c.requires.text.fits)
 
 pub returns-clause-read : goal.returns-clause-read
 returns-clause-read c = λ history kept stands.
-    let here = piece_here c.args.text.now history c.args.self.now (one c.args.len stands.0) kept stands.3 in
-    rw c.step_over.ensures (took c.args.text.now history c.args.self.now (Some (c.args.self.now.at, c.args.token.now, c.args.self.now.at + c.args.len)) _ (one c.args.len stands.0) c.utf8.text kept stands.3 refl
+    let here = piece_here c.args.self.now.text.now history c.args.self.now (one c.args.len stands.0) kept stands.3 in
+    rw c.step_over.ensures (took c.args.self.now.text.now history c.args.self.now (Some (c.args.self.now.at, c.args.token.now, c.args.self.now.at + c.args.len)) _ (one c.args.len stands.0) c.requires.text.utf8 kept stands.3 refl
     (c.pass.ensures.passes history.tokens stands.0 stands.1 stands.2 kept.nesting)
     (kept.levels ∙ ap open_widths (sym (append-nil history.widths)))
     refl
     refl
     (omega (arith, c.pass.ensures.count, kept.few, here.0))
     refl
-    (hands_one c.args.text.now c.args.self.now.pending (c.args.self.now.at, c.args.token.now, c.args.self.now.at + c.args.len) _ c.requires.idle (shown_here c.args.self.now.at c.args.len c.args.token.now stands.0 stands.1 stands.2)))
+    (hands_one c.args.self.now.text.now c.args.self.now.pending (c.args.self.now.at, c.args.token.now, c.args.self.now.at + c.args.len) _ c.requires.idle (shown_here c.args.self.now.at c.args.len c.args.token.now stands.0 stands.1 stands.2)))
 
 pub returns-clause-less : goal.returns-clause-less
 returns-clause-less c =
     let stands = c.requires.stands in
-    let here = piece_here c.args.text.now stands.0 c.args.self.now (one c.args.len stands.2.0) stands.1 stands.2.3 in
+    let here = piece_here c.args.self.now.text.now stands.0 c.args.self.now (one c.args.len stands.2.0) stands.1 stands.2.3 in
     let is = c.step_over.ensures in
-    less_onward c.args.text.now c.args.self.now c.step_over.new.self c.args.len (ap (λ (reader : Reader). reader.stage) is) (ap (λ (reader : Reader). reader.at) is) here.0 here.1
+    less_onward c.args.self.now.text.now c.args.self.now c.step_over.new.self c.args.len (ap (λ (reader : Reader). reader.stage) is) (ap (λ (reader : Reader). reader.at) is) here.0 here.1
 
 pub returns-clause-taken : goal.returns-clause-taken
 returns-clause-taken c =
     let stands = c.requires.stands in
-    let here = piece_here c.args.text.now stands.0 c.args.self.now (one c.args.len stands.2.0) stands.1 stands.2.3 in
+    let here = piece_here c.args.self.now.text.now stands.0 c.args.self.now (one c.args.len stands.2.0) stands.1 stands.2.3 in
     let is = c.step_over.ensures in
     (here.0, (ap (λ (reader : Reader). reader.at) is, ap (λ (reader : Reader). reader.reads) is, omega (arith, ap (λ (reader : Reader). owed reader.pending) is)), ap (λ (reader : Reader). reader.stage) is)

@@ -1,26 +1,25 @@
 use Rattle.std.proofs.Common.{◌+◌, ◌≤◌, length, rules, Some}
 use Rattle.starlark_token.specs.declared.tokens.Token.TheVariants as token
 use Rattle.starlark_reader.proofs.TakenPieces.Here.{piece_here}
-use Rattle.starlark_reader.proofs.TakenPieces.PieceTaken.{bang_changes, bang_step, left_onward, onward_ahead}
+use Rattle.starlark_reader.proofs.TakenPieces.PieceTaken.{bang_changes, bang_step}
+use Rattle.starlark_reader.proofs.TakenPieces.SameTexts.{at_step, code_after, state_here, taken_here}
 use Rattle.starlark_reader.proofs.reader.Reader.take_bang.Goals as goal
 
-pub pass_token-requires-clause-stands : goal.pass_token-requires-clause-stands
-pass_token-requires-clause-stands c =
-    let left = (left_onward c.args.text.now c.args.self.now c.requires.ready.0 c.requires.ready.1 c.requires.stands.stage c.requires.ready.2).is_left in
-    (left.0, left.1, bang_step c.args.text.now left.0 c.args.self.now left.1 c.requires.stands)
+pub pass_token-requires : goal.pass_token-requires
+pass_token-requires c =
+    at_step c.args.self.now _ c.requires.sound c.requires.stands.stage c.requires.stands.idle (λ history kept. bang_step c.args.self.now.text.now history c.args.self.now kept c.requires.stands)
 
 pub overflow_add-result : goal.overflow_add-result
 overflow_add-result c =
-    let left = (left_onward c.args.text.now c.args.self.now c.requires.ready.0 c.requires.ready.1 c.requires.stands.stage c.requires.ready.2).is_left in
-    let here = piece_here c.args.text.now left.0 c.args.self.now _ left.1 (c.requires.stands.stands left.0 left.1) in
-    let inside : c.args.self.now.at + 1 ≤ length c.args.text.now = here.1 in
+    let left = state_here c.args.self.now c.requires.sound c.requires.stands.stage in
+    let here = piece_here c.args.self.now.text.now left.0 c.args.self.now _ left.1 (c.requires.stands.stands left.0 left.1) in
+    let inside : c.args.self.now.at + 1 ≤ length c.args.self.now.text.now = here.1 in
     search (rules, inside)
 
 pub returns-clause-ahead : goal.returns-clause-ahead
-returns-clause-ahead c = λ lexemes fault ahead.
-    onward_ahead c.args.text.now c.args.self.now (Some (c.args.self.now.at, token.FStringBang, c.args.self.now.at + 1)) c.pass_token.new.self lexemes fault
-    (λ history kept. c.pass_token.ensures.read history kept (bang_step c.args.text.now history c.args.self.now kept c.requires.stands))
-    c.requires.stands.idle (left_onward c.args.text.now c.args.self.now lexemes fault c.requires.stands.stage ahead)
+returns-clause-ahead c =
+    taken_here c.args.self.now (Some (c.args.self.now.at, token.FStringBang, c.args.self.now.at + 1)) c.pass_token.new.self c.requires.stands.stage c.requires.stands.idle
+    (λ history kept. c.pass_token.ensures.read history kept (bang_step c.args.self.now.text.now history c.args.self.now kept c.requires.stands))
 
 pub returns-clause-code : goal.returns-clause-code
-returns-clause-code c = c.pass_token.ensures.onward (c.pass_token.ensures.stays bang_changes c.requires.stands.code)
+returns-clause-code c = code_after c.args.self.now c.pass_token.new.self c.pass_token.ensures.text (c.pass_token.ensures.onward (c.pass_token.ensures.stays bang_changes c.requires.stands.code))

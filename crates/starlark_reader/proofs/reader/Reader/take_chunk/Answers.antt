@@ -14,29 +14,29 @@ use Rattle.starlark_reader.proofs.reader.Reader.take_chunk.Goals.{After-pass}
 pub overflow_add-between : goal.overflow_add-between
 overflow_add-between c =
     let stands = c.requires.stands in
-    let here = piece_here c.args.text.now stands.0 c.args.self.now (chunk_piece (string_bytes c.args.chunk) c.args.chunk_len c.args.len (text_end_node c.args.stop)) stands.1 stands.2 in
-    let inside : c.args.self.now.at + c.args.chunk_len ≤ length c.args.text.now = omega (arith, here.1) in
+    let here = piece_here c.args.self.now.text.now stands.0 c.args.self.now (chunk_piece (string_bytes c.args.chunk) c.args.chunk_len c.args.len (text_end_node c.args.stop)) stands.1 stands.2 in
+    let inside : c.args.self.now.at + c.args.chunk_len ≤ length c.args.self.now.text.now = omega (arith, here.1) in
     search (rules, inside)
 
 pub overflow_add-end : goal.overflow_add-end
 overflow_add-end c =
     let stands = c.requires.stands in
-    let here = piece_here c.args.text.now stands.0 c.args.self.now (chunk_piece (string_bytes c.args.chunk) c.args.chunk_len c.args.len (text_end_node c.args.stop)) stands.1 stands.2 in
-    let inside : c.args.self.now.at + c.args.chunk_len + c.args.len ≤ length c.args.text.now = omega (arith, here.1) in
+    let here = piece_here c.args.self.now.text.now stands.0 c.args.self.now (chunk_piece (string_bytes c.args.chunk) c.args.chunk_len c.args.len (text_end_node c.args.stop)) stands.1 stands.2 in
+    let inside : c.args.self.now.at + c.args.chunk_len + c.args.len ≤ length c.args.self.now.text.now = omega (arith, here.1) in
     search (rules, inside)
 
 pub overflow_add-chunk_len : goal.overflow_add-chunk_len
 overflow_add-chunk_len c =
     let stands = c.requires.stands in
-    let here = piece_here c.args.text.now stands.0 c.args.self.now (chunk_piece (string_bytes c.args.chunk) c.args.chunk_len c.args.len (text_end_node c.args.stop)) stands.1 stands.2 in
-    let inside : c.args.chunk_len + c.args.len ≤ length c.args.text.now = omega (arith, here.1) in
+    let here = piece_here c.args.self.now.text.now stands.0 c.args.self.now (chunk_piece (string_bytes c.args.chunk) c.args.chunk_len c.args.len (text_end_node c.args.stop)) stands.1 stands.2 in
+    let inside : c.args.chunk_len + c.args.len ≤ length c.args.self.now.text.now = omega (arith, here.1) in
     search (rules, inside)
 
 pub step_over-requires-clause-fits : goal.step_over-requires-clause-fits
 step_over-requires-clause-fits c =
     let stands = c.requires.stands in
-    let here = piece_here c.args.text.now stands.0 c.args.self.now (chunk_piece (string_bytes c.args.chunk) c.args.chunk_len c.args.len (text_end_node c.args.stop)) stands.1 stands.2 in
-    omega (arith, here.1, c.requires.fits)
+    let here = piece_here c.args.self.now.text.now stands.0 c.args.self.now (chunk_piece (string_bytes c.args.chunk) c.args.chunk_len c.args.len (text_end_node c.args.stop)) stands.1 stands.2 in
+    omega (arith, here.1, c.requires.text.fits)
 
 -- the tokens after the chunk
 passed : (c : After-pass) (history : History) → Represents history.tokens c.args.self.now.nesting
@@ -47,41 +47,41 @@ passed c history same =
 
 pub returns-then-is_empty-clause-read : goal.returns-then-is_empty-clause-read
 returns-then-is_empty-clause-read c = λ history kept stands.
-    let here = piece_here c.args.text.now history c.args.self.now (chunk_piece (string_bytes c.args.chunk) c.args.chunk_len c.args.len (text_end_node c.args.stop)) kept stands in
-    rw c.step_over.ensures (took c.args.text.now history c.args.self.now (Some (c.args.self.now.at + c.args.chunk_len, c.token-then-is_empty.result, c.args.self.now.at + c.args.chunk_len + c.args.len)) _ (chunk_piece (string_bytes c.args.chunk) c.args.chunk_len c.args.len (text_end_node c.args.stop)) c.utf8.text kept stands refl
+    let here = piece_here c.args.self.now.text.now history c.args.self.now (chunk_piece (string_bytes c.args.chunk) c.args.chunk_len c.args.len (text_end_node c.args.stop)) kept stands in
+    rw c.step_over.ensures (took c.args.self.now.text.now history c.args.self.now (Some (c.args.self.now.at + c.args.chunk_len, c.token-then-is_empty.result, c.args.self.now.at + c.args.chunk_len + c.args.len)) _ (chunk_piece (string_bytes c.args.chunk) c.args.chunk_len c.args.len (text_end_node c.args.stop)) c.requires.text.utf8 kept stands refl
     (passed (goal.at.returns-then-is_empty-clause-read c).After-pass history kept.nesting)
     (kept.levels ∙ ap open_widths (sym (append-nil history.widths)))
     refl
     refl
     (omega (arith, c.pass.ensures.count, kept.few, here.0))
     refl
-    (end_hands c.args.text.now c.args.self.now.pending c.args.self.now.at c.args.chunk_len c.args.len (string_bytes c.args.chunk) c.token-then-is_empty.result (text_end_node c.args.stop) c.token-then-is_empty.ensures (own_end c.args.stop) (search rules) c.requires.idle))
+    (end_hands c.args.self.now.text.now c.args.self.now.pending c.args.self.now.at c.args.chunk_len c.args.len (string_bytes c.args.chunk) c.token-then-is_empty.result (text_end_node c.args.stop) c.token-then-is_empty.ensures (own_end c.args.stop) (search rules) c.requires.idle))
 
 pub returns-clause-read : goal.returns-clause-read
 returns-clause-read c = λ history kept stands.
-    let here = piece_here c.args.text.now history c.args.self.now (chunk_piece (string_bytes c.args.chunk) c.args.chunk_len c.args.len (text_end_node c.args.stop)) kept stands in
-    rw c.step_over.ensures (took c.args.text.now history c.args.self.now (Some (c.args.self.now.at, token.FStringText c.args.chunk, c.args.self.now.at + c.args.chunk_len)) _ (chunk_piece (string_bytes c.args.chunk) c.args.chunk_len c.args.len (text_end_node c.args.stop)) c.utf8.text kept stands refl
+    let here = piece_here c.args.self.now.text.now history c.args.self.now (chunk_piece (string_bytes c.args.chunk) c.args.chunk_len c.args.len (text_end_node c.args.stop)) kept stands in
+    rw c.step_over.ensures (took c.args.self.now.text.now history c.args.self.now (Some (c.args.self.now.at, token.FStringText c.args.chunk, c.args.self.now.at + c.args.chunk_len)) _ (chunk_piece (string_bytes c.args.chunk) c.args.chunk_len c.args.len (text_end_node c.args.stop)) c.requires.text.utf8 kept stands refl
     (passed (goal.at.returns-clause-read c).After-pass history kept.nesting)
     (kept.levels ∙ ap open_widths (sym (append-nil history.widths)))
     refl
     refl
     (omega (arith, c.pass.ensures.count, kept.few, here.0))
     refl
-    (text_hands c.args.text.now c.only-self.result c.args.self.now.at c.args.chunk_len c.args.len c.args.chunk (text_end_node c.args.stop) (search rules) (c.only-self.ensures c.args.text.now)))
+    (text_hands c.args.self.now.text.now c.only-self.result c.args.self.now.at c.args.chunk_len c.args.len c.args.chunk (text_end_node c.args.stop) (search rules) (c.only-self.ensures c.args.self.now.text.now)))
 
 pub returns-then-is_empty-clause-less : goal.returns-then-is_empty-clause-less
 returns-then-is_empty-clause-less c =
     let stands = c.requires.stands in
-    let here = piece_here c.args.text.now stands.0 c.args.self.now (chunk_piece (string_bytes c.args.chunk) c.args.chunk_len c.args.len (text_end_node c.args.stop)) stands.1 stands.2 in
+    let here = piece_here c.args.self.now.text.now stands.0 c.args.self.now (chunk_piece (string_bytes c.args.chunk) c.args.chunk_len c.args.len (text_end_node c.args.stop)) stands.1 stands.2 in
     let is = c.step_over.ensures in
-    less_onward c.args.text.now c.args.self.now c.step_over.new.self (c.args.chunk_len + c.args.len) (ap (λ (reader : Reader). reader.stage) is) (ap (λ (reader : Reader). reader.at) is) here.0 here.1
+    less_onward c.args.self.now.text.now c.args.self.now c.step_over.new.self (c.args.chunk_len + c.args.len) (ap (λ (reader : Reader). reader.stage) is) (ap (λ (reader : Reader). reader.at) is) here.0 here.1
 
 pub returns-clause-less : goal.returns-clause-less
 returns-clause-less c =
     let stands = c.requires.stands in
-    let here = piece_here c.args.text.now stands.0 c.args.self.now (chunk_piece (string_bytes c.args.chunk) c.args.chunk_len c.args.len (text_end_node c.args.stop)) stands.1 stands.2 in
+    let here = piece_here c.args.self.now.text.now stands.0 c.args.self.now (chunk_piece (string_bytes c.args.chunk) c.args.chunk_len c.args.len (text_end_node c.args.stop)) stands.1 stands.2 in
     let is = c.step_over.ensures in
-    less_onward c.args.text.now c.args.self.now (record c.step_over.new.self { pending = c.only-self.result }) (c.args.chunk_len + c.args.len) (ap (λ (reader : Reader). reader.stage) is) (ap (λ (reader : Reader). reader.at) is) here.0 here.1
+    less_onward c.args.self.now.text.now c.args.self.now (record c.step_over.new.self { pending = c.only-self.result }) (c.args.chunk_len + c.args.len) (ap (λ (reader : Reader). reader.stage) is) (ap (λ (reader : Reader). reader.at) is) here.0 here.1
 
 pub returns-clause-passed : goal.returns-clause-passed
 returns-clause-passed c =

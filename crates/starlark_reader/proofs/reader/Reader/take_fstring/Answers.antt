@@ -9,8 +9,9 @@ use Rattle.starlark_grammar.specs.declared.class.Opening.{Opening}
 use Rattle.starlark_reader.proofs.TakenMargins.Waiting.{after_error}
 use Rattle.starlark_reader.proofs.TakenPieces.CodePlaces.{word_cut}
 use Rattle.starlark_reader.proofs.TakenPieces.NextLexeme.{onward_something}
-use Rattle.starlark_reader.proofs.TakenPieces.PieceTaken.{fstring_step, left_onward, onward_ahead}
+use Rattle.starlark_reader.proofs.TakenPieces.PieceTaken.{fstring_step}
 use Rattle.starlark_reader.proofs.TakenPieces.ReaderReads.{state_reads}
+use Rattle.starlark_reader.proofs.TakenPieces.SameTexts.{state_here, taken_here}
 use Rattle.starlark_reader.proofs.reader.Reader.take_fstring.Goals.{then-opening, else-opening}
 use Rattle.starlark_reader.proofs.reader.Reader.take_fstring.Goals as goal
 
@@ -25,33 +26,33 @@ triple_len opening len is e = rw (is, e) refl
 single_len : (opening : Opening) (len : ℕ) → opening.is_triple ≡ false → len ≡ 2 → len ≡ 2 + more_quotes (opening_view opening)
 single_len opening len is e = rw (is, e) refl
 
-pub begin_fstring-requires-clause-stands : goal.begin_fstring-requires-clause-stands
-begin_fstring-requires-clause-stands c =
-    let left = (left_onward c.args.text.now c.args.self.now c.requires.ready.0 c.requires.ready.1 c.requires.stands.stage c.requires.ready.2).is_left in
-    let remainder : c.range_from.result.now ≡ drop 2 (drop c.args.self.now.at c.args.text.now) = c.range_from.ensures.value ∙ ap (drop 2) c.range_from-rest.ensures.value in
-    let is : opening_view c.opening_of-opening.result ≡ opening_of false c.args.quote (drop 2 (drop c.args.self.now.at c.args.text.now)) = c.opening_of-opening.ensures.opening ∙ ap (opening_of false c.args.quote) remainder in
+pub begin_fstring-requires : goal.begin_fstring-requires
+begin_fstring-requires c =
+    let left = state_here c.args.self.now c.requires.sound c.requires.stands.stage in
+    let remainder : c.range_from.result.now ≡ drop 2 (drop c.args.self.now.at c.args.self.now.text.now) = c.range_from.ensures.value ∙ ap (drop 2) c.range_from-rest.ensures.value in
+    let is : opening_view c.opening_of-opening.result ≡ opening_of false c.args.quote (drop 2 (drop c.args.self.now.at c.args.self.now.text.now)) = c.opening_of-opening.ensures.opening ∙ ap (opening_of false c.args.quote) remainder in
     let whole : c.if-opening.len ≡ 2 + more_quotes (opening_view c.opening_of-opening.result) = elim c.if-opening.branch [
       | then-opening w ↦ triple_len c.opening_of-opening.result c.if-opening.len w.if-opening.true w.len-is
       | else-opening w ↦ single_len c.opening_of-opening.result c.if-opening.len w.if-opening.false w.len-is
-    ] in (
-      left.0,
-      state_reads c.args.text.now left.0 c.args.self.now c.opening_of-opening.new.reads left.1,
-      fstring_step c.args.text.now left.0 c.args.self.now c.args.quote (opening_view c.opening_of-opening.result) c.if-opening.len left.1 c.requires.stands is whole,
-    )
+    ] in record {
+      text = c.requires.sound.text;
+      stage = c.requires.stands.stage;
+      stands = (left.0, state_reads c.args.self.now.text.now left.0 c.args.self.now c.opening_of-opening.new.reads left.1, fstring_step c.args.self.now.text.now left.0 c.args.self.now c.args.quote (opening_view c.opening_of-opening.result) c.if-opening.len left.1 c.requires.stands is whole);
+      idle = c.requires.stands.idle;
+    }
 
 pub returns-clause-ahead : goal.returns-clause-ahead
 returns-clause-ahead c =
-    let remainder : c.range_from.result.now ≡ drop 2 (drop c.args.self.now.at c.args.text.now) = c.range_from.ensures.value ∙ ap (drop 2) c.range_from-rest.ensures.value in
-    let is : opening_view c.opening_of-opening.result ≡ opening_of false c.args.quote (drop 2 (drop c.args.self.now.at c.args.text.now)) = c.opening_of-opening.ensures.opening ∙ ap (opening_of false c.args.quote) remainder in
+    let remainder : c.range_from.result.now ≡ drop 2 (drop c.args.self.now.at c.args.self.now.text.now) = c.range_from.ensures.value ∙ ap (drop 2) c.range_from-rest.ensures.value in
+    let is : opening_view c.opening_of-opening.result ≡ opening_of false c.args.quote (drop 2 (drop c.args.self.now.at c.args.self.now.text.now)) = c.opening_of-opening.ensures.opening ∙ ap (opening_of false c.args.quote) remainder in
     let whole : c.if-opening.len ≡ 2 + more_quotes (opening_view c.opening_of-opening.result) = elim c.if-opening.branch [
       | then-opening w ↦ triple_len c.opening_of-opening.result c.if-opening.len w.if-opening.true w.len-is
       | else-opening w ↦ single_len c.opening_of-opening.result c.if-opening.len w.if-opening.false w.len-is
     ] in
-    IfOk-weaker c.begin_fstring.result _ _ (λ given read lexemes fault ahead.
-    onward_ahead c.args.text.now c.args.self.now (Some given) c.begin_fstring.new.self lexemes fault (λ history kept.
-    read history (state_reads c.args.text.now history c.args.self.now c.opening_of-opening.new.reads kept)
-    (fstring_step c.args.text.now history c.args.self.now c.args.quote (opening_view c.opening_of-opening.result) c.if-opening.len kept c.requires.stands is whole))
-    c.requires.stands.idle (left_onward c.args.text.now c.args.self.now lexemes fault c.requires.stands.stage ahead)) c.begin_fstring.ensures.read
+    IfOk-weaker c.begin_fstring.result _ _ (λ given read.
+    taken_here c.args.self.now (Some given) c.begin_fstring.new.self c.requires.stands.stage c.requires.stands.idle (λ history kept.
+    read history (state_reads c.args.self.now.text.now history c.args.self.now c.opening_of-opening.new.reads kept)
+    (fstring_step c.args.self.now.text.now history c.args.self.now c.args.quote (opening_view c.opening_of-opening.result) c.if-opening.len kept c.requires.stands is whole))) c.begin_fstring.ensures.read
 
 pub returns-clause-memory : goal.returns-clause-memory
-returns-clause-memory c = after_error c.begin_fstring.result _ (λ lexemes fault ahead. onward_something c.args.text.now c.args.self.now lexemes fault c.requires.stands.idle c.requires.stands.stage ahead)
+returns-clause-memory c = after_error c.begin_fstring.result _ (λ lexemes fault ahead. onward_something c.args.self.now.text.now c.args.self.now lexemes fault c.requires.stands.idle c.requires.stands.stage ahead)

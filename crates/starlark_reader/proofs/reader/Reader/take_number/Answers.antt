@@ -7,8 +7,8 @@ use Rattle.starlark_reader.specs.Inner.StepViews.{number_of}
 use Rattle.starlark_reader.proofs.TakenPieces.CodePlaces.{word_class, word_cut}
 use Rattle.starlark_reader.proofs.TakenPieces.NextLexeme.{onward_something}
 use Rattle.starlark_reader.proofs.TakenPieces.TakenNumbers.{number_changes, number_step}
-use Rattle.starlark_reader.proofs.TakenPieces.PieceTaken.{left_onward, onward_ahead}
 use Rattle.starlark_reader.proofs.TakenMargins.Waiting.{after_error}
+use Rattle.starlark_reader.proofs.TakenPieces.SameTexts.{at_step, code_after, taken_here}
 use Rattle.starlark_reader.proofs.reader.Reader.take_number.Goals as goal
 
 pub range-requires-clause-end_boundary : goal.range-requires-clause-end_boundary
@@ -21,22 +21,20 @@ number_token-requires-clause-known c =
     ap (class_in language) word ∙ word_class c.range_from-rest.result.now c.args.word.class c.args.word.len (ap language_front c.range_from-rest.ensures.value ∙ sym c.requires.stands.front)
 
 pub returns-in_err-token-clause-memory : goal.returns-in_err-token-clause-memory
-returns-in_err-token-clause-memory c = after_error c.from_residual.result _ (λ lexemes fault ahead. onward_something c.args.text.now c.args.self.now lexemes fault c.requires.stands.idle c.requires.stands.stage ahead)
+returns-in_err-token-clause-memory c = after_error c.from_residual.result _ (λ lexemes fault ahead. onward_something c.args.self.now.text.now c.args.self.now lexemes fault c.requires.stands.idle c.requires.stands.stage ahead)
 
-pub pass_token-requires-clause-stands : goal.pass_token-requires-clause-stands
-pass_token-requires-clause-stands c =
-    let left = (left_onward c.args.text.now c.args.self.now c.requires.ready.0 c.requires.ready.1 c.requires.stands.stage c.requires.ready.2).is_left in
-    let word : c.range.result.now ≡ take c.args.word.len (drop c.args.self.now.at c.args.text.now) = c.range.ensures.value ∙ ap (λ n. take n c.range_from-rest.result.now) (sub-zero _) ∙ ap (take c.args.word.len) c.range_from-rest.ensures.value in
-    let view : token_view c.in_ok-token.token ≡ Whole (number_of c.args.word.class (take c.args.word.len (drop c.args.self.now.at c.args.text.now))) = c.in_ok-token.ensures ∙ ap (λ t. Whole (number_of c.args.word.class t)) word in
-    (left.0, left.1, number_step c.args.text.now left.0 c.args.self.now c.args.word c.in_ok-token.token left.1 c.requires.stands c.requires.class c.requires.number view)
+pub pass_token-requires : goal.pass_token-requires
+pass_token-requires c =
+    let word : c.range.result.now ≡ take c.args.word.len (drop c.args.self.now.at c.args.self.now.text.now) = c.range.ensures.value ∙ ap (λ n. take n c.range_from-rest.result.now) (sub-zero _) ∙ ap (take c.args.word.len) c.range_from-rest.ensures.value in
+    let view : token_view c.in_ok-token.token ≡ Whole (number_of c.args.word.class (take c.args.word.len (drop c.args.self.now.at c.args.self.now.text.now))) = c.in_ok-token.ensures ∙ ap (λ t. Whole (number_of c.args.word.class t)) word in
+    at_step c.args.self.now _ c.requires.sound c.requires.stands.stage c.requires.stands.idle (λ history kept. number_step c.args.self.now.text.now history c.args.self.now c.args.word c.in_ok-token.token kept c.requires.stands c.requires.class c.requires.number view)
 
 pub returns-clause-ahead : goal.returns-clause-ahead
-returns-clause-ahead c = λ lexemes fault ahead.
-    let word : c.range.result.now ≡ take c.args.word.len (drop c.args.self.now.at c.args.text.now) = c.range.ensures.value ∙ ap (λ n. take n c.range_from-rest.result.now) (sub-zero _) ∙ ap (take c.args.word.len) c.range_from-rest.ensures.value in
-    let view : token_view c.in_ok-token.token ≡ Whole (number_of c.args.word.class (take c.args.word.len (drop c.args.self.now.at c.args.text.now))) = c.in_ok-token.ensures ∙ ap (λ t. Whole (number_of c.args.word.class t)) word in
-    onward_ahead c.args.text.now c.args.self.now (Some (c.args.self.now.at, c.in_ok-token.token, c.args.self.now.at + c.args.word.len)) c.pass_token.new.self lexemes fault
-    (λ history kept. c.pass_token.ensures.read history kept (number_step c.args.text.now history c.args.self.now c.args.word c.in_ok-token.token kept c.requires.stands c.requires.class c.requires.number view))
-    c.requires.stands.idle (left_onward c.args.text.now c.args.self.now lexemes fault c.requires.stands.stage ahead)
+returns-clause-ahead c =
+    let word : c.range.result.now ≡ take c.args.word.len (drop c.args.self.now.at c.args.self.now.text.now) = c.range.ensures.value ∙ ap (λ n. take n c.range_from-rest.result.now) (sub-zero _) ∙ ap (take c.args.word.len) c.range_from-rest.ensures.value in
+    let view : token_view c.in_ok-token.token ≡ Whole (number_of c.args.word.class (take c.args.word.len (drop c.args.self.now.at c.args.self.now.text.now))) = c.in_ok-token.ensures ∙ ap (λ t. Whole (number_of c.args.word.class t)) word in
+    taken_here c.args.self.now (Some (c.args.self.now.at, c.in_ok-token.token, c.args.self.now.at + c.args.word.len)) c.pass_token.new.self c.requires.stands.stage c.requires.stands.idle
+    (λ history kept. c.pass_token.ensures.read history kept (number_step c.args.self.now.text.now history c.args.self.now c.args.word c.in_ok-token.token kept c.requires.stands c.requires.class c.requires.number view))
 
 pub returns-clause-code : goal.returns-clause-code
-returns-clause-code c = c.pass_token.ensures.onward (c.pass_token.ensures.stays (number_changes c.args.word.class _ c.in_ok-token.token c.in_ok-token.ensures) c.requires.stands.code)
+returns-clause-code c = code_after c.args.self.now c.pass_token.new.self c.pass_token.ensures.text (c.pass_token.ensures.onward (c.pass_token.ensures.stays (number_changes c.args.word.class _ c.in_ok-token.token c.in_ok-token.ensures) c.requires.stands.code))

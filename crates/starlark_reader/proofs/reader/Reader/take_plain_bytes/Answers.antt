@@ -6,8 +6,9 @@ use Rattle.starlark_grammar.specs.declared.class.LiteralKind.TheVariants as kind
 use Rattle.starlark_token.specs.declared.tokens.Token.TheVariants as token
 use Rattle.starlark_reader.proofs.TakenPieces.CodePlaces.{word_cut}
 use Rattle.starlark_reader.proofs.TakenPieces.NextLexeme.{onward_something}
-use Rattle.starlark_reader.proofs.TakenPieces.PieceTaken.{bytes_changes, bytes_step, left_onward, onward_ahead}
+use Rattle.starlark_reader.proofs.TakenPieces.PieceTaken.{bytes_changes, bytes_step}
 use Rattle.starlark_reader.proofs.TakenMargins.Waiting.{after_error}
+use Rattle.starlark_reader.proofs.TakenPieces.SameTexts.{at_step, code_after, taken_here}
 use Rattle.starlark_reader.proofs.reader.Reader.take_plain_bytes.Goals as goal
 
 pub range_from-remainder-requires : goal.range_from-remainder-requires
@@ -15,24 +16,22 @@ range_from-remainder-requires c = λ some.
     word_cut c.range_from-rest.result.now (class.Opener kind.Bytes false c.args.quote) 2 c.range_from-rest.utf8 (ap language_front c.range_from-rest.ensures.value ∙ sym c.requires.stands.front)
 
 pub returns-in_err-extend_from_slice-clause-memory : goal.returns-in_err-extend_from_slice-clause-memory
-returns-in_err-extend_from_slice-clause-memory c = after_error c.from_residual.result _ (λ lexemes fault ahead. onward_something c.args.text.now c.args.self.now lexemes fault c.requires.stands.idle c.requires.stands.stage ahead)
+returns-in_err-extend_from_slice-clause-memory c = after_error c.from_residual.result _ (λ lexemes fault ahead. onward_something c.args.self.now.text.now c.args.self.now lexemes fault c.requires.stands.idle c.requires.stands.stage ahead)
 
-pub pass_token-requires-clause-stands : goal.pass_token-requires-clause-stands
-pass_token-requires-clause-stands c =
-    let left = (left_onward c.args.text.now c.args.self.now c.requires.ready.0 c.requires.ready.1 c.requires.stands.stage c.requires.ready.2).is_left in
-    let remainder : c.range_from-remainder.result.now ≡ drop 2 (drop c.args.self.now.at c.args.text.now) = c.range_from-remainder.ensures.value ∙ ap (drop 2) c.range_from-rest.ensures.value in
-    let part : c.as_bytes.result.now ≡ take c.args.body (drop 2 (drop c.args.self.now.at c.args.text.now)) = c.as_bytes.ensures.value ∙ c.range.ensures.value ∙ ap (λ n. take n c.range_from-remainder.result.now) (sub-zero _) ∙ ap (take c.args.body) remainder in
-    let value : c.extend_from_slice.new.self.items ≡ take c.args.body (drop 2 (drop c.args.self.now.at c.args.text.now)) = c.in_ok-extend_from_slice.ensures.items ∙ ap (λ items. items ++ c.as_bytes.result.now) c.new-value.ensures.items ∙ part in
-    (left.0, left.1, bytes_step c.args.text.now left.0 c.args.self.now c.args.quote c.args.body c.extend_from_slice.new.self left.1 c.requires.stands c.requires.plain value)
+pub pass_token-requires : goal.pass_token-requires
+pass_token-requires c =
+    let remainder : c.range_from-remainder.result.now ≡ drop 2 (drop c.args.self.now.at c.args.self.now.text.now) = c.range_from-remainder.ensures.value ∙ ap (drop 2) c.range_from-rest.ensures.value in
+    let part : c.as_bytes.result.now ≡ take c.args.body (drop 2 (drop c.args.self.now.at c.args.self.now.text.now)) = c.as_bytes.ensures.value ∙ c.range.ensures.value ∙ ap (λ n. take n c.range_from-remainder.result.now) (sub-zero _) ∙ ap (take c.args.body) remainder in
+    let value : c.extend_from_slice.new.self.items ≡ take c.args.body (drop 2 (drop c.args.self.now.at c.args.self.now.text.now)) = c.in_ok-extend_from_slice.ensures.items ∙ ap (λ items. items ++ c.as_bytes.result.now) c.new-value.ensures.items ∙ part in
+    at_step c.args.self.now _ c.requires.sound c.requires.stands.stage c.requires.stands.idle (λ history kept. bytes_step c.args.self.now.text.now history c.args.self.now c.args.quote c.args.body c.extend_from_slice.new.self kept c.requires.stands c.requires.plain value)
 
 pub returns-clause-ahead : goal.returns-clause-ahead
-returns-clause-ahead c = λ lexemes fault ahead.
-    let remainder : c.range_from-remainder.result.now ≡ drop 2 (drop c.args.self.now.at c.args.text.now) = c.range_from-remainder.ensures.value ∙ ap (drop 2) c.range_from-rest.ensures.value in
-    let part : c.as_bytes.result.now ≡ take c.args.body (drop 2 (drop c.args.self.now.at c.args.text.now)) = c.as_bytes.ensures.value ∙ c.range.ensures.value ∙ ap (λ n. take n c.range_from-remainder.result.now) (sub-zero _) ∙ ap (take c.args.body) remainder in
-    let value : c.extend_from_slice.new.self.items ≡ take c.args.body (drop 2 (drop c.args.self.now.at c.args.text.now)) = c.in_ok-extend_from_slice.ensures.items ∙ ap (λ items. items ++ c.as_bytes.result.now) c.new-value.ensures.items ∙ part in
-    onward_ahead c.args.text.now c.args.self.now (Some (c.args.self.now.at, token.Bytes c.extend_from_slice.new.self, c.args.self.now.at + (2 + c.args.body + 1))) c.pass_token.new.self lexemes fault
-    (λ history kept. c.pass_token.ensures.read history kept (bytes_step c.args.text.now history c.args.self.now c.args.quote c.args.body c.extend_from_slice.new.self kept c.requires.stands c.requires.plain value))
-    c.requires.stands.idle (left_onward c.args.text.now c.args.self.now lexemes fault c.requires.stands.stage ahead)
+returns-clause-ahead c =
+    let remainder : c.range_from-remainder.result.now ≡ drop 2 (drop c.args.self.now.at c.args.self.now.text.now) = c.range_from-remainder.ensures.value ∙ ap (drop 2) c.range_from-rest.ensures.value in
+    let part : c.as_bytes.result.now ≡ take c.args.body (drop 2 (drop c.args.self.now.at c.args.self.now.text.now)) = c.as_bytes.ensures.value ∙ c.range.ensures.value ∙ ap (λ n. take n c.range_from-remainder.result.now) (sub-zero _) ∙ ap (take c.args.body) remainder in
+    let value : c.extend_from_slice.new.self.items ≡ take c.args.body (drop 2 (drop c.args.self.now.at c.args.self.now.text.now)) = c.in_ok-extend_from_slice.ensures.items ∙ ap (λ items. items ++ c.as_bytes.result.now) c.new-value.ensures.items ∙ part in
+    taken_here c.args.self.now (Some (c.args.self.now.at, token.Bytes c.extend_from_slice.new.self, c.args.self.now.at + (2 + c.args.body + 1))) c.pass_token.new.self c.requires.stands.stage c.requires.stands.idle
+    (λ history kept. c.pass_token.ensures.read history kept (bytes_step c.args.self.now.text.now history c.args.self.now c.args.quote c.args.body c.extend_from_slice.new.self kept c.requires.stands c.requires.plain value))
 
 pub returns-clause-code : goal.returns-clause-code
-returns-clause-code c = c.pass_token.ensures.onward (c.pass_token.ensures.stays (bytes_changes c.extend_from_slice.new.self) c.requires.stands.code)
+returns-clause-code c = code_after c.args.self.now c.pass_token.new.self c.pass_token.ensures.text (c.pass_token.ensures.onward (c.pass_token.ensures.stays (bytes_changes c.extend_from_slice.new.self) c.requires.stands.code))

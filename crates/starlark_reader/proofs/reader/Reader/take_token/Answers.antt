@@ -11,8 +11,8 @@ one len node = record { len = len; lexemes = record { begin = 0; node = node; en
 pub overflow_add-result : goal.overflow_add-result
 overflow_add-result c =
     let stands = c.requires.stands in
-    let here = piece_here c.args.text.now stands.0 c.args.self.now (one c.args.len stands.2.0) stands.1 stands.2.3 in
-    let inside : c.args.self.now.at + c.args.len ≤ length c.args.text.now = here.1 in
+    let here = piece_here c.args.self.now.text.now stands.0 c.args.self.now (one c.args.len stands.2.0) stands.1 stands.2.3 in
+    let inside : c.args.self.now.at + c.args.len ≤ length c.args.self.now.text.now = here.1 in
     search (rules, inside)
 
 pub returns-clause-passed : goal.returns-clause-passed

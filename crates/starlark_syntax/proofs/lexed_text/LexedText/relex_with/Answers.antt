@@ -1,4 +1,4 @@
-use Rattle.std.proofs.Common.{rules, true, false, None, ◌≡◌, refl, ℕ, ◌+◌, ◌-◌, ◌<◌, ◌≤◌, ◌^◌, ◌++◌, List, [], map, take, drop, length, ap, arith, subst, sym, ◌∙◌}
+use Rattle.std.proofs.Common.{true, false, None, ◌≡◌, refl, ℕ, ◌+◌, ◌-◌, ◌<◌, ◌≤◌, ◌^◌, ◌++◌, List, [], map, take, drop, length, ap, arith, subst, sym, ◌∙◌}
 use Rattle.std.specs.Prelude.{IfSome, Option, option_map, ◌&&◌, ◌||◌, ◌==◌, if◌then◌else◌, nat_lt}
 use Rattle.std.proofs.lemmas.List.{length-drop, length-map}
 use Rattle.starlark_grammar.specs.Tokens.{moved}
@@ -15,7 +15,7 @@ use Rattle.starlark_token.specs.declared.tokens.Token.{Token}
 use Rattle.starlark_syntax.proofs.LexedTexts.EditedOutcomes.{begin_boundary, begin_clean, begin_few, end_cut_is, read_from, relexed}
 use Rattle.starlark_syntax.proofs.LexedTexts.ReadParts.{fault_near, given_near, no_raw}
 use Rattle.starlark_syntax.proofs.LexedTexts.RelexedOutcomes.{count_near, cuts_near}
-use Rattle.starlark_syntax.proofs.LexedTexts.Puts.{cut_stays_so, known_inside, met_known, not_some, succeeded, whole_is}
+use Rattle.starlark_syntax.proofs.LexedTexts.Puts.{broken, cut_stays_so, known_inside, met_known, not_some, succeeded, whole_is}
 use Rattle.starlark_syntax.proofs.LexedTexts.JoinedLists.{no_fault}
 use Rattle.starlark_syntax.specs.Inner.LexedTexts.{IsMet, IsReadPartTo, IsPutIn, PartView, met_part}
 use Rattle.starlark_syntax.proofs.LexedTexts.EditedOutcomes.{IsRelexed}
@@ -37,7 +37,7 @@ pub exception_of-requires : goal.exception_of-requires
 exception_of-requires c =
     let begin : IsBegin c.old.inside.text.now c.old.inside.cuts.items c.args.from c.begin_of-begin.result = subst (λ (xs : List Cut). IsBegin c.old.inside.text.now xs c.args.from c.begin_of-begin.result) c.deref.ensures.value (c.begin_of-begin.ensures c.old.inside.text.now (subst (AreCuts c.old.inside.text.now) (sym c.deref.ensures.value) c.old.invariant.2)) in
     let same : take c.args.from c.old.inside.text.now ≡ take c.args.from c.args.edited.now = ap (λ (v : LexedView). take c.args.from v.text) c.old.view_is ∙ c.requires.same in
-    let part : IsReadPart (drop c.begin_of-begin.result.at c.args.edited.now) (part_view c.in-Ok.part) = subst (λ (t : Text). IsReadPart t (part_view c.in-Ok.part)) (ap (λ (v : StateView). v.text) c.set_text.ensures.begun.view ∙ c.range_from-rest.ensures.value) (c.in-Ok.ensures.part c.in_default-met.is) in
+    let part : IsReadPart (drop c.begin_of-begin.result.at c.args.edited.now) (part_view c.in-Ok.part) = subst (λ (t : Text). IsReadPart t (part_view c.in-Ok.part)) (ap (λ (v : StateView). v.text) c.new.ensures.begun.view ∙ c.range_from-rest.ensures.value) (c.in-Ok.ensures.part c.in_default-met.is) in
     let short : c.begin_of-begin.result.at + length (drop c.begin_of-begin.result.at c.args.edited.now) < 2 ^ 32 = omega (arith, length-drop c.begin_of-begin.result.at c.args.edited.now, begin.before, c.requires.new.0, c.requires.fits) in
     let made = relexed c.old.inside.text.now c.args.edited.now c.old.inside.lexemes.items c.old.inside.cuts.items c.args.from c.begin_of-begin.result (part_view c.in-Ok.part) c.kept_of-kept.result c.in-Ok.part.has_tab c.old.invariant.3.1.lexemes c.old.invariant.2 begin same c.requires.new.0 part part.tab
     c.kept_of-kept.ensures.plain
@@ -51,7 +51,7 @@ pub make_room-requires : goal.make_room-requires
 make_room-requires c =
     let begin : IsBegin c.old.inside.text.now c.old.inside.cuts.items c.args.from c.begin_of-begin.result = subst (λ (xs : List Cut). IsBegin c.old.inside.text.now xs c.args.from c.begin_of-begin.result) c.deref.ensures.value (c.begin_of-begin.ensures c.old.inside.text.now (subst (AreCuts c.old.inside.text.now) (sym c.deref.ensures.value) c.old.invariant.2)) in
     let same : take c.args.from c.old.inside.text.now ≡ take c.args.from c.args.edited.now = ap (λ (v : LexedView). take c.args.from v.text) c.old.view_is ∙ c.requires.same in
-    let part : IsReadPart (drop c.begin_of-begin.result.at c.args.edited.now) (part_view c.in-Ok.part) = subst (λ (t : Text). IsReadPart t (part_view c.in-Ok.part)) (ap (λ (v : StateView). v.text) c.set_text.ensures.begun.view ∙ c.range_from-rest.ensures.value) (c.in-Ok.ensures.part c.in_default-met.is) in
+    let part : IsReadPart (drop c.begin_of-begin.result.at c.args.edited.now) (part_view c.in-Ok.part) = subst (λ (t : Text). IsReadPart t (part_view c.in-Ok.part)) (ap (λ (v : StateView). v.text) c.new.ensures.begun.view ∙ c.range_from-rest.ensures.value) (c.in-Ok.ensures.part c.in_default-met.is) in
     let made = relexed c.old.inside.text.now c.args.edited.now c.old.inside.lexemes.items c.old.inside.cuts.items c.args.from c.begin_of-begin.result (part_view c.in-Ok.part) c.kept_of-kept.result c.in-Ok.part.has_tab c.old.invariant.3.1.lexemes c.old.invariant.2 begin same c.requires.new.0 part part.tab
     c.kept_of-kept.ensures.plain
     (λ h e. c.kept_of-kept.ensures.comments h (ap (λ (xs : List (ℕ × Token × ℕ)). last_newline_of (map lexeme_view (take c.begin_of-begin.result.lexemes xs))) c.deref-3.ensures.value ∙ e))
@@ -71,14 +71,14 @@ make_room-requires-else-is_err-2 c =
 pub append_later-requires-clause-near : goal.append_later-requires-clause-near
 append_later-requires-clause-near c =
     let begin : IsBegin c.old.inside.text.now c.old.inside.cuts.items c.args.from c.begin_of-begin.result = subst (λ (xs : List Cut). IsBegin c.old.inside.text.now xs c.args.from c.begin_of-begin.result) c.deref.ensures.value (c.begin_of-begin.ensures c.old.inside.text.now (subst (AreCuts c.old.inside.text.now) (sym c.deref.ensures.value) c.old.invariant.2)) in
-    let part : IsReadPart (drop c.begin_of-begin.result.at c.args.edited.now) (part_view c.in-Ok.part) = subst (λ (t : Text). IsReadPart t (part_view c.in-Ok.part)) (ap (λ (v : StateView). v.text) c.set_text.ensures.begun.view ∙ c.range_from-rest.ensures.value) (c.in-Ok.ensures.part c.in_default-met.is) in
+    let part : IsReadPart (drop c.begin_of-begin.result.at c.args.edited.now) (part_view c.in-Ok.part) = subst (λ (t : Text). IsReadPart t (part_view c.in-Ok.part)) (ap (λ (v : StateView). v.text) c.new.ensures.begun.view ∙ c.range_from-rest.ensures.value) (c.in-Ok.ensures.part c.in_default-met.is) in
     let short : c.begin_of-begin.result.at + length (drop c.begin_of-begin.result.at c.args.edited.now) < 2 ^ 32 = omega (arith, length-drop c.begin_of-begin.result.at c.args.edited.now, begin.before, c.requires.new.0, c.requires.fits) in
     given_near (drop c.begin_of-begin.result.at c.args.edited.now) c.in-Ok.part c.kept_of-kept.result.gives_more c.given_after-more.result.items part (omega (arith, short)) c.given_after-more.ensures
 
 pub append_cuts-requires-clause-near : goal.append_cuts-requires-clause-near
 append_cuts-requires-clause-near c =
     let begin : IsBegin c.old.inside.text.now c.old.inside.cuts.items c.args.from c.begin_of-begin.result = subst (λ (xs : List Cut). IsBegin c.old.inside.text.now xs c.args.from c.begin_of-begin.result) c.deref.ensures.value (c.begin_of-begin.ensures c.old.inside.text.now (subst (AreCuts c.old.inside.text.now) (sym c.deref.ensures.value) c.old.invariant.2)) in
-    let part : IsReadPart (drop c.begin_of-begin.result.at c.args.edited.now) (part_view c.in-Ok.part) = subst (λ (t : Text). IsReadPart t (part_view c.in-Ok.part)) (ap (λ (v : StateView). v.text) c.set_text.ensures.begun.view ∙ c.range_from-rest.ensures.value) (c.in-Ok.ensures.part c.in_default-met.is) in
+    let part : IsReadPart (drop c.begin_of-begin.result.at c.args.edited.now) (part_view c.in-Ok.part) = subst (λ (t : Text). IsReadPart t (part_view c.in-Ok.part)) (ap (λ (v : StateView). v.text) c.new.ensures.begun.view ∙ c.range_from-rest.ensures.value) (c.in-Ok.ensures.part c.in_default-met.is) in
     let short : c.begin_of-begin.result.at + length (drop c.begin_of-begin.result.at c.args.edited.now) < 2 ^ 32 = omega (arith, length-drop c.begin_of-begin.result.at c.args.edited.now, begin.before, c.requires.new.0, c.requires.fits) in
     cuts_near (drop c.begin_of-begin.result.at c.args.edited.now) c.in-Ok.part.cuts.items (omega (arith, short)) part.cuts.each
 
@@ -92,7 +92,7 @@ pub invariant_of-result-2 : goal.invariant_of-result-2
 invariant_of-result-2 c =
     let begin : IsBegin c.old.inside.text.now c.old.inside.cuts.items c.args.from c.begin_of-begin.result = subst (λ (xs : List Cut). IsBegin c.old.inside.text.now xs c.args.from c.begin_of-begin.result) c.deref.ensures.value (c.begin_of-begin.ensures c.old.inside.text.now (subst (AreCuts c.old.inside.text.now) (sym c.deref.ensures.value) c.old.invariant.2)) in
     let same : take c.args.from c.old.inside.text.now ≡ take c.args.from c.args.edited.now = ap (λ (v : LexedView). take c.args.from v.text) c.old.view_is ∙ c.requires.same in
-    let part : IsReadPart (drop c.begin_of-begin.result.at c.args.edited.now) (part_view c.in-Ok.part) = subst (λ (t : Text). IsReadPart t (part_view c.in-Ok.part)) (ap (λ (v : StateView). v.text) c.set_text.ensures.begun.view ∙ c.range_from-rest.ensures.value) (c.in-Ok.ensures.part c.in_default-met.is) in
+    let part : IsReadPart (drop c.begin_of-begin.result.at c.args.edited.now) (part_view c.in-Ok.part) = subst (λ (t : Text). IsReadPart t (part_view c.in-Ok.part)) (ap (λ (v : StateView). v.text) c.new.ensures.begun.view ∙ c.range_from-rest.ensures.value) (c.in-Ok.ensures.part c.in_default-met.is) in
     let made = relexed c.old.inside.text.now c.args.edited.now c.old.inside.lexemes.items c.old.inside.cuts.items c.args.from c.begin_of-begin.result (part_view c.in-Ok.part) c.kept_of-kept.result c.in-Ok.part.has_tab c.old.invariant.3.1.lexemes c.old.invariant.2 begin same c.requires.new.0 part part.tab
     c.kept_of-kept.ensures.plain
     (λ h e. c.kept_of-kept.ensures.comments h (ap (λ (xs : List (ℕ × Token × ℕ)). last_newline_of (map lexeme_view (take c.begin_of-begin.result.lexemes xs))) c.deref-3.ensures.value ∙ e))
@@ -115,7 +115,7 @@ pub returns-clause-lexed : goal.returns-clause-lexed
 returns-clause-lexed c =
     let begin : IsBegin c.old.inside.text.now c.old.inside.cuts.items c.args.from c.begin_of-begin.result = subst (λ (xs : List Cut). IsBegin c.old.inside.text.now xs c.args.from c.begin_of-begin.result) c.deref.ensures.value (c.begin_of-begin.ensures c.old.inside.text.now (subst (AreCuts c.old.inside.text.now) (sym c.deref.ensures.value) c.old.invariant.2)) in
     let same : take c.args.from c.old.inside.text.now ≡ take c.args.from c.args.edited.now = ap (λ (v : LexedView). take c.args.from v.text) c.old.view_is ∙ c.requires.same in
-    let part : IsReadPart (drop c.begin_of-begin.result.at c.args.edited.now) (part_view c.in-Ok.part) = subst (λ (t : Text). IsReadPart t (part_view c.in-Ok.part)) (ap (λ (v : StateView). v.text) c.set_text.ensures.begun.view ∙ c.range_from-rest.ensures.value) (c.in-Ok.ensures.part c.in_default-met.is) in
+    let part : IsReadPart (drop c.begin_of-begin.result.at c.args.edited.now) (part_view c.in-Ok.part) = subst (λ (t : Text). IsReadPart t (part_view c.in-Ok.part)) (ap (λ (v : StateView). v.text) c.new.ensures.begun.view ∙ c.range_from-rest.ensures.value) (c.in-Ok.ensures.part c.in_default-met.is) in
     let made = relexed c.old.inside.text.now c.args.edited.now c.old.inside.lexemes.items c.old.inside.cuts.items c.args.from c.begin_of-begin.result (part_view c.in-Ok.part) c.kept_of-kept.result c.in-Ok.part.has_tab c.old.invariant.3.1.lexemes c.old.invariant.2 begin same c.requires.new.0 part part.tab
     c.kept_of-kept.ensures.plain
     (λ h e. c.kept_of-kept.ensures.comments h (ap (λ (xs : List (ℕ × Token × ℕ)). last_newline_of (map lexeme_view (take c.begin_of-begin.result.lexemes xs))) c.deref-3.ensures.value ∙ e))
@@ -130,7 +130,7 @@ returns-clause-lexed c =
 pub returns-clause-reads : goal.returns-clause-reads
 returns-clause-reads c =
     let begin : IsBegin c.old.inside.text.now c.old.inside.cuts.items c.args.from c.begin_of-begin.result = subst (λ (xs : List Cut). IsBegin c.old.inside.text.now xs c.args.from c.begin_of-begin.result) c.deref.ensures.value (c.begin_of-begin.ensures c.old.inside.text.now (subst (AreCuts c.old.inside.text.now) (sym c.deref.ensures.value) c.old.invariant.2)) in
-    let rest : length c.set_text.new.self.text.now ≡ length c.args.edited.now - c.begin_of-begin.result.at = ap length (ap (λ (v : StateView). v.text) c.set_text.ensures.begun.view ∙ c.range_from-rest.ensures.value) ∙ length-drop c.begin_of-begin.result.at c.args.edited.now in
+    let rest : length c.new.result.reader.text.now ≡ length c.args.edited.now - c.begin_of-begin.result.at = ap length (ap (λ (v : StateView). v.text) c.new.ensures.begun.view ∙ c.range_from-rest.ensures.value) ∙ length-drop c.begin_of-begin.result.at c.args.edited.now in
     let lexemes : c.append_later.new.lexemes.items ≡ take c.kept_of-kept.result.lexemes c.old.inside.lexemes.items ++ map (later c.begin_of-begin.result.at) c.given_after-more.result.items =
     c.append_later.ensures ∙ ap (λ xs. take c.kept_of-kept.result.lexemes xs ++ map (later c.begin_of-begin.result.at) c.given_after-more.result.items) c.make_room.ensures.same in
     let made : LexedView = record { text = c.args.edited.now; lexemes = map lexeme_view c.append_later.new.lexemes.items; fault = c.in-Ok-exception_of.fault; reads = c.in-Ok.part.reads } in
@@ -150,20 +150,20 @@ read_part-requires-clause-cuts c =
 begin_is : (c : In-Some) → IsBegin c.old.inside.text.now c.old.inside.cuts.items c.args.from c.begin_of-begin.result
 begin_is c = subst (λ (xs : List Cut). IsBegin c.old.inside.text.now xs c.args.from c.begin_of-begin.result) c.deref.ensures.value (c.begin_of-begin.ensures c.old.inside.text.now (subst (AreCuts c.old.inside.text.now) (sym c.deref.ensures.value) c.old.invariant.2))
 
-text_is : (c : In-Some) → c.set_text.new.self.text.now ≡ drop c.begin_of-begin.result.at c.args.edited.now
-text_is c = ap (λ (v : StateView). v.text) c.set_text.ensures.begun.view ∙ c.range_from-rest.ensures.value
+text_is : (c : In-Some) → c.new.result.reader.text.now ≡ drop c.begin_of-begin.result.at c.args.edited.now
+text_is c = ap (λ (v : StateView). v.text) c.new.ensures.begun.view ∙ c.range_from-rest.ensures.value
 
 same_is : (c : In-Some) → take c.args.from c.old.inside.text.now ≡ take c.args.from c.args.edited.now
 same_is c = ap (λ (v : LexedView). take c.args.from v.text) c.old.view_is ∙ c.requires.same
 
 -- what `read_part` says of a meeting
-met_is : (c : In-Some) → IsMet c.set_text.new.self.text.now c.after-known.result.text.now c.after-known.result.cuts.now c.in-Some.meeting × IsReadPartTo c.set_text.new.self.text.now c.in-Some.meeting.at (part_view c.in-Ok.part)
-met_is c = subst (λ (met : Option Meeting). IfSome met (λ meeting. IsMet c.set_text.new.self.text.now c.after-known.result.text.now c.after-known.result.cuts.now meeting × IsReadPartTo c.set_text.new.self.text.now meeting.at (part_view c.in-Ok.part))) c.in-Some.is c.in-Ok.ensures.met
+met_is : (c : In-Some) → IsMet c.new.result.reader.text.now c.after-known.result.text.now c.after-known.result.cuts.now c.in-Some.meeting × IsReadPartTo c.new.result.reader.text.now c.in-Some.meeting.at (part_view c.in-Ok.part)
+met_is c = subst (λ (met : Option Meeting). IfSome met (λ meeting. IsMet c.new.result.reader.text.now c.after-known.result.text.now c.after-known.result.cuts.now meeting × IsReadPartTo c.new.result.reader.text.now meeting.at (part_view c.in-Ok.part))) c.in-Some.is c.in-Ok.ensures.met
 
 put_is : (c : In-Some) → IsPutIn c.old.inside.text.now (drop c.begin_of-begin.result.at c.args.edited.now) c.old.inside.lexemes.items c.old.inside.cuts.items c.begin_of-begin.result (part_view c.in-Ok.part) c.in-Some.meeting
 put_is c =
     let begin = begin_is c in
-    let met = met_known c.set_text.new.self.text.now c.old.inside.text.now c.after-known.result.text.now c.old.inside.cuts.items c.after-known.result.cuts.now c.begin_of-begin.result.cuts c.in-Some.meeting c.is_some.result c.after-known.ensures.text
+    let met = met_known c.new.result.reader.text.now c.old.inside.text.now c.after-known.result.text.now c.old.inside.cuts.items c.after-known.result.cuts.now c.begin_of-begin.result.cuts c.in-Some.meeting c.is_some.result c.after-known.ensures.text
     (λ e. c.after-known.ensures.cuts e ∙ ap (drop c.begin_of-begin.result.cuts) c.deref-2.ensures.value) c.after-known.ensures.none (met_is c).0 in
     record {
       from = c.args.from;
@@ -196,12 +196,17 @@ none_is c = (met_relexed c).fault ∙ ap (option_map (moved c.begin_of-begin.res
 pub put_part-put-requires : goal.put_part-put-requires
 put_part-put-requires c = (c.old.inside.text.now, drop c.begin_of-begin.result.at c.args.edited.now, put_is (goal.at.put_part-put-requires c).In-Some)
 
+pub invariant_of-old : goal.invariant_of-old
+invariant_of-old c =
+    let same = broken _ c.put_part-put.result c.is_err.result c.is_err.ensures.value c.if-is_err.true c.put_part-put.ensures.same in
+    rw (same.0, same.1) c.old.invariant
+
 pub invariant_of-result : goal.invariant_of-result
 invariant_of-result c =
     let d = (goal.at.invariant_of-result c).In-Some in
     let made = met_relexed d in
-    let lexemes : c.put_part-put.new.lexemes.items ≡ take c.begin_of-begin.result.lexemes c.old.inside.lexemes.items ++ map (later c.begin_of-begin.result.at) (whole d).lexemes = search rules in
-    let cuts : c.put_part-put.new.cuts.items ≡ take c.begin_of-begin.result.cuts c.old.inside.cuts.items ++ map (later_cut c.begin_of-begin.result.at c.begin_of-begin.result.lexemes) (whole d).cuts = search rules in (
+    let lexemes : c.put_part-put.new.lexemes.items ≡ take c.begin_of-begin.result.lexemes c.old.inside.lexemes.items ++ map (later c.begin_of-begin.result.at) (whole d).lexemes = succeeded _ c.put_part-put.result c.is_err.result c.is_err.ensures.value c.if-is_err.false c.put_part-put.ensures.lexemes in
+    let cuts : c.put_part-put.new.cuts.items ≡ take c.begin_of-begin.result.cuts c.old.inside.cuts.items ++ map (later_cut c.begin_of-begin.result.at c.begin_of-begin.result.lexemes) (whole d).cuts = succeeded _ c.put_part-put.result c.is_err.result c.is_err.ensures.value c.if-is_err.false c.put_part-put.ensures.cuts in (
       c.requires.fits,
       end_cut_is c.args.edited.now c.begin_of-begin.result.at (whole d) c.old.inside.is_cut (omega (arith, (begin_is d).before, c.requires.new.0)) (begin_clean c.old.inside.text.now c.args.edited.now c.old.inside.cuts.items c.args.from c.begin_of-begin.result (begin_is d) (same_is d)) (whole_part d)
           (cut_stays_so c.old.inside.is_cut (length (drop c.begin_of-begin.result.at c.args.edited.now)) c.begin_of-begin.result.at (omega (arith, (put_is d).to.inside))),
@@ -218,7 +223,7 @@ returns-in-Some-clause-lexed c =
 pub returns-in-Some-clause-reads : goal.returns-in-Some-clause-reads
 returns-in-Some-clause-reads c =
     let d = (goal.at.returns-in-Some-clause-reads c).In-Some in
-    let rest : length c.set_text.new.self.text.now ≡ length c.args.edited.now - c.begin_of-begin.result.at = ap length (text_is d) ∙ length-drop c.begin_of-begin.result.at c.args.edited.now in
+    let rest : length c.new.result.reader.text.now ≡ length c.args.edited.now - c.begin_of-begin.result.at = ap length (text_is d) ∙ length-drop c.begin_of-begin.result.at c.args.edited.now in
     let lexemes : c.put_part-put.new.lexemes.items ≡ take c.begin_of-begin.result.lexemes c.old.inside.lexemes.items ++ map (later c.begin_of-begin.result.at) (whole d).lexemes = succeeded _ c.put_part-put.result c.is_err.result c.is_err.ensures.value c.if-is_err.false c.put_part-put.ensures.lexemes in
     let none : c.in-Ok.part.fault ≡ None = subst (λ (met : Option Meeting). IfSome met (λ meeting. c.in-Ok.part.fault ≡ None)) c.in-Some.is c.in-Ok.ensures.faultless in
     let made : LexedView = record { text = c.args.edited.now; lexemes = map lexeme_view c.put_part-put.new.lexemes.items; fault = None; reads = c.in-Ok.part.reads } in

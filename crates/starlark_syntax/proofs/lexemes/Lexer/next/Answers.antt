@@ -1,4 +1,4 @@
-use Rattle.std.proofs.Common.{◌≡◌, true, false, ap, subst, sym, ◌∙◌, ℕ, Some, Err, Result}
+use Rattle.std.proofs.Common.{◌≡◌, true, false, subst, sym, ◌∙◌, ℕ, Some, Err, Result}
 use Rattle.std.specs.Prelude.{Option}
 use Rattle.std.specs.Option.{is_some}
 use Rattle.starlark_base.specs.Diagnostics.{Diagnosed}
@@ -24,15 +24,14 @@ pub returns-then-is_some-clause-within : goal.returns-then-is_some-clause-within
 returns-then-is_some-clause-within c =
     let some : is_some c.next-item.result ≡ true = (let is = c.is_some.ensures in let yes = c.if-is_some.true in cc) in
     let going = some_going c.self.inside.state c.next-item.result c.next-item.new.self some c.next-item.ensures.ended in
-    rw (← c.self.view_is) (answers_within c.self.inside.state c.next-item.result c.next-item.new.self some c.self.invariant.0.0 (c.next-item.ensures.answer going))
+    rw (← c.self.view_is) (answers_within c.self.inside.state c.next-item.result c.next-item.new.self some c.self.invariant.0.0.fits (c.next-item.ensures.answer going))
 
 pub returns-then-is_some-clause-between : goal.returns-then-is_some-clause-between
 returns-then-is_some-clause-between c =
     let some : is_some c.next-item.result ≡ true = (let is = c.is_some.ensures in let yes = c.if-is_some.true in cc) in
     let going = some_going c.self.inside.state c.next-item.result c.next-item.new.self some c.next-item.ensures.ended in
-    let same : c.text-text.result.now ≡ c.self.inside.state.text.now = c.text-text.ensures ∙ sym (ap (λ (v : LexerView). v.text) c.self.view_is) in
     rw (← c.self.view_is)
-    (next_between c.self.inside.state.text.now c.self.inside.code_map c.self.inside.state.yielded_count c.next-item.result (rw same at c.text-text.utf8)
+    (next_between c.self.inside.state.reader.text.now c.self.inside.code_map c.self.inside.state.yielded_count c.next-item.result c.self.invariant.0.0.utf8
     (answers_item c.self.inside.code_map c.self.inside.state c.next-item.result c.next-item.new.self some (c.self.invariant.0.1 going).0 (c.next-item.ensures.answer going)))
 
 pub returns-then-is_some-clause-cut : goal.returns-then-is_some-clause-cut
@@ -50,7 +49,7 @@ returns-then-is_some-clause-reads c = λ on.
 pub returns-then-self-clause-item : goal.returns-then-self-clause-item
 returns-then-self-clause-item c = λ on.
     let out = c.self.invariant.1 c.if-self.true in
-    let item = some_item c.self.inside.state.text.now c.self.inside.state.yielded_count out.few out.left in
+    let item = some_item c.self.inside.state.reader.text.now c.self.inside.state.yielded_count out.few out.left in
     rw (← c.self.view_is) (rw item.1 tt)
 
 pub returns-then-not-has_fault-clause-item : goal.returns-then-not-has_fault-clause-item
@@ -91,7 +90,7 @@ returns-clause-within c =
     let none : is_some c.next-item.result ≡ false = (let is = c.is_some.ensures in let no = c.if-is_some.false in cc) in
     let same = none_same c.self.inside.state c.next-item.result c.next-item.new.self none c.next-item.ensures.after in
     subst (λ (v : LexerView). AnswersWithin v.text (Some (Err c.take_exception.result))) c.self.view_is (subst (λ (t : Text). AnswersWithin t (Some (Err c.take_exception.result))) same.0.0
-    (thrown_within c.self.inside.code_map c.next-item.new.self c.take_exception.result c.take_exception.new.self c.next-item.ensures.lexing.0 c.take_exception.ensures.thrown))
+    (thrown_within c.self.inside.code_map c.next-item.new.self c.take_exception.result c.take_exception.new.self c.next-item.ensures.lexing.0.fits c.take_exception.ensures.thrown))
 
 pub returns-clause-between : goal.returns-clause-between
 returns-clause-between c =
@@ -99,9 +98,8 @@ returns-clause-between c =
     let same = none_same c.self.inside.state c.next-item.result c.next-item.new.self none c.next-item.ensures.after in
     let has : has_fault c.next-item.new.self ≡ true = (let is = c.has_fault.ensures in let yes = c.if-not-has_fault.false in cc) in
     let few = (c.next-item.ensures.lexing.1 (fault_going c.next-item.new.self has)).0 in
-    let text : c.text-text.result.now ≡ c.self.inside.state.text.now = c.text-text.ensures ∙ sym (ap (λ (v : LexerView). v.text) c.self.view_is) in
     subst (λ (v : LexerView). AnswersBetween v.text (Some (Err c.take_exception.result))) c.self.view_is
-    (next_between c.self.inside.state.text.now c.self.inside.code_map c.self.inside.state.yielded_count (Some (Err c.take_exception.result)) (rw text at c.text-text.utf8)
+    (next_between c.self.inside.state.reader.text.now c.self.inside.code_map c.self.inside.state.yielded_count (Some (Err c.take_exception.result)) c.self.invariant.0.0.utf8
     (moved_item {A = Option (Result (ℕ × Token × ℕ) (OrMemory (Diagnosed ErrorKind)))} (AnswersNext c.self.inside.code_map) c.self.inside.state c.next-item.new.self (Some (Err c.take_exception.result)) same.0
     (thrown_item c.self.inside.code_map c.next-item.new.self c.take_exception.result c.take_exception.new.self few c.take_exception.ensures.thrown)))
 

@@ -1,8 +1,7 @@
-use Rattle.std.proofs.Common.{◌≡◌, ap, sym, ◌∙◌, false}
+use Rattle.std.proofs.Common.{ap, ◌∙◌, false}
 use Rattle.std.specs.Prelude.{◌||◌}
 use Rattle.std.proofs.Common.{Some}
 use Rattle.starlark_syntax.specs.Inner.LexerStates.{StateView}
-use Rattle.starlark_syntax.specs.Lexer.{LexerView}
 use Rattle.starlark_token.specs.TextItems.{Given}
 use Rattle.starlark_syntax.proofs.LexerCuts.{knows_cut}
 use Rattle.starlark_syntax.proofs.LexerItems.{lexeme_item}
@@ -13,7 +12,7 @@ pub returns-in-Passed-clause-item : goal.returns-in-Passed-clause-item
 returns-in-Passed-clause-item c =
     let going = passed_going c.self.inside.state _ c.next_plain.new.self (λ other. cc) c.in-Passed.ensures.ended in
     let past = (c.in-Passed.ensures.passed going).1 in
-    rw (← c.self.view_is) (lexeme_item c.self.inside.state.text.now c.self.inside.state.yielded_count _ past.0 past.1)
+    rw (← c.self.view_is) (lexeme_item c.self.inside.state.reader.text.now c.self.inside.state.yielded_count _ past.0 past.1)
 
 pub returns-in-Passed-clause-reads : goal.returns-in-Passed-clause-reads
 returns-in-Passed-clause-reads c =
@@ -30,13 +29,12 @@ pub returns-in-Symbol-clause-item : goal.returns-in-Symbol-clause-item
 returns-in-Symbol-clause-item c =
     let going = passed_going c.self.inside.state _ c.next_plain.new.self (λ other. cc) c.in-Symbol.ensures.ended in
     let past = (c.in-Symbol.ensures.passed going).1 in
-    rw (← c.self.view_is) (lexeme_item c.self.inside.state.text.now c.self.inside.state.yielded_count _ past.0 past.1 ∙ ap (λ x. Some (Given x)) (symbol_shown c.self.inside.state.text.now c.in-Symbol.lexeme c.of_symbol.result (c.of_symbol.ensures.token _) c.of_symbol.ensures.places))
+    rw (← c.self.view_is) (lexeme_item c.self.inside.state.reader.text.now c.self.inside.state.yielded_count _ past.0 past.1 ∙ ap (λ x. Some (Given x)) (symbol_shown c.self.inside.state.reader.text.now c.in-Symbol.lexeme c.of_symbol.result (c.of_symbol.ensures.token _) c.of_symbol.ensures.places))
 
 pub returns-in-Symbol-clause-within : goal.returns-in-Symbol-clause-within
 returns-in-Symbol-clause-within c =
     let going = passed_going c.self.inside.state _ c.next_plain.new.self (λ other. cc) c.in-Symbol.ensures.ended in
-    let same : c.text-text.result.now ≡ c.self.inside.state.text.now = c.text-text.ensures ∙ sym (ap (λ (v : LexerView). v.text) c.self.view_is) in
-    rw (← c.self.view_is) (symbol_inside c.self.inside.state c.in-Symbol.lexeme c.next_plain.new.self c.of_symbol.result c.self.invariant.0.0 (c.self.invariant.0.1 going).0 (rw same at c.text-text.utf8) (c.in-Symbol.ensures.passed going).1 c.of_symbol.ensures.places)
+    rw (← c.self.view_is) (symbol_inside c.self.inside.state c.in-Symbol.lexeme c.next_plain.new.self c.of_symbol.result c.self.invariant.0.0.fits (c.self.invariant.0.1 going).0 c.self.invariant.0.0.utf8 (c.in-Symbol.ensures.passed going).1 c.of_symbol.ensures.places)
 
 pub returns-in-Symbol-clause-reads : goal.returns-in-Symbol-clause-reads
 returns-in-Symbol-clause-reads c =

@@ -5,7 +5,7 @@ use Rattle.starlark_syntax.proofs.lexer_state.LexerState.item_of.Goals as goal
 
 pub overflow_add-self : goal.overflow_add-self
 overflow_add-self c =
-    let few = lexemes_few c.args.self.now.text.now c.requires.taken.fits in
+    let few = lexemes_few c.args.self.now.reader.text.now c.requires.taken.text.fits in
     let small : c.args.self.now.yielded_count + 1 ≤ 2 ^ 34 = omega (arith, c.requires.taken.few, few) in
     search (rules, small)
 
@@ -14,11 +14,11 @@ returns-in-Ok c =
     let is = rw c.in-Ok.is at c.requires.taken.ahead in
     record {
       answer = is;
-      lexing = past_lexing c.args.self.now _ _ c.args.lookahead c.requires.taken.fits c.requires.taken.going c.requires.taken.reach is (rw c.in-Ok.is at c.requires.looked);
+      lexing = past_lexing c.args.self.now _ _ c.args.lookahead refl c.requires.taken.text c.requires.taken.going c.requires.taken.reach is (rw c.in-Ok.is at c.requires.looked);
       after = rw c.requires.taken.going refl;
     }
 
 pub returns-in-Err : goal.returns-in-Err
 returns-in-Err c =
     let none : c.args.self.now.yielded_count + 0 ≡ c.args.self.now.yielded_count = omega (arith) in
-    record { answer = rw c.in-Err.is at c.requires.taken.memory; lexing = (c.requires.taken.fits, (λ on. cc), tt, (λ on. cc), c.requires.taken.reach); after = rw none refl }
+    record { answer = rw c.in-Err.is at c.requires.taken.memory; lexing = (c.requires.taken.text, (λ on. cc), tt, (λ on. cc), c.requires.taken.reach); after = rw none refl }

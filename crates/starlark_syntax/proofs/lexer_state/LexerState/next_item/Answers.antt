@@ -21,13 +21,13 @@ pub returns-in-Some-Ok-clause-within : goal.returns-in-Some-Ok-clause-within
 returns-in-Some-Ok-clause-within c =
     let going = some_going c.args.self.now c.next.result c.next.new.self (ap is_some c.in-Some-Ok.is) c.next.ensures.ended in
     let answer : HasAnswered c.args.self.now (Some (Ok c.in-Some-Ok.lexeme)) c.next.new.self = rw c.in-Some-Ok.field-0-is at (c.in-Some-Ok.ensures.answer going) in
-    answers_within c.args.self.now (Some (Ok c.in-Some-Ok.lexeme)) c.next.new.self refl c.requires.lexing.0 answer
+    answers_within c.args.self.now (Some (Ok c.in-Some-Ok.lexeme)) c.next.new.self refl c.requires.lexing.0.fits answer
 
 pub returns-in-Some-Ok-clause-between : goal.returns-in-Some-Ok-clause-between
 returns-in-Some-Ok-clause-between c =
     let going = some_going c.args.self.now c.next.result c.next.new.self (ap is_some c.in-Some-Ok.is) c.next.ensures.ended in
     let answer : HasAnswered c.args.self.now (Some (Ok c.in-Some-Ok.lexeme)) c.next.new.self = rw c.in-Some-Ok.field-0-is at (c.in-Some-Ok.ensures.answer going) in
-    given_between c.args.self.now.text.now c.args.self.now.yielded_count (lexeme_view c.in-Some-Ok.lexeme) (rw c.text-text.ensures at c.text-text.utf8) (lexeme_item c.args.self.now.text.now c.args.self.now.yielded_count _ answer.0 answer.1)
+    given_between c.args.self.now.reader.text.now c.args.self.now.yielded_count (lexeme_view c.in-Some-Ok.lexeme) c.requires.lexing.0.utf8 (lexeme_item c.args.self.now.reader.text.now c.args.self.now.yielded_count _ answer.0 answer.1)
 
 -- out of memory
 
@@ -48,13 +48,13 @@ returns-clause-within c =
     let same = none_same c.args.self.now c.next.result c.next.new.self (ap is_some c.in-None.is) c.next.ensures.after in
     let going = fault_going c.next.new.self (c.in_ok-take_fault-in-None.ensures.some refl) in
     let last = c.in_ok-take_fault-in-None.ensures.last going in
-    let within = fault_within c.next.new.self.text.now last.0 last.1.has in
-    (omega (arith, within.0, last.2.0, last.2.2), omega (arith, within.1, last.2.2, ap length same.0.0), c.requires.lexing.0)
+    let within = fault_within c.next.new.self.reader.text.now last.0 last.1.has in
+    (omega (arith, within.0, last.2.0, last.2.2), omega (arith, within.1, last.2.2, ap length same.0.0), c.requires.lexing.0.fits)
 
 pub returns-clause-between : goal.returns-clause-between
 returns-clause-between c =
     let same = none_same c.args.self.now c.next.result c.next.new.self (ap is_some c.in-None.is) c.next.ensures.after in
     let going = fault_going c.next.new.self (c.in_ok-take_fault-in-None.ensures.some refl) in
     let last = c.in_ok-take_fault-in-None.ensures.last going in
-    let edges = refused_between c.args.self.now.text.now last.0 (rw c.text-text.ensures at c.text-text.utf8) (subst (λ (t : Text). (outcome t).fault ≡ Some last.0) same.0.0 last.1.has) in
+    let edges = refused_between c.args.self.now.reader.text.now last.0 c.requires.lexing.0.utf8 (subst (λ (t : Text). (outcome t).fault ≡ Some last.0) same.0.0 last.1.has) in
     rw (last.2.0, last.2.2) edges

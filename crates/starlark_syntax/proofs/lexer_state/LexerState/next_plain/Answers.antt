@@ -1,85 +1,93 @@
-use Rattle.std.proofs.Common.{◌≡◌, ap, ◌∙◌, ◌+◌, ◌≤◌, ◌^◌, arith, refl, rules, sym}
+use Rattle.std.proofs.Common.{◌≡◌, ap, subst, ◌∙◌, ◌+◌, ◌≤◌, ◌^◌, arith, refl, rules, sym}
+use Rattle.starlark_grammar.specs.Words.{Text}
+use Rattle.starlark_reader.specs.Inner.Reader.{IsAtCode}
 use Rattle.starlark_reader.specs.Inner.ReadBounds.{HasLooked}
 use Rattle.starlark_reader.proofs.TakenPieces.ReaderReads.{looked_reads}
 use Rattle.starlark_reader.proofs.TakenPieces.PieceTaken.{left_onward}
 use Rattle.starlark_syntax.proofs.FoundWords.{HasPassedSince, at_word, faulty_margin, line_end_passed, passed_since, pending_newline, plain_newline}
 use Rattle.starlark_syntax.proofs.LexerReads.{fault_counts, newline_counts, nothing_looked, pending_counts}
-use Rattle.starlark_syntax.proofs.LexerStates.{same_text}
+use Rattle.starlark_syntax.proofs.LexerStates.{lexing_on, lexing_sound, same_lexing, same_text}
 use Rattle.starlark_syntax.proofs.Reaches.{reached}
 use Rattle.starlark_syntax.proofs.RestartReads.{next_line_after}
 use Rattle.starlark_grammar.proofs.Order.Inside.{lexemes_few}
 use Rattle.starlark_syntax.specs.declared.lexer_state.FastPath.TheVariants as fast
 use Rattle.starlark_syntax.specs.declared.lexer_state.LexerState.{LexerState}
+use Rattle.starlark_syntax.specs.declared.lexer_state.Lookahead.TheVariants as lookahead
 use Rattle.starlark_syntax.proofs.lexer_state.LexerState.next_plain.Goals.{in-Pending, in-Newline}
 use Rattle.starlark_syntax.proofs.lexer_state.LexerState.next_plain.Goals as goal
 
+pub common_word-requires-clause-sound : goal.common_word-requires-clause-sound
+common_word-requires-clause-sound c =
+    let quick = nothing_looked c.loop-self.self.reader.text.now c.loop-self.self.reader c.loop-self.self.looked_to c.loop-self.self.has_ended c.loop-self.self.lookahead (sym c.is_nothing.ensures ∙ c.loop-self-test.true) c.loop-self.invariant.4 c.loop-self.invariant.5 in
+    lexing_sound c.loop-self.self (lexing_on c.args.self.now c.loop-self.self c.requires c.loop-self.invariant) quick.0
+
 pub pass_name-requires : goal.pass_name-requires
 pass_name-requires c =
-    let quick = nothing_looked c.loop-self.self.text.now c.loop-self.self.reader c.loop-self.self.looked_to c.loop-self.self.has_ended c.loop-self.self.lookahead (sym c.is_nothing.ensures ∙ c.loop-self-test.true) c.loop-self.invariant.4 c.loop-self.invariant.5 in
-    rw c.in-Identifier.is at (at_word c.args.self.now c.loop-self.self c.common_word.new.self c.in-Some.field-0 c.requires c.loop-self.invariant (sym c.is_nothing.ensures ∙ c.loop-self-test.true) c.in-Some.ensures.lookahead (c.common_word.ensures.ahead _ _ (c.loop-self.invariant.3 quick.0)) c.in-Some.ensures.stands)
+    let quick = nothing_looked c.loop-self.self.reader.text.now c.loop-self.self.reader c.loop-self.self.looked_to c.loop-self.self.has_ended c.loop-self.self.lookahead (sym c.is_nothing.ensures ∙ c.loop-self-test.true) c.loop-self.invariant.4 c.loop-self.invariant.5 in
+    rw c.in-Identifier.is at (at_word c.args.self.now c.loop-self.self c.common_word.new.self c.in-Some.field-0 c.common_word.ensures.text c.requires c.loop-self.invariant (sym c.is_nothing.ensures ∙ c.loop-self-test.true) c.in-Some.ensures.lookahead (c.common_word.ensures.ahead _ _ (c.loop-self.invariant.3 quick.0)) c.in-Some.ensures.stands)
 
 pub returns-in-Identifier : goal.returns-in-Identifier
 returns-in-Identifier c =
-    let quick = nothing_looked c.loop-self.self.text.now c.loop-self.self.reader c.loop-self.self.looked_to c.loop-self.self.has_ended c.loop-self.self.lookahead (sym c.is_nothing.ensures ∙ c.loop-self-test.true) c.loop-self.invariant.4 c.loop-self.invariant.5 in
-    let same = same_text c.args.self.now c.loop-self.self c.loop-self.self c.loop-self.invariant refl refl in
+    let quick = nothing_looked c.loop-self.self.reader.text.now c.loop-self.self.reader c.loop-self.self.looked_to c.loop-self.self.has_ended c.loop-self.self.lookahead (sym c.is_nothing.ensures ∙ c.loop-self-test.true) c.loop-self.invariant.4 c.loop-self.invariant.5 in
+    let same = same_text c.args.self.now c.loop-self.self (record c.loop-self.self { reader = c.common_word.new.self }) c.loop-self.invariant c.common_word.ensures.text refl in
     let since = passed_since c.args.self.now _ c.pass_name.result c.pass_name.new.self same (sym c.loop-self.invariant.2 ∙ quick.0) c.pass_name.ensures in
     record { ended = since.ended; passed = since.passed; lexing = since.lexing; after = since.after }
 
 pub pass_symbol-requires : goal.pass_symbol-requires
 pass_symbol-requires c =
-    let quick = nothing_looked c.loop-self.self.text.now c.loop-self.self.reader c.loop-self.self.looked_to c.loop-self.self.has_ended c.loop-self.self.lookahead (sym c.is_nothing.ensures ∙ c.loop-self-test.true) c.loop-self.invariant.4 c.loop-self.invariant.5 in
-    rw c.in-Fixed.is at (at_word c.args.self.now c.loop-self.self c.common_word.new.self c.in-Some.field-0 c.requires c.loop-self.invariant (sym c.is_nothing.ensures ∙ c.loop-self-test.true) c.in-Some.ensures.lookahead (c.common_word.ensures.ahead _ _ (c.loop-self.invariant.3 quick.0)) c.in-Some.ensures.stands)
+    let quick = nothing_looked c.loop-self.self.reader.text.now c.loop-self.self.reader c.loop-self.self.looked_to c.loop-self.self.has_ended c.loop-self.self.lookahead (sym c.is_nothing.ensures ∙ c.loop-self-test.true) c.loop-self.invariant.4 c.loop-self.invariant.5 in
+    rw c.in-Fixed.is at (at_word c.args.self.now c.loop-self.self c.common_word.new.self c.in-Some.field-0 c.common_word.ensures.text c.requires c.loop-self.invariant (sym c.is_nothing.ensures ∙ c.loop-self-test.true) c.in-Some.ensures.lookahead (c.common_word.ensures.ahead _ _ (c.loop-self.invariant.3 quick.0)) c.in-Some.ensures.stands)
 
 pub returns-in-Fixed : goal.returns-in-Fixed
 returns-in-Fixed c =
-    let quick = nothing_looked c.loop-self.self.text.now c.loop-self.self.reader c.loop-self.self.looked_to c.loop-self.self.has_ended c.loop-self.self.lookahead (sym c.is_nothing.ensures ∙ c.loop-self-test.true) c.loop-self.invariant.4 c.loop-self.invariant.5 in
-    let same = same_text c.args.self.now c.loop-self.self c.loop-self.self c.loop-self.invariant refl refl in
+    let quick = nothing_looked c.loop-self.self.reader.text.now c.loop-self.self.reader c.loop-self.self.looked_to c.loop-self.self.has_ended c.loop-self.self.lookahead (sym c.is_nothing.ensures ∙ c.loop-self-test.true) c.loop-self.invariant.4 c.loop-self.invariant.5 in
+    let same = same_text c.args.self.now c.loop-self.self (record c.loop-self.self { reader = c.common_word.new.self }) c.loop-self.invariant c.common_word.ensures.text refl in
     let since = passed_since c.args.self.now _ c.pass_symbol.result c.pass_symbol.new.self same (sym c.loop-self.invariant.2 ∙ quick.0) c.pass_symbol.ensures in
     record { ended = since.ended; passed = since.passed; lexing = since.lexing; after = since.after }
 
 pub returns-in_default-clause-lexing : goal.returns-in_default-clause-lexing
 returns-in_default-clause-lexing c =
-    let quick = (nothing_looked c.loop-self.self.text.now c.loop-self.self.reader c.loop-self.self.looked_to c.loop-self.self.has_ended c.loop-self.self.lookahead (sym c.is_nothing.ensures ∙ c.loop-self-test.true) c.loop-self.invariant.4 c.loop-self.invariant.5) in
+    let quick = (nothing_looked c.loop-self.self.reader.text.now c.loop-self.self.reader c.loop-self.self.looked_to c.loop-self.self.has_ended c.loop-self.self.lookahead (sym c.is_nothing.ensures ∙ c.loop-self-test.true) c.loop-self.invariant.4 c.loop-self.invariant.5) in
     let paid = quick.3 in
     let ahead = c.common_word.ensures.ahead _ _ (c.loop-self.invariant.3 quick.0) in
     let inv = c.requires.1 (sym c.loop-self.invariant.2 ∙ quick.0) in
-    let inside = (left_onward c.loop-self.self.text.now c.common_word.new.self _ _ c.common_word.ensures.code.stage ahead).is_left.1.inside in
-    let lookahead : HasLooked 0 3 c.loop-self.self.reader c.common_word.new.self = rw c.in_default.is at c.common_word.ensures.lookahead in
-    let read = looked_reads c.loop-self.self.text.now paid.0 0 3 c.loop-self.self.reader c.common_word.new.self quick.1.stage paid.2 lookahead in
-    (rw c.loop-self.invariant.0 c.requires.0, (λ on. (rw (c.loop-self.invariant.0, c.loop-self.invariant.1) inv.0, ahead)), quick.0, (λ on. (c.common_word.ensures.code, omega (arith, inside, c.at.ensures), (λ class len front two text. omega (arith, two, c.at.ensures)), (paid.0 + 3, omega (arith, paid.1, quick.2, lookahead.0, c.at.ensures), read))), reached c.loop-self.self.text.now c.common_word.new.self _ c.common_word.new.self.at _ c.common_word.ensures.code.stage ahead refl (omega (arith, next_line_after c.loop-self.self.text.now c.common_word.new.self.at inside, c.at.ensures)))
+    let inside = (left_onward c.loop-self.self.reader.text.now c.common_word.new.self _ _ c.common_word.ensures.code.stage ahead).is_left.1.inside in
+    let looked : HasLooked 0 3 c.loop-self.self.reader c.common_word.new.self = rw c.in_default.is at c.common_word.ensures.lookahead in
+    let read = looked_reads c.loop-self.self.reader.text.now paid.0 0 3 c.loop-self.self.reader c.common_word.new.self quick.1.stage paid.2 looked in
+    same_lexing c.loop-self.self.reader.text.now (record c.loop-self.self { reader = c.common_word.new.self; looked_to = c.at.result + 1; lookahead = lookahead.Front }) (ap (λ t. t.now) c.common_word.ensures.text) (rw c.loop-self.invariant.0 c.requires.0, (λ on. (rw (c.loop-self.invariant.0, c.loop-self.invariant.1) inv.0, ahead)), quick.0, (λ on. (subst (λ (t : Text). IsAtCode t c.common_word.new.self) (ap (λ t. t.now) c.common_word.ensures.text) c.common_word.ensures.code, omega (arith, inside, c.at.ensures), (λ class len front two text. omega (arith, two, c.at.ensures)), (paid.0 + 3, omega (arith, paid.1, quick.2, looked.0, c.at.ensures), read))), reached c.loop-self.self.reader.text.now c.common_word.new.self _ c.common_word.new.self.at _ c.common_word.ensures.code.stage ahead refl (omega (arith, next_line_after c.loop-self.self.reader.text.now c.common_word.new.self.at inside, c.at.ensures)))
 
 pub pass_literal-requires : goal.pass_literal-requires
 pass_literal-requires c =
-    let quick = nothing_looked c.loop-self.self.text.now c.loop-self.self.reader c.loop-self.self.looked_to c.loop-self.self.has_ended c.loop-self.self.lookahead (sym c.is_nothing.ensures ∙ c.loop-self-test.true) c.loop-self.invariant.4 c.loop-self.invariant.5 in
-    (c.in-Some.field-0.class, sym c.is_text_opener.ensures, at_word c.args.self.now c.loop-self.self c.common_word.new.self c.in-Some.field-0 c.requires c.loop-self.invariant (sym c.is_nothing.ensures ∙ c.loop-self-test.true) c.in-Some.ensures.lookahead (c.common_word.ensures.ahead _ _ (c.loop-self.invariant.3 quick.0)) c.in-Some.ensures.stands)
+    let quick = nothing_looked c.loop-self.self.reader.text.now c.loop-self.self.reader c.loop-self.self.looked_to c.loop-self.self.has_ended c.loop-self.self.lookahead (sym c.is_nothing.ensures ∙ c.loop-self-test.true) c.loop-self.invariant.4 c.loop-self.invariant.5 in
+    (c.in-Some.field-0.class, sym c.is_text_opener.ensures, at_word c.args.self.now c.loop-self.self c.common_word.new.self c.in-Some.field-0 c.common_word.ensures.text c.requires c.loop-self.invariant (sym c.is_nothing.ensures ∙ c.loop-self-test.true) c.in-Some.ensures.lookahead (c.common_word.ensures.ahead _ _ (c.loop-self.invariant.3 quick.0)) c.in-Some.ensures.stands)
 
 pub returns-in_default-class : goal.returns-in_default-class
 returns-in_default-class c =
-    let quick = nothing_looked c.loop-self.self.text.now c.loop-self.self.reader c.loop-self.self.looked_to c.loop-self.self.has_ended c.loop-self.self.lookahead (sym c.is_nothing.ensures ∙ c.loop-self-test.true) c.loop-self.invariant.4 c.loop-self.invariant.5 in
-    let same = same_text c.args.self.now c.loop-self.self c.loop-self.self c.loop-self.invariant refl refl in
+    let quick = nothing_looked c.loop-self.self.reader.text.now c.loop-self.self.reader c.loop-self.self.looked_to c.loop-self.self.has_ended c.loop-self.self.lookahead (sym c.is_nothing.ensures ∙ c.loop-self-test.true) c.loop-self.invariant.4 c.loop-self.invariant.5 in
+    let same = same_text c.args.self.now c.loop-self.self (record c.loop-self.self { reader = c.common_word.new.self }) c.loop-self.invariant c.common_word.ensures.text refl in
     let since = passed_since c.args.self.now _ c.pass_literal.result c.pass_literal.new.self same (sym c.loop-self.invariant.2 ∙ quick.0) c.pass_literal.ensures in
     record { ended = since.ended; passed = since.passed; lexing = since.lexing; after = since.after }
 
 pub loop-self-preserved : goal.loop-self-preserved
 loop-self-preserved c =
-    let quick = nothing_looked c.loop-self.self.text.now c.loop-self.self.reader c.loop-self.self.looked_to c.loop-self.self.has_ended c.loop-self.self.lookahead (sym c.is_nothing.ensures ∙ c.loop-self-test.true) c.loop-self.invariant.4 c.loop-self.invariant.5 in
-    let at = rw c.in-LineEnd.is at (at_word c.args.self.now c.loop-self.self c.common_word.new.self c.in-Some.field-0 c.requires c.loop-self.invariant (sym c.is_nothing.ensures ∙ c.loop-self-test.true) c.in-Some.ensures.lookahead (c.common_word.ensures.ahead _ _ (c.loop-self.invariant.3 quick.0)) c.in-Some.ensures.stands) in
-    line_end_passed c.args.self.now c.loop-self.self c.common_word.new.self c.take_line_end.new.self c.in-Some.field-0.len c.loop-self.invariant (sym c.is_nothing.ensures ∙ c.loop-self-test.true) at (rw c.in-Passed.is at (c.in-Ok.ensures.ahead _ _ at.ahead)) (c.in-Ok.ensures.code c.in-Passed.is) (c.in-Ok.ensures.taken c.in-Passed.is)
+    let quick = nothing_looked c.loop-self.self.reader.text.now c.loop-self.self.reader c.loop-self.self.looked_to c.loop-self.self.has_ended c.loop-self.self.lookahead (sym c.is_nothing.ensures ∙ c.loop-self-test.true) c.loop-self.invariant.4 c.loop-self.invariant.5 in
+    let at = rw c.in-LineEnd.is at (at_word c.args.self.now c.loop-self.self c.common_word.new.self c.in-Some.field-0 c.common_word.ensures.text c.requires c.loop-self.invariant (sym c.is_nothing.ensures ∙ c.loop-self-test.true) c.in-Some.ensures.lookahead (c.common_word.ensures.ahead _ _ (c.loop-self.invariant.3 quick.0)) c.in-Some.ensures.stands) in
+    line_end_passed c.args.self.now c.loop-self.self c.common_word.new.self c.take_line_end.new.self c.in-Some.field-0.len c.common_word.ensures.text c.take_line_end.ensures.text c.loop-self.invariant (sym c.is_nothing.ensures ∙ c.loop-self-test.true) at (rw c.in-Passed.is at (c.in-Ok.ensures.ahead _ _ at.ahead)) (c.in-Ok.ensures.code c.in-Passed.is) (c.in-Ok.ensures.taken c.in-Passed.is)
 
 pub returns-in-Fault : goal.returns-in-Fault
 returns-in-Fault c =
-    let quick = nothing_looked c.loop-self.self.text.now c.loop-self.self.reader c.loop-self.self.looked_to c.loop-self.self.has_ended c.loop-self.self.lookahead (sym c.is_nothing.ensures ∙ c.loop-self-test.true) c.loop-self.invariant.4 c.loop-self.invariant.5 in
-    let at = rw c.in-LineEnd.is at (at_word c.args.self.now c.loop-self.self c.common_word.new.self c.in-Some.field-0 c.requires c.loop-self.invariant (sym c.is_nothing.ensures ∙ c.loop-self-test.true) c.in-Some.ensures.lookahead (c.common_word.ensures.ahead _ _ (c.loop-self.invariant.3 quick.0)) c.in-Some.ensures.stands) in
-    let same = same_text c.args.self.now c.loop-self.self c.loop-self.self c.loop-self.invariant refl refl in
-    let passed = faulty_margin (record c.loop-self.self { reader = c.common_word.new.self }) c.in-Some.field-0.len c.take_line_end.new.self at (c.in-Ok.ensures.reads (fault_counts c.in-Ok.line_end c.in-Fault.is)) (rw c.in-Fault.is at (c.in-Ok.ensures.ahead _ _ at.ahead)) in
+    let quick = nothing_looked c.loop-self.self.reader.text.now c.loop-self.self.reader c.loop-self.self.looked_to c.loop-self.self.has_ended c.loop-self.self.lookahead (sym c.is_nothing.ensures ∙ c.loop-self-test.true) c.loop-self.invariant.4 c.loop-self.invariant.5 in
+    let at = rw c.in-LineEnd.is at (at_word c.args.self.now c.loop-self.self c.common_word.new.self c.in-Some.field-0 c.common_word.ensures.text c.requires c.loop-self.invariant (sym c.is_nothing.ensures ∙ c.loop-self-test.true) c.in-Some.ensures.lookahead (c.common_word.ensures.ahead _ _ (c.loop-self.invariant.3 quick.0)) c.in-Some.ensures.stands) in
+    let same = same_text c.args.self.now c.loop-self.self (record c.loop-self.self { reader = c.common_word.new.self }) c.loop-self.invariant c.common_word.ensures.text refl in
+    let passed = faulty_margin (record c.loop-self.self { reader = c.common_word.new.self }) c.in-Some.field-0.len c.take_line_end.new.self c.take_line_end.ensures.text at (c.in-Ok.ensures.reads (fault_counts c.in-Ok.line_end c.in-Fault.is)) (rw c.in-Fault.is at (c.in-Ok.ensures.ahead _ _ at.ahead)) in
     let since = passed_since c.args.self.now _ _ _ same (sym c.loop-self.invariant.2 ∙ quick.0) passed in
     record { ended = since.ended; passed = since.passed; lexing = since.lexing; after = since.after }
 
 pub overflow_add-self-in-LineEnd : goal.overflow_add-self-in-LineEnd
 overflow_add-self-in-LineEnd c =
-    let quick = nothing_looked c.loop-self.self.text.now c.loop-self.self.reader c.loop-self.self.looked_to c.loop-self.self.has_ended c.loop-self.self.lookahead (sym c.is_nothing.ensures ∙ c.loop-self-test.true) c.loop-self.invariant.4 c.loop-self.invariant.5 in
+    let quick = nothing_looked c.loop-self.self.reader.text.now c.loop-self.self.reader c.loop-self.self.looked_to c.loop-self.self.has_ended c.loop-self.self.lookahead (sym c.is_nothing.ensures ∙ c.loop-self-test.true) c.loop-self.invariant.4 c.loop-self.invariant.5 in
     let inv = c.requires.1 (sym c.loop-self.invariant.2 ∙ quick.0) in
-    let few = lexemes_few c.args.self.now.text.now c.requires.0 in
+    let few = lexemes_few c.args.self.now.reader.text.now c.requires.0.fits in
     let count : c.match-line_end.self.yielded_count ≡ c.args.self.now.yielded_count = elim c.match-line_end.branch [
       | in-Pending w ↦ ap (λ (state : LexerState). state.yielded_count) w.self-is ∙ c.loop-self.invariant.1
       | in-Newline w ↦ ap (λ (state : LexerState). state.yielded_count) w.self-is ∙ c.loop-self.invariant.1
@@ -89,20 +97,20 @@ overflow_add-self-in-LineEnd c =
 
 pub returns-in-LineEnd : goal.returns-in-LineEnd
 returns-in-LineEnd c =
-    let quick = nothing_looked c.loop-self.self.text.now c.loop-self.self.reader c.loop-self.self.looked_to c.loop-self.self.has_ended c.loop-self.self.lookahead (sym c.is_nothing.ensures ∙ c.loop-self-test.true) c.loop-self.invariant.4 c.loop-self.invariant.5 in
-    let at = rw c.in-LineEnd.is at (at_word c.args.self.now c.loop-self.self c.common_word.new.self c.in-Some.field-0 c.requires c.loop-self.invariant (sym c.is_nothing.ensures ∙ c.loop-self-test.true) c.in-Some.ensures.lookahead (c.common_word.ensures.ahead _ _ (c.loop-self.invariant.3 quick.0)) c.in-Some.ensures.stands) in
+    let quick = nothing_looked c.loop-self.self.reader.text.now c.loop-self.self.reader c.loop-self.self.looked_to c.loop-self.self.has_ended c.loop-self.self.lookahead (sym c.is_nothing.ensures ∙ c.loop-self-test.true) c.loop-self.invariant.4 c.loop-self.invariant.5 in
+    let at = rw c.in-LineEnd.is at (at_word c.args.self.now c.loop-self.self c.common_word.new.self c.in-Some.field-0 c.common_word.ensures.text c.requires c.loop-self.invariant (sym c.is_nothing.ensures ∙ c.loop-self-test.true) c.in-Some.ensures.lookahead (c.common_word.ensures.ahead _ _ (c.loop-self.invariant.3 quick.0)) c.in-Some.ensures.stands) in
     let state = record c.loop-self.self { reader = c.common_word.new.self } in
     let new = c.take_line_end.new.self in
-    let same = same_text c.args.self.now c.loop-self.self c.loop-self.self c.loop-self.invariant refl refl in
+    let same = same_text c.args.self.now c.loop-self.self (record c.loop-self.self { reader = c.common_word.new.self }) c.loop-self.invariant c.common_word.ensures.text refl in
     let going = sym c.loop-self.invariant.2 ∙ quick.0 in
     let since : HasPassedSince c.args.self.now (fast.Passed c.of_kind-newline.result) (record c.match-line_end.self { yielded_count = c.match-line_end.self.yielded_count + 1 }) = elim c.match-line_end.branch [
       | in-Pending w ↦
           let is = w.in-Pending.is in
-          let passed = pending_newline state c.in-Some.field-0.len new at c.in-Ok.ensures.cut (c.in-Ok.ensures.reads (pending_counts c.in-Ok.line_end is)) (rw is at (c.in-Ok.ensures.ahead _ _ at.ahead)) in
+          let passed = pending_newline state c.in-Some.field-0.len new c.take_line_end.ensures.text at c.in-Ok.ensures.cut (c.in-Ok.ensures.reads (pending_counts c.in-Ok.line_end is)) (rw is at (c.in-Ok.ensures.ahead _ _ at.ahead)) in
           rw (w.self-is, c.of_kind-newline.ensures, c.at-begin.ensures) (passed_since c.args.self.now state _ _ same going passed)
       | in-Newline w ↦
           let is = w.in-Newline.is in
-          let passed = plain_newline state c.in-Some.field-0.len new at c.in-Ok.ensures.cut (c.in-Ok.ensures.reads (newline_counts c.in-Ok.line_end is)) (c.in-Ok.ensures.onward is) (rw is at (c.in-Ok.ensures.ahead _ _ at.ahead)) in
+          let passed = plain_newline state c.in-Some.field-0.len new c.take_line_end.ensures.text at c.in-Ok.ensures.cut (c.in-Ok.ensures.reads (newline_counts c.in-Ok.line_end is)) (c.in-Ok.ensures.onward is) (rw is at (c.in-Ok.ensures.ahead _ _ at.ahead)) in
           rw (w.self-is, c.of_kind-newline.ensures, c.at-begin.ensures) (passed_since c.args.self.now state _ _ same going passed)
     ] in
     record { ended = since.ended; passed = since.passed; lexing = since.lexing; after = since.after }

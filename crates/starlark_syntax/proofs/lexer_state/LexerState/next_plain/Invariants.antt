@@ -7,10 +7,10 @@ use Rattle.starlark_syntax.proofs.lexer_state.LexerState.next_plain.Given as goa
 
 abbrev pub invariant-loop-self : goal.invariant-loop-self
 invariant-loop-self l =
-    (l.self.text ≡ l.initial.self.text) × (l.self.yielded_count ≡ l.initial.self.yielded_count) × (l.self.has_ended ≡ l.initial.self.has_ended)
-    × (l.self.has_ended ≡ false → IsAhead l.self.text.now l.self.reader l.self.reader.stage (left_in l.self) (outcome l.self.text.now).fault)
-    × GoesOn l.self.lookahead l.self.has_ended × (l.self.has_ended ≡ false → IsLooked l.self.text.now l.self.reader l.self.looked_to l.self.lookahead) × IsInReach l.self.text.now l.self.looked_to
+    (l.self.reader.text ≡ l.initial.self.reader.text) × (l.self.yielded_count ≡ l.initial.self.yielded_count) × (l.self.has_ended ≡ l.initial.self.has_ended)
+    × (l.self.has_ended ≡ false → IsAhead l.self.reader.text.now l.self.reader l.self.reader.stage (left_in l.self) (outcome l.self.reader.text.now).fault)
+    × GoesOn l.self.lookahead l.self.has_ended × (l.self.has_ended ≡ false → IsLooked l.self.reader.text.now l.self.reader l.self.looked_to l.self.lookahead) × IsInReach l.self.reader.text.now l.self.looked_to
     × (l.self.has_ended ≡ true → l.self ≡ l.initial.self)
 
 abbrev pub decreases-loop-self : goal.decreases-loop-self
-decreases-loop-self l = left_to_read l.self.text.now l.self.reader l.self.reader.stage
+decreases-loop-self l = left_to_read l.self.reader.text.now l.self.reader l.self.reader.stage

@@ -7,18 +7,18 @@ use Rattle.starlark_syntax.proofs.lexer_state.LexerState.pass_mark.Goals as goal
 
 pub overflow_add-self : goal.overflow_add-self
 overflow_add-self c =
-    let small : c.args.self.now.yielded_count + 1 ≤ 2 ^ 34 = one_more_fits c.args.self.now c.requires.lexing.0 (c.requires.lexing.1 c.requires.going).0 in
+    let small : c.args.self.now.yielded_count + 1 ≤ 2 ^ 34 = one_more_fits c.args.self.now c.requires.lexing.0.fits (c.requires.lexing.1 c.requires.going).0 in
     search (rules, small)
 
 pub returns-clause-passed : goal.returns-clause-passed
 returns-clause-passed c =
     let inv = c.requires.lexing.1 c.requires.going in
-    let is = c.in-Some.ensures.ahead c.args.self.now.text.now _ _ inv.1 in
-    let paid = spared c.args.self.now.text.now c.args.self.now.reader c.args.self.now.looked_to c.args.self.now.lookahead (c.requires.lexing.3 c.requires.going) in
+    let is = c.in-Some.ensures.ahead c.args.self.now.reader.text.now _ _ inv.1 in
+    let paid = spared c.args.self.now.reader.text.now c.args.self.now.reader c.args.self.now.looked_to c.args.self.now.lookahead (c.requires.lexing.3 c.requires.going) in
     let count = mark_counted c.of_mark.result (token_view c.in-Some.token) c.in-Some.begin c.in-Some.end c.of_mark.ensures in
     let memory = waiting_in_memory c.of_mark.result c.in-Some.begin c.in-Some.end in
     record {
-      passed = mark_passed c.args.self.now c.of_mark.result (c.in-Some.begin, c.in-Some.token, c.in-Some.end) _ c.requires.lexing.0 inv.0 (rw c.text-text.ensures at c.text-text.utf8) c.of_mark.ensures is;
-      lexing = past_lexing c.args.self.now _ _ c.looked_after-self.result c.requires.lexing.0 c.requires.going c.requires.lexing.4 is (found_out c.args.self.now.text.now c.next_mark.new.self c.args.self.now.looked_to paid.0 c.looked_after-self.result c.looked_after-self.ensures is.2.is_pending (omega (arith, paid.1)) (c.in-Some.ensures.reads c.args.self.now.text.now paid.0 paid.2));
-      after = rw (c.requires.going, count, memory) refl;
+      passed = mark_passed c.args.self.now c.of_mark.result (c.in-Some.begin, c.in-Some.token, c.in-Some.end) _ c.requires.lexing.0.fits inv.0 c.requires.lexing.0.utf8 c.of_mark.ensures is;
+      lexing = past_lexing c.args.self.now _ _ c.looked_after-self.result c.next_mark.ensures.text c.requires.lexing.0 c.requires.going c.requires.lexing.4 is (found_out c.args.self.now.reader.text.now c.next_mark.new.self c.args.self.now.looked_to paid.0 c.looked_after-self.result c.looked_after-self.ensures is.2.is_pending (omega (arith, paid.1)) (c.in-Some.ensures.reads c.args.self.now.reader.text.now paid.0 paid.2));
+      after = rw (c.next_mark.ensures.text, c.requires.going, count, memory) refl;
     }

@@ -7,7 +7,7 @@ use Rattle.starlark_syntax.proofs.lexer_state.LexerState.pass_pending_comment.Go
 
 pub overflow_add-self : goal.overflow_add-self
 overflow_add-self c =
-    let small : c.args.self.now.yielded_count + 1 ≤ 2 ^ 34 = one_more_fits c.args.self.now c.requires.lexing.0 (c.requires.lexing.1 c.requires.going).0 in
+    let small : c.args.self.now.yielded_count + 1 ≤ 2 ^ 34 = one_more_fits c.args.self.now c.requires.lexing.0.fits (c.requires.lexing.1 c.requires.going).0 in
     search (rules, small)
 
 pub returns : goal.returns
@@ -16,9 +16,9 @@ returns c =
     let place = c.pass_pending_comment-place.result in
     let inside = c.pass_pending_comment-place.ensures.inside in
     let is = c.pass_pending_comment-place.ensures.ahead _ _ inv.1 in
-    let paid = spared c.args.self.now.text.now c.args.self.now.reader c.args.self.now.looked_to c.args.self.now.lookahead (c.requires.lexing.3 c.requires.going) in
+    let paid = spared c.args.self.now.reader.text.now c.args.self.now.reader c.args.self.now.looked_to c.args.self.now.lookahead (c.requires.lexing.3 c.requires.going) in
     record {
-      passed = (plain_inside c.args.self.now.text.now kind.Comment place.0 place.1 (place.0 + 1) place.1 c.requires.lexing.0 (omega (arith, inside.order)) (omega (arith, inside.order)) inside.first inside.last inside.value inside.last, is);
-      lexing = past_lexing c.args.self.now _ _ c.looked_after-self.result c.requires.lexing.0 c.requires.going c.requires.lexing.4 is (found_out c.args.self.now.text.now c.pass_pending_comment-place.new.self c.args.self.now.looked_to paid.0 c.looked_after-self.result c.looked_after-self.ensures is.2.is_pending (omega (arith, paid.1)) (c.pass_pending_comment-place.ensures.reads paid.0 paid.2));
-      after = rw c.requires.going refl;
+      passed = (plain_inside c.args.self.now.reader.text.now kind.Comment place.0 place.1 (place.0 + 1) place.1 c.requires.lexing.0.fits (omega (arith, inside.order)) (omega (arith, inside.order)) inside.first inside.last inside.value inside.last, is);
+      lexing = past_lexing c.args.self.now _ _ c.looked_after-self.result c.pass_pending_comment-place.ensures.text c.requires.lexing.0 c.requires.going c.requires.lexing.4 is (found_out c.args.self.now.reader.text.now c.pass_pending_comment-place.new.self c.args.self.now.looked_to paid.0 c.looked_after-self.result c.looked_after-self.ensures is.2.is_pending (omega (arith, paid.1)) (c.pass_pending_comment-place.ensures.reads paid.0 paid.2));
+      after = rw (c.pass_pending_comment-place.ensures.text, c.requires.going) refl;
     }

@@ -8,13 +8,14 @@ use Rattle.starlark_reader.specs.Searches.{search_reads}
 use Rattle.starlark_syntax.specs.Inner.LexerStates.{left_in}
 use Rattle.starlark_syntax.proofs.FoundWords.{one_more_fits}
 use Rattle.starlark_syntax.proofs.LexerReads.{spared}
-use Rattle.starlark_syntax.proofs.LexerStates.{none_dropped, raw_place}
+use Rattle.starlark_syntax.proofs.LexerStates.{none_dropped, raw_place, same_lexing}
 use Rattle.starlark_reader.specs.Inner.ReadBounds.{LeavesRepair}
+use Rattle.starlark_syntax.specs.declared.lexer_state.Lookahead.TheVariants as lookahead
 use Rattle.starlark_syntax.proofs.lexer_state.LexerState.take_fault.Goals as goal
 
 pub returns-in_err-fault-clause-last : goal.returns-in_err-fault-clause-last
 returns-in_err-fault-clause-last c = λ going.
-    let text = c.args.self.now.text.now in
+    let text = c.args.self.now.reader.text.now in
     let inv = c.requires.lexing.1 going in
     let paid = spared text c.args.self.now.reader c.args.self.now.looked_to c.args.self.now.lookahead (c.requires.lexing.3 going) in
     let is = c.in_err-fault.ensures.last text (left_in c.args.self.now) (outcome text).fault (c.requires.end going) inv.1 in
@@ -22,28 +23,28 @@ returns-in_err-fault-clause-last c = λ going.
     rw c.from_residual.ensures (is.0, is.1, is.3, read.1, omega (arith, paid.1, read.2, c.requires.lexing.4.inside))
 
 pub returns-in_err-fault-clause-lexing : goal.returns-in_err-fault-clause-lexing
-returns-in_err-fault-clause-lexing c = (
+returns-in_err-fault-clause-lexing c = same_lexing c.args.self.now.reader.text.now (record c.args.self.now { reader = c.take_fault.new.self; lookahead = lookahead.All }) (ap (λ t. t.now) c.take_fault.ensures.text) (
   c.requires.lexing.0,
   (λ on.
       let inv = c.requires.lexing.1 on in
-      let is = c.in_err-fault.ensures.last c.args.self.now.text.now (left_in c.args.self.now) (outcome c.args.self.now.text.now).fault (c.requires.end on) inv.1 in
+      let is = c.in_err-fault.ensures.last c.args.self.now.reader.text.now (left_in c.args.self.now) (outcome c.args.self.now.reader.text.now).fault (c.requires.end on) inv.1 in
       (inv.0, rw (is.0, is.1) is.2)),
   tt,
   (λ on.
-      let paid = spared c.args.self.now.text.now c.args.self.now.reader c.args.self.now.looked_to c.args.self.now.lookahead (c.requires.lexing.3 on) in
-      let read = c.in_err-fault.ensures.reads c.args.self.now.text.now paid.0 (c.requires.end on) paid.2 in
+      let paid = spared c.args.self.now.reader.text.now c.args.self.now.reader c.args.self.now.looked_to c.args.self.now.lookahead (c.requires.lexing.3 on) in
+      let read = c.in_err-fault.ensures.reads c.args.self.now.reader.text.now paid.0 (c.requires.end on) paid.2 in
       (paid.0, paid.1, read.0)),
   c.requires.lexing.4,
 )
 
 pub overflow_add-self : goal.overflow_add-self
 overflow_add-self c =
-    let small : c.args.self.now.yielded_count + 1 ≤ 2 ^ 34 = one_more_fits c.args.self.now c.requires.lexing.0 (c.requires.lexing.1 c.if-self.false).0 in
+    let small : c.args.self.now.yielded_count + 1 ≤ 2 ^ 34 = one_more_fits c.args.self.now c.requires.lexing.0.fits (c.requires.lexing.1 c.if-self.false).0 in
     search (rules, small)
 
 pub returns-clause-last : goal.returns-clause-last
 returns-clause-last c = λ going.
-    let text = c.args.self.now.text.now in
+    let text = c.args.self.now.reader.text.now in
     let inv = c.requires.lexing.1 going in
     let paid = spared text c.args.self.now.reader c.args.self.now.looked_to c.args.self.now.lookahead (c.requires.lexing.3 going) in
     let is = c.in_ok-fault.ensures.last text (left_in c.args.self.now) (outcome text).fault (c.requires.end going) inv.1 in
@@ -64,9 +65,9 @@ returns-clause-last c = λ going.
         reads = λ fault has.
             let both : Some it ≡ Some fault = sym is.1.1 ∙ has in
             let same : it ≡ fault = cc in
-            (omega (arith, read.0, raw.0, within.0, within.1, c.requires.lexing.0, ap (λ (f : Spanned Fault). f.begin) same), omega (arith, paid.1, few.0, reach.fault fault has, ap (restart text) (place ∙ same), ap (search_reads text) (place ∙ same)));
+            (omega (arith, read.0, raw.0, within.0, within.1, c.requires.lexing.0.fits, ap (λ (f : Spanned Fault). f.begin) same), omega (arith, paid.1, few.0, reach.fault fault has, ap (restart text) (place ∙ same), ap (search_reads text) (place ∙ same)));
         here = record {
-          fits = c.requires.lexing.0;
+          fits = c.requires.lexing.0.fits;
           has = is.1.1;
           counted = omega (arith, inv.0, all);
           stores = is.3;

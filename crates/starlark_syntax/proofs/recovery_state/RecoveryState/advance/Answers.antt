@@ -14,12 +14,12 @@ returns-in_default-clause-lexing c =
 
 pub next_item-item-requires : goal.next_item-item-requires
 next_item-item-requires c =
-    let text : c.over-state.result.text.now ≡ part_of c.args.self.now = c.over-state.ensures.text ∙ c.range_from.ensures.value ∙ ap (drop c.args.self.now.begin) c.in-Some.ensures.some in
+    let text : c.over-state.result.reader.text.now ≡ part_of c.args.self.now = c.over-state.ensures.text ∙ c.range_from.ensures.value ∙ ap (drop c.args.self.now.begin) c.in-Some.ensures.some in
     record { lexing = lent_lexing (part_of c.args.self.now) c.args.self.now.state c.replace-lent.result c.over-state.result c.over-state.ensures.same c.replace-lent.ensures.value text c.requires.is_part.lexing }
 
 pub returns-clause-found : goal.returns-clause-found
 returns-clause-found c = λ going.
-    let text : c.over-state.result.text.now ≡ part_of c.args.self.now = c.over-state.ensures.text ∙ c.range_from.ensures.value ∙ ap (drop c.args.self.now.begin) c.in-Some.ensures.some in
+    let text : c.over-state.result.reader.text.now ≡ part_of c.args.self.now = c.over-state.ensures.text ∙ c.range_from.ensures.value ∙ ap (drop c.args.self.now.begin) c.in-Some.ensures.some in
     let whole = c.over-state.ensures.same in
     let lent = c.replace-lent.ensures.value in
     let ended : c.over-state.result.has_ended ≡ false = ap (λ (s : LexerState). s.has_ended) whole ∙ ap (λ (s : LexerState). s.has_ended) lent ∙ going in
@@ -29,6 +29,6 @@ returns-clause-found c = λ going.
 
 pub returns-clause-lexing : goal.returns-clause-lexing
 returns-clause-lexing c =
-    let text : c.over-state.result.text.now ≡ part_of c.args.self.now = c.over-state.ensures.text ∙ c.range_from.ensures.value ∙ ap (drop c.args.self.now.begin) c.in-Some.ensures.some in
+    let text : c.over-state.result.reader.text.now ≡ part_of c.args.self.now = c.over-state.ensures.text ∙ c.range_from.ensures.value ∙ ap (drop c.args.self.now.begin) c.in-Some.ensures.some in
     let now = ap (λ (v : StateView). v.text) c.next_item-item.ensures.after in
     back_lexing (part_of c.args.self.now) c.next_item-item.new.self c.over.result c.over.ensures.same (now ∙ text) c.next_item-item.ensures.lexing

@@ -5,7 +5,7 @@ use Rattle.starlark_grammar.specs.Repairs.{filled, repair_end, repaired}
 use Rattle.starlark_syntax.specs.Inner.MendedTexts.{bytes_of}
 use Rattle.starlark_syntax.specs.Inner.RecoveryStates.{part_of}
 use Rattle.starlark_syntax.proofs.LexedTexts.ReadParts.{raw_thrown}
-use Rattle.starlark_syntax.proofs.RecoveryStates.{counted_few, if_not_err, kept_on, one_fault, repair_ends, repair_inside, repaired_ends}
+use Rattle.starlark_syntax.proofs.RecoveryStates.{counted_few, if_not_err, kept_on, one_fault, repair_ends, repair_inside, repaired_ends, repaired_utf8}
 use Rattle.starlark_syntax.proofs.recovery_state.RecoveryState.keep.Goals as goal
 
 pub overflow_add-begin-4 : goal.overflow_add-begin-4
@@ -43,5 +43,5 @@ returns c = λ found stopped raw line.
     let some = if_not_err c.repair-repaired.result _ (sym c.is_err.ensures.value ∙ c.if-is_err.false) c.repair-repaired.ensures.copied in
     let boundary : IsCharBoundary (repaired part found) c.args.end = subst (IsCharBoundary (repaired part found)) (sym end) (repaired_ends c.args.self.now found stopped keeps) in
     kept_on c.args.self.now found stopped keeps c.repair-repaired.new.self c.go_on.new.self c.saturating_add-self.result c.repair-repaired.ensures.text bytes some
-    (c.go_on.ensures.lexing part found stopped.here keeps raw.0 end boundary) (c.go_on.ensures.count part found stopped.here raw.0 end) c.go_on.ensures.going (omega (arith, c.saturating_add-self.ensures))
+    (c.go_on.ensures.lexing part found stopped.here keeps raw.0 end boundary (repaired_utf8 c.args.self.now found stopped keeps c.repair-repaired.new.self c.repair-repaired.ensures.text bytes)) (c.go_on.ensures.count part found stopped.here raw.0 end) c.go_on.ensures.going (omega (arith, c.saturating_add-self.ensures))
     c.in-Ok.given (raw_thrown c.args.self.now.code_map c.args.self.now.begin found c.args.fault c.in-Ok.given raw c.in-Ok.ensures)
