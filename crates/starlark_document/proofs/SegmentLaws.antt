@@ -1,6 +1,6 @@
 -- The laws that segments rest on.
 use Rattle.starlark_document.specs.Inner.LexedFronts.{ItemsAreFound, ItemsClose, ItemsCut}
-use Rattle.starlark_document.proofs.FoundItems as items
+use Rattle.starlark_document.proofs.ClosingItems as items
 
 pub items_cut : ItemsCut
 items_cut = items.items_cut

@@ -11,7 +11,7 @@
 --   text may be cut.
 -- Identifiers/EarlierIdentifiers: one identifier: a text without a quote is read the same by both tables.
 -- LiteralBodies/Escapes, DigitRuns: escapes: by their first byte; digits are a number of 32 bits.
--- LiteralBodies/Found, ReadFronts: items: what is at an offset, by its first byte or three.
+-- LiteralBodies/FirstBytes, ReadFronts: items: what is at an offset, by its first byte or three.
 -- LiteralBodies/ItemEdges: UTF-8 boundaries: items end at boundaries.
 -- LiteralBodies/BodySteps, BodyRuns, PlainBodies: bodies: one item further, after a run, and of one run alone.
 -- LiteralBodies/EndLanes, RunBytes: SIMD: the bytes that end a run.

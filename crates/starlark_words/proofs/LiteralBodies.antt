@@ -1,7 +1,7 @@
 -- Bodies of literals, item by item and run by run.
 pub mod DigitRuns
 pub mod Escapes
-pub mod Found
+pub mod FirstBytes
 pub mod ReadFronts
 pub mod ItemEdges
 pub mod BodySteps

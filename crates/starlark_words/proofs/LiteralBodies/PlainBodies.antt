@@ -22,7 +22,7 @@ use Rattle.starlark_words.specs.Inner.LiteralViews.{IsPlainBody, IsPlainChunk, f
 use Rattle.starlark_words.specs.Inner.PlainRuns.{is_in_run}
 use Rattle.starlark_words.proofs.LiteralBodies.BodyRuns.{bytes_front, others, run_all, run_front}
 use Rattle.starlark_words.proofs.LiteralBodies.BodySteps.{front_stops}
-use Rattle.starlark_words.proofs.LiteralBodies.Found.{closes}
+use Rattle.starlark_words.proofs.LiteralBodies.FirstBytes.{closes}
 use Rattle.starlark_words.proofs.LiteralBodies.ReadFronts.{closes_by_three}
 use Rattle.starlark_words.proofs.LiteralBodies.RunBytes.{longer_run}
 

@@ -6,7 +6,7 @@ use Rattle.std.specs.Map.{lookup}
 use Rattle.starlark_grammar.specs.Items.{Literal, goes, simple_escapes, found_at}
 use Rattle.starlark_grammar.specs.Words.{Text}
 use Rattle.starlark_words.proofs.LiteralBodies.Escapes.{escape_short}
-use Rattle.starlark_words.proofs.LiteralBodies.Found.{at_escape, closes}
+use Rattle.starlark_words.proofs.LiteralBodies.FirstBytes.{at_escape, closes}
 use Rattle.starlark_words.proofs.PeekedBytes.{at_front}
 
 -- quotes that close a literal are at most three

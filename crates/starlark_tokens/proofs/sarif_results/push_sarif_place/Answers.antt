@@ -1,5 +1,5 @@
 use Rattle.std.proofs.Common.{◌+◌, ◌++◌, ◌∙◌, ap, codes, decimal, string_bytes}
-use Rattle.starlark_tokens.proofs.JoinedTexts.{two_pairs_and_one}
+use Rattle.starlark_tokens.proofs.AppendedTexts.{two_pairs_and_one}
 use Rattle.starlark_tokens.specs.SarifResults.{sarif_place}
 use Rattle.starlark_tokens.proofs.sarif_results.push_sarif_place.Goals as goal
 

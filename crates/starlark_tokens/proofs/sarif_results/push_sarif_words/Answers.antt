@@ -1,5 +1,5 @@
 use Rattle.std.proofs.Common.{◌++◌, ◌∙◌, ap, codes, string_bytes}
-use Rattle.starlark_tokens.proofs.JoinedTexts.{four}
+use Rattle.starlark_tokens.proofs.AppendedTexts.{four}
 use Rattle.starlark_tokens.specs.JsonStrings.{json_string}
 use Rattle.starlark_tokens.specs.ItemLines.{reason}
 use Rattle.starlark_tokens.specs.SarifResults.{sarif_words}

@@ -2,7 +2,7 @@ use Rattle.std.proofs.Common.{◌≡◌, ◌∙◌, true, false, refl, sym, ap, 
 use Rattle.std.specs.List.{slice_get}
 use Rattle.starlark_grammar.specs.Items.{is_brace}
 use Rattle.starlark_words.specs.Inner.LiteralViews.{literal_view}
-use Rattle.starlark_words.proofs.LiteralBodies.Found.{closes, ends_line, at_end, at_closing, at_line, at_return, at_raw, at_escape, at_brace, at_plain}
+use Rattle.starlark_words.proofs.LiteralBodies.FirstBytes.{closes, ends_line, at_end, at_closing, at_line, at_return, at_raw, at_escape, at_brace, at_plain}
 use Rattle.starlark_words.proofs.PeekedBytes.{at_front}
 use Rattle.starlark_words.proofs.LiteralBodies.ReadFronts.{closes_by_three}
 use Rattle.starlark_words.proofs.items.found_at.Goals as goal

@@ -2,7 +2,7 @@ use Rattle.std.proofs.Common.{◌≡◌, ◌∙◌, true, false, drop, sym, Some
 use Rattle.std.proofs.Math.Nat.{sub-zero}
 use Rattle.std.specs.List.{slice_get}
 use Rattle.starlark_grammar.specs.Items.{drops_backslash}
-use Rattle.starlark_words.proofs.LiteralBodies.Found.{raw_end, raw_dropped, raw_kept, cut_after}
+use Rattle.starlark_words.proofs.LiteralBodies.FirstBytes.{raw_end, raw_dropped, raw_kept, cut_after}
 use Rattle.starlark_words.proofs.PeekedBytes.{first_of}
 use Rattle.starlark_words.proofs.items.raw_pair.Goals as goal
 use Rattle.starlark_words.proofs.items.raw_pair.Goals.{In-Some}
