@@ -1,4 +1,4 @@
--- Margins of spaces alone, or of spaces and a CR.
+-- Margins of spaces alone, or of spaces and CRs.
 use Rattle.std.proofs.Common.{◌≡◌, ℕ, ◌+◌, ◌<◌, Bool, true, false, [], ◌∷◌, length, drop, refl, ap, ◌∙◌, sym, subst, arith, nat_eq, get_or, ◌⊎◌, inl, inr}
 use Rattle.std.specs.Prelude.{◌==◌, not}
 use Rattle.std.specs.List.{prefix_len}
@@ -9,7 +9,7 @@ use Rattle.starlark_grammar.specs.Margins.{begins_comment, is_content, is_lf, ma
 use Rattle.starlark_reader.specs.Inner.MarginViews.{IsMargin, spaces_margin}
 use Rattle.starlark_reader.specs.declared.margins.Blanks.{Blanks}
 use Rattle.starlark_reader.specs.declared.margins.Margin.{Margin}
-use Rattle.starlark_reader.proofs.TakenMargins.Blanks.{IsPassed, all_passed, at_front, blank_passed, blanks_at, only_spaces, other_front}
+use Rattle.starlark_reader.proofs.TakenMargins.Blanks.{IsPassed, all_passed, at_front, blanks_at, only_spaces, other_front}
 use Rattle.starlark_reader.proofs.TakenMargins.MarginLines.{last_passed, none_passed}
 
 abbrev blanks_of : ℕ → ℕ → Blanks
@@ -58,20 +58,16 @@ content_plain text n b is less here (inr e) =
 pub line_end_first : (text : Text) (n : ℕ) → n ≡ prefix_len (nat_eq 32) text → n < length text → get_or text n 0 ≡ 10 → IsMargin (margin_of text) (margin_found n n false)
 line_end_first text n is less feed = spaces_first text n 10 is less (sym feed) (λ tab. cc) (λ return. cc) (λ hash. cc)
 
--- spaces and a CR, and then an LF or the text's end
-pub spaces_and_return : (text : Text) (n : ℕ) → n ≡ prefix_len (nat_eq 32) text → n < length text → get_or text n 0 ≡ 13 → (n + 1 < length text → get_or text (n + 1) 0 ≡ 10)
-    → IsMargin (margin_of text) (margin_found (n + 1) n false)
-spaces_and_return text n is less next feed = go (drop (n + 1) text) refl
+-- spaces and CRs were counted, and an LF or the text's end is next
+pub spaces_and_returns : (text : Text) (len n : ℕ) → IsPassed text (blanks_of len n) → (len < length text → get_or text len 0 ≡ 10) → IsMargin (margin_of text) (margin_found len n false)
+spaces_and_returns text len n passed feed = go (drop len text) refl
   where
-    passed : IsPassed text (blanks_of (n + 1) n)
-    passed = blank_passed text n false (omega (arith, is)) less next
-
-    go : (rest : Text) → drop (n + 1) text ≡ rest → IsMargin (margin_of text) (margin_found (n + 1) n false)
+    go : (rest : Text) → drop len text ≡ rest → IsMargin (margin_of text) (margin_found len n false)
     go [] e =
-        let blanks = all_passed text (blanks_of (n + 1) n) passed (ap blanks_at e) in
-        last_passed text text [] 0 (blanks_of (n + 1) n) false (none_passed text) refl blanks (sym e) refl refl
+        let blanks = all_passed text (blanks_of len n) passed (ap blanks_at e) in
+        last_passed text text [] 0 (blanks_of len n) false (none_passed text) refl blanks (sym e) refl refl
     go (b ∷ bs) e =
-        let inside : n + 1 < length text = omega (arith, ap (λ (t : Text). length t) e, length-drop (n + 1) text) in
-        let split = at_front text (n + 1) 10 inside (sym (feed inside)) in
-        let blanks = all_passed text (blanks_of (n + 1) n) passed (ap blanks_at split ∙ other_front 10 (drop (n + 1 + 1) text) refl) in
-        last_passed text text (drop (n + 1) text) 0 (blanks_of (n + 1) n) false (none_passed text) refl blanks refl (ap begins_comment split) (sym (ap is_content split))
+        let inside : len < length text = omega (arith, ap (λ (t : Text). length t) e, length-drop len text) in
+        let split = at_front text len 10 inside (sym (feed inside)) in
+        let blanks = all_passed text (blanks_of len n) passed (ap blanks_at split ∙ other_front 10 (drop (len + 1) text) refl) in
+        last_passed text text (drop len text) 0 (blanks_of len n) false (none_passed text) refl blanks refl (ap begins_comment split) (sym (ap is_content split))
