@@ -4,11 +4,11 @@ ghost use Rattle.std.specs.Prelude.{◌&&◌, ◌≡◌, ◌≢◌, true, false,
 ghost use Rattle.std.specs.List.{ends_with};
 ghost use Rattle.std.specs.Str.{IsCharBoundary};
 ghost use Rattle.starlark_words.specs.Inner.Reads.{AreReads, more_reads};
-ghost use Rattle.starlark_reader.specs.Inner.StepViews.{IsStep};
+ghost use Rattle.starlark_reader.specs.Inner.StepViews.{IsDigitAt, IsStep};
 ghost use Rattle.starlark_token.specs.Lexemes.{shown_lexeme};
 ghost use Rattle.starlark_words.specs.Inner.LiteralViews.{IsPlainBody};
 ghost use Rattle.starlark_grammar.specs.Inner.Openings.{opening_view};
-ghost use Rattle.starlark_words.specs.Inner.ScannedWords.{IsDigitAt, begins_plain_number, is_number, word_len};
+ghost use Rattle.starlark_words.specs.Inner.ScannedWords.{is_number, word_len};
 ghost use Rattle.starlark_grammar.specs.Margins.{margin_of, open_widths};
 ghost use Rattle.starlark_reader.specs.Inner.MarginViews.{IsMargin, spaces_margin};
 ghost use Rattle.starlark_grammar.specs.Pieces as grammar;
@@ -29,7 +29,7 @@ ghost use Rattle.starlark_token.specs.TokenViews.{TokenView, token_view};
 ghost use Rattle.starlark_grammar.specs.Tokens.{FStringStart, Fault, Spanned};
 ghost use Rattle.starlark_reader.specs.Inner.Nesting.{change_by};
 ghost use Rattle.starlark_reader.specs.declared.changes.NestingChange.TheVariants as change;
-ghost use Rattle.starlark_grammar.specs.Words.{Text};
+ghost use Rattle.starlark_grammar.specs.Words.{Text, begins, is_name_start};
 
 use crate::indent_stack::IndentStack;
 use crate::literal::{Opening, PlainText, Step, opening_of, plain_text, quotes_of};
@@ -38,7 +38,7 @@ use crate::nesting::{LexerMode, Nesting};
 use crate::pending::{AfterComments, Pending};
 use crate::reading::code::{gap_len, is_code};
 use crate::reading::terminals::token_in;
-use crate::reading::words::{digit_token, number_token};
+use crate::reading::words::{digit_token, number_token, starts_zero};
 use crate::reading::{Piece, bang_stands, is_outside, line_end_counts, piece_at};
 use crate::text_end::TextEnd;
 use crate::widths::{keep_margin, keeps_widths, margin_fault, take_margin};
@@ -47,8 +47,7 @@ use starlark_token::tokens::Token;
 use starlark_words::plain_body_len;
 use starlark_words::reads::ReadCounter;
 use starlark_words::scanner::{
-    LiteralKind, Quote, Terminal, Word, bytes_opener, comment_len, fstring_opener, plain_number,
-    single_digit, text_opener, word_after,
+    Class, LiteralKind, Quote, Terminal, Word, text_opener, unnamed_word, word_after,
 };
 use std::alloc::{AllocError, Global};
 use std::mem;
@@ -338,6 +337,7 @@ impl<'a> Reader<'a> {
     }
 
     /// Takes the start of an f-string, which has `len` bytes with its quotes.
+    #[inline(always)]
     fn begin_fstring(
         &mut self,
         opening: Opening,
@@ -683,58 +683,29 @@ impl<'a> Reader<'a> {
         ensures onward { left_to_read self.old.text.now self.new self.new.stage ≤ left_to_read self.old.text.now self.old self.old.stage }
         ensures code { IsAtCode self.new.text.now self.new }
         ensures stands { IfSome result (λ word. IsWordHere self.new.text.now self.new word) }
-        ensures lookahead { HasLooked (word_len result) ((5 * word_len result - 4) + 3) self.old self.new }
+        ensures none { result ≡ None → begins is_name_start (drop self.new.at self.new.text.now) ≡ false }
+        ensures lookahead { HasLooked (word_len result) ((5 * word_len result - 4) + 2) self.old self.new }
+        ensures two { result ≡ None → HasLooked 2 2 self.old self.new }
     {
         let gap = self.pass_spaces();
         word_after(&mut self.reads, gap, &self.text[self.at..])
     }
 
-    /// The first three bytes from the offset on, or all that are left.
+    /// The word at the offset, where `common_word` has found none; `None` if no word begins there.
     #[tactic(auto, using(crate::proofs::TakenPieces::ReaderReads::reads_ahead, crate::proofs::TakenPieces::SameTexts::looked_sound))]
     #[inline(always)]
-    pub fn front(&mut self) -> &'a [u8]
+    pub fn unnamed_word(&mut self) -> Option<Word>
         requires sound { IsSound self.old }
         requires code { IsAtCode self.old.text.now self.old }
+        requires unnamed { begins is_name_start (drop self.old.at self.old.text.now) ≡ false }
         ensures text { self.new.text ≡ self.old.text }
         ensures sound { IsSound self.new }
         ensures ahead { KeepsAhead self.old self.new }
-        ensures onward { left_to_read self.old.text.now self.new self.new.stage ≤ left_to_read self.old.text.now self.old self.old.stage }
         ensures code { IsAtCode self.new.text.now self.new }
-        ensures bytes { result.now ≡ take 3 (drop self.new.at self.new.text.now) }
-        ensures lookahead { HasLookedHere 3 3 self.old self.new }
+        ensures stands { IfSome result (IsWordHere self.new.text.now self.new) }
+        ensures lookahead { HasLookedHere (word_len result - 2) (5 * word_len result + 1) self.old self.new }
     {
-        self.reads.front(self.text[self.at..].as_bytes(), 3)
-    }
-
-    /// The value of the integer that comes next if it has one digit, and the byte after it tells so;
-    /// `None` if something else comes. For offsets in code, after spaces.
-    #[inline(always)]
-    pub fn single_digit(&self, front: &[u8]) -> Option<u8>
-        requires sound { IsSound self.now }
-        requires code { IsAtCode self.now.text.now self.now }
-        requires front { front.now ≡ take 3 (drop self.now.at self.now.text.now) }
-        ensures stands { IfSome result (λ digit. IsWordHere self.now.text.now self.now (record { class = class.Decimal; len = 1 })) }
-        ensures digit { IfSome result (λ digit. IsDigitAt digit (drop self.now.at self.now.text.now)) }
-    {
-        single_digit(front, &self.text[self.at..])
-    }
-
-    /// The number that comes next, which begins with a digit.
-    #[tactic(auto, using(crate::proofs::TakenPieces::ReaderReads::reads_ahead, crate::proofs::TakenPieces::SameTexts::looked_sound))]
-    #[inline(always)]
-    pub fn number(&mut self, front: &[u8]) -> Word
-        requires sound { IsSound self.old }
-        requires code { IsAtCode self.old.text.now self.old }
-        requires front { front.now ≡ take 3 (drop self.old.at self.old.text.now) }
-        requires number { begins_plain_number (drop self.old.at self.old.text.now) ≡ true }
-        ensures text { self.new.text ≡ self.old.text }
-        ensures sound { IsSound self.new }
-        ensures ahead { KeepsAhead self.old self.new }
-        ensures stands { IsWordHere self.new.text.now self.new result }
-        ensures class { is_number result.class ≡ true }
-        ensures lookahead { HasLookedHere (result.len - 2) (5 * result.len) self.old self.new }
-    {
-        plain_number(&mut self.reads, front, &self.text[self.at..])
+        unnamed_word(&mut self.reads, &self.text[self.at..])
     }
 
     /// The opener of the string literal that comes next; `None` if something else comes. For
@@ -755,57 +726,20 @@ impl<'a> Reader<'a> {
         text_opener(&mut self.reads, &self.text[self.at..])
     }
 
-    /// The quote of the f-string that comes next if its opener is an `f` and that quote. For
-    /// offsets in code, after spaces.
-    #[inline(always)]
-    pub fn fstring_opener(&self, front: &[u8]) -> Option<Quote>
-        requires sound { IsSound self.now }
-        requires code { IsAtCode self.now.text.now self.now }
-        requires front { front.now ≡ take 3 (drop self.now.at self.now.text.now) }
-        ensures stands { IfSome result (λ quote. IsWordHere self.now.text.now self.now (record { class = class.Opener kind.FString false quote; len = 2 })) }
-    {
-        fstring_opener(front, &self.text[self.at..])
-    }
-
-    /// The quote of the bytes literal that comes next if its opener is a `b` and that quote. For
-    /// offsets in code, after spaces.
-    #[inline(always)]
-    pub fn bytes_opener(&self, front: &[u8]) -> Option<Quote>
-        requires sound { IsSound self.now }
-        requires code { IsAtCode self.now.text.now self.now }
-        requires front { front.now ≡ take 3 (drop self.now.at self.now.text.now) }
-        ensures stands { IfSome result (λ quote. IsWordHere self.now.text.now self.now (record { class = class.Opener kind.Bytes false quote; len = 2 })) }
-    {
-        bytes_opener(front, &self.text[self.at..])
-    }
-
     /// Whether the bang of an f-string expression comes next. For offsets in code.
     #[inline(always)]
-    pub fn bang_stands(&self, front: &[u8]) -> bool
-        requires code { IsAtCode self.now.text.now self.now }
-        requires front { front.now ≡ take 3 (drop self.now.at self.now.text.now) }
-        ensures stands { result ≡ true → IsBangHere self.now.text.now self.now }
-    {
-        bang_stands(self.nesting.mode(), self.follows_gap(), front)
-    }
-
-    /// Length in bytes of the comment that comes next; `None` if something else comes. For offsets
-    /// in code, after spaces.
-    #[tactic(auto, using(crate::proofs::TakenPieces::ReaderReads::reads_ahead, crate::proofs::TakenPieces::SameTexts::looked_sound))]
-    #[inline(always)]
-    pub fn comment_len(&mut self, front: &[u8]) -> Option<usize>
+    pub fn bang_stands(&mut self) -> bool
         requires sound { IsSound self.old }
         requires code { IsAtCode self.old.text.now self.old }
-        requires front { front.now ≡ take 3 (drop self.old.at self.old.text.now) }
         ensures text { self.new.text ≡ self.old.text }
         ensures sound { IsSound self.new }
         ensures ahead { KeepsAhead self.old self.new }
         ensures code { IsAtCode self.new.text.now self.new }
-        ensures stands { IfSome result (λ len. IsWordHere self.new.text.now self.new (record { class = class.Comment; len = len })) }
-        ensures lookahead { IfSome result (λ len. HasLookedHere len (5 * len + 2) self.old self.new) }
-        ensures none { result ≡ None → HasLookedHere 0 0 self.old self.new }
+        ensures stands { result ≡ true → IsBangHere self.new.text.now self.new }
+        ensures lookahead { HasLookedHere 2 2 self.old self.new }
     {
-        comment_len(&mut self.reads, front, &self.text[self.at..])
+        let front = self.reads.front(self.text[self.at..].as_bytes(), 2);
+        bang_stands(self.nesting.mode(), self.follows_gap(), front)
     }
 
     /// The offset up to which the text is read, in bytes.
@@ -949,28 +883,29 @@ impl<'a> Reader<'a> {
         self.step_over(len + body + 1, Before::Other);
     }
 
-    /// Takes the bytes literal here, whose opener is a `b` and `quote`, and whose body has `body`
-    /// bytes. One quote closes it, and it has no escapes. Don't use the reader after an
-    /// `AllocError`.
+    /// Takes the bytes literal here, whose opener has `len` bytes and whose body has `body` bytes. One
+    /// quote closes it, and it has no escapes. Don't use the reader after an `AllocError`.
     #[inline(always)]
     pub fn take_plain_bytes(
         &mut self,
+        is_raw: bool,
         quote: Quote,
+        len: usize,
         body: usize,
     ) -> Result<(usize, Token, usize), AllocError>
         requires sound { IsSound self.old }
-        requires stands { IsWordHere self.old.text.now self.old (record { class = class.Opener kind.Bytes false quote; len = 2 }) }
-        requires plain { IsPlainBody kind.Bytes false quote (drop 2 (drop self.old.at self.old.text.now)) body }
+        requires stands { IsWordHere self.old.text.now self.old (record { class = class.Opener kind.Bytes is_raw quote; len = len }) }
+        requires plain { IsPlainBody kind.Bytes is_raw quote (drop len (drop self.old.at self.old.text.now)) body }
         ensures text { self.new.text ≡ self.old.text }
         ensures ahead { IfOk result (λ given. TakesNext self.old (Some given) self.new) }
         ensures memory { OnErr result (HasSomething self.old) }
         ensures code { OnOk result (IsAtCode self.new.text.now self.new) }
-        ensures taken { OnOk result (IsTaken (2 + body + 1) self.old self.new) }
+        ensures taken { OnOk result (IsTaken (len + body + 1) self.old self.new) }
     {
         let begin = self.at;
         let rest = &self.text[begin..];
-        let remainder = &rest[2..];
-        let len = 2 + body + 1;
+        let remainder = &rest[len..];
+        let len = len + body + 1;
         let mut value = Vec::new(self.alloc);
         value.extend_from_slice(remainder[..body].as_bytes())?;
         let token = Token::Bytes(value);
@@ -978,20 +913,25 @@ impl<'a> Reader<'a> {
         Ok((begin, token, begin + len))
     }
 
-    /// Takes the start of the f-string here, whose opener is an `f` and `quote`. Don't use the
-    /// reader after an `AllocError`.
+    /// Takes the start of the f-string here, whose opener has `len` bytes. Don't use the reader after
+    /// an `AllocError`.
     #[inline(always)]
-    pub fn take_fstring(&mut self, quote: Quote) -> Result<(usize, Token, usize), AllocError>
+    pub fn take_fstring(
+        &mut self,
+        is_raw: bool,
+        quote: Quote,
+        len: usize,
+    ) -> Result<(usize, Token, usize), AllocError>
         requires sound { IsSound self.old }
-        requires stands { IsWordHere self.old.text.now self.old (record { class = class.Opener kind.FString false quote; len = 2 }) }
+        requires stands { IsWordHere self.old.text.now self.old (record { class = class.Opener kind.FString is_raw quote; len = len }) }
         ensures text { self.new.text ≡ self.old.text }
         ensures ahead { IfOk result (λ given. TakesNext self.old (Some given) self.new) }
         ensures memory { OnErr result (HasSomething self.old) }
-        ensures begun { OnOk result (HasStarted self.old self.new) }
+        ensures begun { OnOk result (HasStarted len self.old self.new) }
     {
         let rest = &self.text[self.at..];
-        let opening = opening_of(&mut self.reads, false, quote, &rest[2..]);
-        let len = if opening.is_triple { 4 } else { 2 };
+        let opening = opening_of(&mut self.reads, is_raw, quote, &rest[len..]);
+        let len = if opening.is_triple { len + 2 } else { len };
         self.begin_fstring(opening, len)
     }
 
@@ -1116,6 +1056,26 @@ impl<'a> Reader<'a> {
         (begin, token, begin + len)
     }
 
+    /// The value of the integer here if it has one digit; `None` for any other word.
+    #[inline(always)]
+    pub fn single_digit(&self, word: Word) -> Option<u8>
+        requires sound { IsSound self.now }
+        requires stands { IsWordHere self.now.text.now self.now word }
+        ensures stands { IfSome result (λ digit. word ≡ record { class = class.Decimal; len = 1 }) }
+        ensures digit { IfSome result (λ digit. IsDigitAt digit (drop self.now.at self.now.text.now)) }
+    {
+        if word.len != 1 {
+            return None;
+        }
+        match word.class {
+            Class::Decimal => {
+                let first = self.text[self.at..].as_bytes().first()?;
+                Some(*first - b'0')
+            }
+            _ => None,
+        }
+    }
+
     /// Takes the integer of one digit here, whose value is `digit`.
     #[inline(always)]
     pub fn take_digit(&mut self, digit: u8) -> (usize, Token, usize)
@@ -1133,14 +1093,32 @@ impl<'a> Reader<'a> {
         (begin, token, begin + 1)
     }
 
-    /// Takes the number here, which begins with a digit and isn't a 0 before more digits. Don't use
-    /// the reader after an `AllocError`.
+    /// Whether the word here is a number, and not a 0 before more digits.
+    #[inline(always)]
+    pub fn is_plain_number(&self, word: Word) -> bool
+        requires sound { IsSound self.now }
+        requires stands { IsWordHere self.now.text.now self.now word }
+        ensures number { result ≡ true → is_number word.class ≡ true }
+        ensures plain { result ≡ true → word.class ≡ class.Decimal → grammar.starts_zero (take word.len (drop self.now.at self.now.text.now)) ≡ false }
+    {
+        match word.class {
+            Class::Decimal => {
+                let rest = &self.text.as_bytes()[self.at..];
+                !starts_zero(&rest[..word.len])
+            }
+            Class::Hexadecimal | Class::Octal | Class::Binary | Class::Float => true,
+            _ => false,
+        }
+    }
+
+    /// Takes the number here, which isn't a 0 before more digits. Don't use the reader after an
+    /// `AllocError`.
     #[inline(always)]
     pub fn take_number(&mut self, word: Word) -> Result<(usize, Token, usize), AllocError>
         requires sound { IsSound self.old }
         requires stands { IsWordHere self.old.text.now self.old word }
         requires class { is_number word.class ≡ true }
-        requires number { begins_plain_number (drop self.old.at self.old.text.now) ≡ true }
+        requires plain { word.class ≡ class.Decimal → grammar.starts_zero (take word.len (drop self.old.at self.old.text.now)) ≡ false }
         ensures text { self.new.text ≡ self.old.text }
         ensures ahead { IfOk result (λ given. TakesNext self.old (Some given) self.new) }
         ensures memory { OnErr result (HasSomething self.old) }

@@ -27,7 +27,7 @@ use crate::nesting::LexerMode;
 use starlark_token::lexeme_error::LexemeError;
 use starlark_token::tokens::Token;
 use starlark_words::reads::ReadCounter;
-use starlark_words::scanner::{Class, LiteralKind, Quote, first_word};
+use starlark_words::scanner::{Class, LiteralKind, Quote, first_word, is_bang};
 use std::alloc::{AllocError, Global};
 use terminals::terminal_token;
 
@@ -186,17 +186,6 @@ fn invalid_input(reads: &mut ReadCounter, alloc: Global, text: &str) -> Result<S
         fault: LexemeError::InvalidInput(String::from_str(alloc, &text[..end])?),
         end,
     })
-}
-
-/// Whether a text begins with `!`, and not with `!=`.
-fn is_bang(text: &[u8]) -> bool
-    ensures { result ≡ grammar.is_bang text.now }
-{
-    match text {
-        [b'!', second, ..] => *second != b'=',
-        [b'!'] => true,
-        _ => false,
-    }
 }
 
 /// Whether a bang is at the start of a text, given the lexer mode and the piece before.

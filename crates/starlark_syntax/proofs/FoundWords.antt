@@ -1,26 +1,30 @@
 -- The lexer at a word that the scanner has found, and after something was taken or passed.
-use Rattle.std.proofs.Common.{◌≡◌, ◌<◌, ◌≤◌, ◌+◌, ◌-◌, ◌*◌, ◌||◌, ◌^◌, ℕ, Bool, [], Some, true, false, ap, arith, drop, length, map, refl, subst, sym, ◌∙◌}
+use Rattle.std.proofs.Common.{◌≡◌, ◌<◌, ◌≤◌, ◌+◌, ◌-◌, ◌*◌, ◌||◌, ◌^◌, ℕ, [], Some, true, false, ap, arith, drop, length, map, refl, subst, sym, ◌∙◌}
 use Rattle.std.proofs.lemmas.List.{length-map}
-use Rattle.std.specs.Prelude.{IfOk, OnErr, Result}
+use Rattle.std.specs.Prelude.{IfOk, IfSome, None, OnErr, Option, Result}
 use Rattle.std.specs.Str.{IsCharBoundary}
 use Rattle.starlark_grammar.specs.Reading.{outcome}
 use Rattle.starlark_grammar.specs.Tokens.{Spanned}
-use Rattle.starlark_grammar.specs.Words.{Text}
+use Rattle.starlark_grammar.specs.AfterFaults.{next_line}
+use Rattle.starlark_grammar.specs.Words.{Text, begins, is_name_start}
+use Rattle.starlark_grammar.specs.declared.class.Class.{Class}
 use Rattle.starlark_grammar.specs.declared.class.Class.TheVariants as class
+use Rattle.starlark_grammar.specs.declared.class.LiteralKind.TheVariants as literal
 use Rattle.starlark_grammar.proofs.Order.Inside.{lexemes_few}
 use Rattle.starlark_reader.specs.Inner.Pending.{pending_lexemes}
 use Rattle.starlark_reader.specs.Inner.Reader.{IsAhead, IsAheadAfter, IsAheadPast, IsAtCode, IsInCode, IsSomething, IsText, IsWordHere, newline_if}
-use Rattle.starlark_reader.specs.Inner.ReadBounds.{HasLooked, IsMarginRead, IsTaken}
+use Rattle.starlark_reader.specs.Inner.ReadBounds.{HasLooked, HasLookedHere, HasReadAt, IsMarginRead, IsTaken}
 use Rattle.starlark_reader.specs.declared.reader.Reader.{Reader}
 use Rattle.starlark_reader.specs.declared.reader.Stage.TheVariants as stages
-use Rattle.starlark_reader.proofs.TakenPieces.ReaderReads.{looked_reads, margin_reads, taken_reads}
+use Rattle.starlark_reader.proofs.TakenPieces.ReaderReads.{here_reads, looked_reads, margin_reads, read_more, taken_reads}
+use Rattle.starlark_reader.proofs.TakenPieces.PieceTaken.{left_onward}
 use Rattle.starlark_syntax.proofs.LexerItems.{one_more}
-use Rattle.starlark_syntax.proofs.LexerReads.{goes_on, look_paid, nothing_kept, nothing_looked, same_word, word_inside, word_opened}
+use Rattle.starlark_syntax.proofs.LexerReads.{goes_on, nothing_kept, nothing_looked, word_inside}
 use Rattle.starlark_syntax.proofs.LexerStates.{IsGoingOn, IsSameText, same_lexing}
 use Rattle.starlark_syntax.proofs.PlainLexemes.{newline_passed, passed_same}
 use Rattle.starlark_syntax.proofs.Reaches.{reached, word_line}
-use Rattle.starlark_syntax.specs.Inner.LexerStates.{HasPassed, HasPassedNext, IsAtOpener, IsAtWord, IsLexing, IsLexingIn, IsTakenNext, is_out_of_memory, left_in, passed_count, plain_mark, view_of}
-use Rattle.starlark_syntax.specs.Inner.Looked.{HasOpened, HasReadWord, HasSpared, IsInReach, IsLooked, is_nothing, is_text_opener, looked_len}
+use Rattle.starlark_syntax.specs.Inner.LexerStates.{HasPassed, HasPassedNext, IsAtOpener, IsAtWord, IsLexing, IsLexingIn, IsTakenNext, IsUnnamed, is_out_of_memory, left_in, passed_count, plain_mark, view_of}
+use Rattle.starlark_syntax.specs.Inner.Looked.{HasReadHere, HasReadWord, HasSpared, HasSpent, IsInReach, IsLooked, found_word, is_nothing, is_text_opener}
 use Rattle.starlark_syntax.specs.declared.lexer_state.FastPath.{FastPath}
 use Rattle.starlark_syntax.specs.declared.lexer_state.FastPath.TheVariants as fast
 use Rattle.starlark_syntax.specs.declared.lexer_state.LexerState.{LexerState}
@@ -30,6 +34,7 @@ use Rattle.starlark_syntax.specs.declared.plain_lexeme.PlainKind.TheVariants as 
 use Rattle.starlark_token.specs.Lexemes.{shown_lexeme}
 use Rattle.starlark_token.specs.TokenViews.{TokenView}
 use Rattle.starlark_token.specs.declared.tokens.Token.{Token}
+use Rattle.starlark_words.specs.Inner.ScannedWords.{word_len}
 use Rattle.starlark_words.specs.declared.scanner.word.Word.{Word}
 
 -- the reader took something
@@ -61,11 +66,12 @@ past_lexing old lexeme reader it same text going reach past looked =
 
 nothing_is : (it : Lookahead) → is_nothing it ≡ true → it ≡ lookahead.Nothing
 nothing_is lookahead.Nothing nothing = refl
-nothing_is lookahead.Front nothing = cc
+nothing_is (lookahead.Word word) nothing = cc
+nothing_is lookahead.Wordless nothing = cc
 nothing_is lookahead.All nothing = cc
 
 -- the scanner has found a word
-pub at_word : (first state : LexerState) (mid : Reader) (word : Word) → mid.text ≡ state.reader.text → IsLexing first → IsGoingOn first state → is_nothing state.lookahead ≡ true → HasLooked word.len ((5 * word.len - 4) + 3) state.reader mid
+pub at_word : (first state : LexerState) (mid : Reader) (word : Word) → mid.text ≡ state.reader.text → IsLexing first → IsGoingOn first state → is_nothing state.lookahead ≡ true → HasLooked word.len ((5 * word.len - 4) + 2) state.reader mid
     → IsAhead state.reader.text.now mid mid.stage (left_in state) (outcome state.reader.text.now).fault → IsWordHere mid.text.now mid word → IsAtWord (record state { reader = mid }) word
 at_word first state mid word same lexing on nothing looked ahead stands =
     let quick = nothing_looked state.reader.text.now state.reader state.looked_to state.has_ended state.lookahead nothing on.4 on.5 in
@@ -81,43 +87,120 @@ at_word first state mid word same lexing on nothing looked ahead stands =
       reach = rw same on.6;
     }
 
--- where the fast path doesn't pass it by itself, its bytes are spent as lookahead
-pub at_opener : (state : LexerState) (is_text : Bool) (len to : ℕ) → IsAtOpener state is_text len → to ≡ state.reader.at + looked_len is_text len
-    → IsLexing (record state { looked_to = to; lookahead = lookahead.Front }) × (is_text ≡ true → HasOpened state.reader.text.now state.reader to)
-at_opener state is_text len to opener is =
-    let of = opener.0 in
-    let at = opener.2 in
-    let front = at.stands.front in
-    let inside = word_inside state.reader.text.now state.reader _ _ of len at.stands.stage at.ahead (sym front) in
-    let first = at.read in
-    let paid = first.3 in
-    let read = looked_reads state.reader.text.now paid.0 len ((5 * len - 4) + 3) first.0 state.reader first.1 paid.2 first.4 in
-    let look = look_paid is_text len (looked_len is_text len) inside.0 refl in
-    let code : IsAtCode state.reader.text.now state.reader = record { stage = at.stands.stage; idle = at.stands.idle; code = at.stands.code } in (
-      (
+-- it opens a text literal
+pub opener_here : (state : LexerState) (it : Class) (len : ℕ) → is_text_opener it ≡ true → IsAtWord state (record { class = it; len = len }) → IsAtOpener state len
+opener_here state (class.Opener literal.Text is_raw quote) len text at = (is_raw, quote, at)
+opener_here state (class.Opener literal.Bytes is_raw quote) len text at = cc
+opener_here state (class.Opener literal.FString is_raw quote) len text at = cc
+opener_here state class.Skipped len text at = cc
+opener_here state class.LineEnd len text at = cc
+opener_here state class.Comment len text at = cc
+opener_here state class.Tabs len text at = cc
+opener_here state class.Reserved len text at = cc
+opener_here state class.Identifier len text at = cc
+opener_here state class.Decimal len text at = cc
+opener_here state class.Hexadecimal len text at = cc
+opener_here state class.Octal len text at = cc
+opener_here state class.Binary len text at = cc
+opener_here state class.Float len text at = cc
+opener_here state (class.Fixed terminal) len text at = cc
+
+-- where the fast path doesn't pass it, it is stored
+pub word_found : (state : LexerState) (word : Word) → IsAtWord state word → HasPassedNext state fast.Undecided (record state { lookahead = lookahead.Word word })
+word_found state word at =
+    let read = at.read in
+    let paid = read.3 in
+    let inside = word_inside state.reader.text.now state.reader _ _ word.class word.len at.stands.stage at.ahead (sym at.stands.front) in
+    let on : HasReadAt state.reader.text.now paid.0 read.0 stages.Onward = subst (HasReadAt state.reader.text.now paid.0 read.0) read.1 paid.2 in
+    let has = looked_reads state.reader.text.now paid.0 word.len ((5 * word.len - 4) + 2) read.0 state.reader read.1 paid.2 read.4 in
+    let none : state.yielded_count + 0 ≡ state.yielded_count = omega (arith) in
+    record {
+      passed = tt;
+      lexing = (
         at.text,
         (λ on. (at.few, at.ahead)),
         at.going,
-        (λ on. (
-          code,
-          omega (arith, inside.1, is, look.most),
-          (λ other n again two text.
-              let same = same_word (drop state.reader.at state.reader.text.now) of other len n front again in
-              let plain : is_text ≡ false = sym opener.1 ∙ ap is_text_opener (sym same.0) ∙ text in
-              omega (arith, is, look.other plain (omega (arith, two, same.1)), same.1)),
-          (paid.0 + ((5 * len - 4) + 3), omega (arith, paid.1, first.2, first.4.0, inside.0, is, look.paid), read),
-        )),
-        reached state.reader.text.now state.reader _ state.reader.at _ at.stands.stage at.ahead refl (omega (arith, word_line state.reader.text.now state.reader.at len of (omega (arith, inside.1)) (sym front), is, look.most)),
-      ),
-      (λ text. word_opened state.reader.text.now state.reader of len to (paid.0 + ((5 * len - 4) + 3)) front (omega (arith, is, look.text text)) (omega (arith, paid.1, first.2, first.4.0, inside.0, is, look.text text)) read),
-    )
+        (λ goes. (at.stands, (omega (arith, read.2, read.4.0), omega (arith, on.0, read.4.0, read.4.3.0), (paid.0, paid.1, read_more state.reader.text.now (paid.0 + ((5 * word.len - 4) + 2)) (paid.0 + (5 * word.len + 3)) state.reader (omega (arith)) state.reader.stage has)))),
+        at.reach,
+      );
+      after = rw (at.going, none) refl;
+    }
 
-pub opener_inside : (state : LexerState) (is_text : Bool) (len : ℕ) → IsAtOpener state is_text len → (len < 2 ^ 33) × (state.reader.at + looked_len is_text len ≤ 2 ^ 34)
-opener_inside state is_text len opener =
-    let at = opener.2 in
-    let inside = word_inside state.reader.text.now state.reader _ _ opener.0 len at.stands.stage at.ahead (sym at.stands.front) in
-    let look = look_paid is_text len (looked_len is_text len) inside.0 refl in
-    (omega (arith, inside.1, at.text.fits), omega (arith, inside.1, at.text.fits, look.most))
+-- where the first two bytes tell no word
+pub unnamed_here : (first state : LexerState) (mid : Reader) → mid.text ≡ state.reader.text → IsLexing first → IsGoingOn first state → is_nothing state.lookahead ≡ true → HasLooked 2 2 state.reader mid
+    → IsAhead state.reader.text.now mid mid.stage (left_in state) (outcome state.reader.text.now).fault → IsAtCode mid.text.now mid → begins is_name_start (drop mid.at mid.text.now) ≡ false → IsUnnamed (record state { reader = mid })
+unnamed_here first state mid same lexing on nothing looked ahead code unnamed =
+    let quick = nothing_looked state.reader.text.now state.reader state.looked_to state.has_ended state.lookahead nothing on.4 on.5 in
+    let inv = lexing.1 (sym on.2 ∙ quick.0) in
+    let paid = quick.3 in
+    let had : HasReadAt state.reader.text.now paid.0 state.reader stages.Onward = subst (HasReadAt state.reader.text.now paid.0 state.reader) quick.1.stage paid.2 in
+    let read = looked_reads state.reader.text.now paid.0 2 2 state.reader mid quick.1.stage paid.2 looked in
+    record {
+      text = rw (same, on.0) lexing.0;
+      going = quick.0;
+      few = rw (same, on.0, on.1) inv.0;
+      ahead = subst (λ (t : Text). IsAhead t mid mid.stage (drop state.yielded_count (map shown_lexeme (outcome t).lexemes)) (outcome t).fault) (sym (ap (λ t. t.now) same)) ahead;
+      code = code;
+      unnamed = unnamed;
+      past = omega (arith, quick.2, looked.0);
+      least = omega (arith, had.0, looked.0, looked.3.0);
+      read = subst (λ (t : Text). HasSpent t 2 mid state.looked_to) (sym (ap (λ t. t.now) same)) (paid.0, paid.1, read);
+      reach = rw same on.6;
+    }
+
+-- the word that is then found, or none
+pub further_found : (state : LexerState) (mid : Reader) (found : Option Word) (it : Lookahead) → mid.text ≡ state.reader.text → IsUnnamed state → HasLookedHere (word_len found - 2) (5 * word_len found + 1) state.reader mid
+    → IsAhead state.reader.text.now mid mid.stage (left_in state) (outcome state.reader.text.now).fault → IsAtCode mid.text.now mid → IfSome found (IsWordHere mid.text.now mid) → it ≡ found_word found
+    → HasPassedNext state fast.Undecided (record state { reader = mid; lookahead = it })
+further_found state mid found it same at looked ahead code here is =
+    let text = ap (λ t. t.now) same in
+    let none : state.yielded_count + 0 ≡ state.yielded_count = omega (arith) in
+    let read = here_reads state.reader.text.now (at.read.0 + 2) (word_len found - 2) (5 * word_len found + 1) state.reader mid at.code.stage at.read.2 looked in
+    let has : HasReadHere state.reader.text.now state.looked_to (word_len found) mid =
+    (omega (arith, at.past, looked.0), omega (arith, at.least, looked.0, looked.3.0), (at.read.0, at.read.1, read_more state.reader.text.now (at.read.0 + 2 + (5 * word_len found + 1)) (at.read.0 + (5 * word_len found + 3)) mid (omega (arith)) mid.stage read)) in
+    record {
+      passed = tt;
+      lexing = same_lexing state.reader.text.now (record state { reader = mid; lookahead = it }) text (at.text, (λ on. (at.few, ahead)), goes_on it state.has_ended at.going, (λ on. rw is (looked_as found (subst (λ (t : Text). IsAtCode t mid) text code) (subst (λ (t : Text). IfSome found (IsWordHere t mid)) text here) has)), at.reach);
+      after = rw (same, at.going, none) refl;
+    }
+  where
+    looked_as : (found : Option Word) → IsAtCode state.reader.text.now mid → IfSome found (IsWordHere state.reader.text.now mid) → HasReadHere state.reader.text.now state.looked_to (word_len found) mid → IsLooked state.reader.text.now mid state.looked_to (found_word found)
+    looked_as None code here has = (code, has)
+    looked_as (Some word) code here has = (here, has)
+
+-- a word that was found stands at the reader's offset
+pub record IsFoundHere (state : LexerState) (word : Word) : Type 0 where
+  pub stands : IsWordHere state.reader.text.now state.reader word
+  pub some : 1 ≤ word.len
+  pub inside : state.reader.at + word.len ≤ length state.reader.text.now
+  pub line : state.reader.at + word.len ≤ next_line state.reader.text.now state.reader.at
+  pub read : HasReadHere state.reader.text.now state.looked_to word.len state.reader
+
+pub found_here : (state : LexerState) (word : Word) → IsLexing state → state.has_ended ≡ false → state.lookahead ≡ lookahead.Word word → IsFoundHere state word
+found_here state word lexing going found =
+    let text = state.reader.text.now in
+    let ahead = (lexing.1 going).1 in
+    let looked = subst (IsLooked text state.reader state.looked_to) found (lexing.3 going) in
+    let at = word_inside text state.reader _ _ word.class word.len looked.0.stage ahead (sym looked.0.front) in
+    record {
+      stands = looked.0;
+      some = at.0;
+      inside = at.1;
+      line = word_line text state.reader.at word.len word.class (left_onward text state.reader _ _ looked.0.stage ahead).is_left.1.inside (sym looked.0.front);
+      read = looked.1;
+    }
+
+-- where the slow path reads again what was looked at, that is spent
+pub spent_to : (state : LexerState) (mid : Reader) (spent to : ℕ) → mid.text ≡ state.reader.text → IsLexing state → state.has_ended ≡ false → state.reader.stage ≡ stages.Onward → state.looked_to ≤ state.reader.at
+    → IsAhead state.reader.text.now mid mid.stage (left_in state) (outcome state.reader.text.now).fault → HasSpent state.reader.text.now spent mid state.looked_to → spent + 6 * state.reader.at ≤ 6 * to → to ≤ next_line state.reader.text.now state.reader.at + 1
+    → IsLexing (record state { reader = mid; looked_to = to; lookahead = lookahead.All }) × HasSpared mid.text.now mid to
+spent_to state mid spent to same lexing going onward past ahead read few line =
+    let text = ap (λ t. t.now) same in
+    let inv = lexing.1 going in
+    let spared : HasSpared state.reader.text.now mid to = (read.0 + spent, omega (arith, past, read.1, few), read.2) in (
+      same_lexing state.reader.text.now (record state { reader = mid; looked_to = to; lookahead = lookahead.All }) text (lexing.0, (λ on. (inv.0, ahead)), tt, (λ on. spared), reached state.reader.text.now state.reader _ state.reader.at _ onward inv.1 refl line),
+      subst (λ (t : Text). HasSpared t mid to) (sym text) spared,
+    )
 
 -- after a newline that doesn't count it goes on
 pub line_end_passed : (first state : LexerState) (mid new : Reader) (len : ℕ) → mid.text ≡ state.reader.text → new.text ≡ mid.text → IsGoingOn first state → is_nothing state.lookahead ≡ true
@@ -127,7 +210,7 @@ line_end_passed first state mid new len same again on nothing at ahead code take
     let text = sym (ap (λ t. t.now) again) in
     let word = at.read in
     let paid = word.3 in
-    let read = taken_reads mid.text.now paid.0 len ((5 * len - 4) + 3) len word.0 mid new word.1 paid.2 word.4 (omega (arith)) (omega (arith, taken.0)) (taken.1, taken.2) in (
+    let read = taken_reads mid.text.now paid.0 len ((5 * len - 4) + 2) len word.0 mid new word.1 paid.2 word.4 (omega (arith)) (omega (arith, taken.0)) (taken.1, taken.2) in (
       again ∙ same ∙ on.0,
       on.1,
       on.2,
@@ -139,7 +222,7 @@ line_end_passed first state mid new len same again on nothing at ahead code take
     )
 
 -- what was read of a newline that counts, and of the margin after it
-margin_read : (state : LexerState) (len : ℕ) (new : Reader) → IsAtWord state (record { class = class.LineEnd; len = len }) → IsMarginRead state.reader.text.now len state.reader new new.stage → HasSpared state.reader.text.now 0 new state.looked_to
+margin_read : (state : LexerState) (len : ℕ) (new : Reader) → IsAtWord state (record { class = class.LineEnd; len = len }) → IsMarginRead state.reader.text.now len state.reader new new.stage → HasSpared state.reader.text.now new state.looked_to
 margin_read state len new at margin =
     let word = at.read in
     let paid = word.3 in

@@ -22,7 +22,7 @@ use Rattle.starlark_grammar.specs.Tokens.{Fault, Lexeme, Outcome, Spanned}
 use Rattle.starlark_token.specs.declared.lexeme_error.LexemeError.{LexemeError}
 use Rattle.std.proofs.lemmas.Bool.{and_parts, not-true}
 use Rattle.starlark_grammar.specs.Words.{Text}
-use Rattle.starlark_syntax.proofs.LexerReads.{spared}
+use Rattle.starlark_syntax.proofs.LexerReads.{end_spared, spared}
 use Rattle.starlark_syntax.proofs.LexerItems.{fault_item, lexeme_item, lexeme_within, nothing_item, some_item}
 use Rattle.starlark_syntax.specs.Lexer.{AnswersNext, AnswersWithin, HasReadFor, is_ended_by, most_reads, yielded_by}
 use Rattle.starlark_syntax.specs.declared.error.kinds.ErrorKind.{ErrorKind}
@@ -145,8 +145,8 @@ read_at text reader to beside left near paid stages.Closed is has = omega (arith
 pub lexing_read_in : (text : Text) (state : LexerState) → IsLexingIn text state → state.has_ended ≡ false → state.reader.reads ≤ most_reads text
 lexing_read_in text state lexing going =
     let ahead = (lexing.1 going).1 in
-    let paid = spared text state.reader state.looked_to state.lookahead (lexing.3 going) in
-    read_at text state.reader state.looked_to paid.0 ahead.left lexing.4.inside (omega (arith, paid.1)) state.reader.stage ahead.is_left paid.2
+    let far = spared text state.reader state.looked_to state.lookahead _ _ lexing.4.inside ahead (lexing.3 going) in
+    read_at text state.reader far.0 far.2.0 ahead.left far.1 far.2.1 state.reader.stage ahead.is_left far.2.2
 
 pub lexing_read : (state : LexerState) → IsLexing state → state.has_ended ≡ false → state.reader.reads ≤ most_reads state.reader.text.now
 lexing_read state lexing going = lexing_read_in state.reader.text.now state lexing going
@@ -173,7 +173,7 @@ at_end state lexing going end none = by state.reader.stage refl end.1 (sym (ap (
     by (stages.Fault begin fault last) e over h = cc
     by stages.Closed e over h =
         let last = nothing_next state.reader.text.now state.reader state.reader (left_in state) (outcome state.reader.text.now).fault (record { at = refl; nesting = refl; levels = refl; before = refl }) end.0 refl e e (lexing.1 going).1 in
-        let paid = spared state.reader.text.now state.reader state.looked_to state.lookahead (lexing.3 going) in
+        let paid = end_spared state.reader.text.now state.reader state.looked_to state.lookahead end (lexing.3 going) in
         let read = subst (HasReadAt state.reader.text.now paid.0 state.reader) e paid.2 in
         (last.0, last.1, omega (arith, read.0, lexing.0.fits))
 

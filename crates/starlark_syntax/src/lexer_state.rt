@@ -14,14 +14,15 @@ ghost use Rattle.starlark_grammar.specs.Words.{Text};
 ghost use Rattle.starlark_grammar.specs.Reading.{History};
 ghost use Rattle.starlark_reader.specs.Inner.MarginCuts.{IsCutBefore};
 ghost use Rattle.starlark_reader.specs.Inner.Reader.{IsAtCode, IsAtEnd, IsReached, IsStateAfter, has_read_none};
-ghost use Rattle.starlark_syntax.specs.Inner.LexerStates.{HasAnswered, HasFound, HasGivenNext, HasPassed, HasPassedNext, HasTaken, HasTakenLast, HasThrown, IsAtFault, IsAtOpener, IsAtWord, IsBegun, IsLexing, IsLexingIn, IsOfMark, IsTakenNext, has_fault, is_none_waiting, is_out_of_memory, left_in, passed_as, passed_count, plain_comment, plain_string, taken_count, thrown_count, view_of};
+ghost use Rattle.starlark_syntax.specs.Inner.LexerStates.{HasAnswered, HasFound, HasGivenNext, HasPassed, HasPassedNext, HasTaken, HasTakenLast, HasThrown, IsAtFault, IsAtOpener, IsAtWord, IsBegun, IsUnnamed, IsLexing, IsLexingIn, IsOfMark, IsTakenNext, has_fault, is_none_waiting, is_out_of_memory, left_in, passed_as, passed_count, plain_comment, plain_string, taken_count, thrown_count, view_of};
 ghost use Rattle.starlark_syntax.specs.Lexer.{is_ended_by, most_reads, yielded_by};
 ghost use Rattle.starlark_syntax.specs.Inner.RawItems.{OffsetsHold};
 ghost use Rattle.starlark_syntax.specs.PlainLexemes.{IsPlainIn};
 ghost use Rattle.starlark_token.specs.Lexemes.{IsWithin};
 ghost use Rattle.starlark_reader.specs.Inner.Pending.{IsMark};
 ghost use Rattle.starlark_token.specs.TokenViews.{token_view};
-ghost use Rattle.starlark_syntax.specs.Inner.Looked.{HasOpened, HasSpared, IsFoundFurther, IsFoundInCode, IsFoundOut, IsLooked, is_front, is_nothing, is_text_opener, looked_len};
+ghost use Rattle.starlark_syntax.specs.Inner.Looked.{HasSpared, IsFoundFurther, IsFoundInCode, IsFoundOut, IsLooked, is_all, is_nothing, is_text_opener};
+ghost use Rattle.starlark_grammar.specs.declared.class.LiteralKind.TheVariants as kind;
 
 use crate::eval_exception::EvalException;
 use crate::fault_exception::exception;
@@ -31,7 +32,7 @@ use starlark_base::codemap::{CodeMap, OrMemory};
 use starlark_reader::reader::{LineEnd, Reader};
 use starlark_token::lexeme_error::LexemeError;
 use starlark_token::tokens::Token;
-use starlark_words::scanner::{Class, LiteralKind, Terminal, Word, begins_plain_number};
+use starlark_words::scanner::{Class, LiteralKind, Quote, Terminal, Word};
 use std::alloc::{AllocError, Global};
 
 /// An item with the fault itself, between two offsets, in the place of its exception.
@@ -39,9 +40,10 @@ pub(crate) type Item = Result<(usize, Token, usize), OrMemory<(usize, LexemeErro
 
 /// The state of lexing a text, which all lexers and `LexedText` share.
 ///
-/// It yields the lexemes of the text one by one, and then its fault. Any error ends it. Below the offset `looked_to` lookahead has found no word, so the reader takes over there:
-/// no byte is looked ahead at twice. `passed_begin` and `passed_end` are the offsets of the lexeme that
-/// `pass_waiting` passed last.
+/// It yields the lexemes of the text one by one, and then its fault. Any error ends it. Up to offset
+/// `looked_to` lookahead found nothing plain, and the reader takes over: no byte is looked ahead at
+/// twice. `passed_begin` and `passed_end` are the offsets of the lexeme that `pass_waiting` passed
+/// last.
 // In this order for the reason that `Reader` has one.
 #[derive(Drop)]
 pub struct LexerState<'a> {
@@ -55,14 +57,16 @@ pub struct LexerState<'a> {
     alloc: Global,
 }
 
-/// How much lookahead the fast path has spent at the current offset.
+/// What lookahead has found at the current offset.
 #[derive(Clone, Copy)]
 enum Lookahead {
-    /// None. The lexer is in code, and no token is pending.
+    /// Nothing yet. The lexer is in code, and no token is pending.
     Nothing,
-    /// The first two bytes, which don't determine the lexeme, or open a text literal.
-    Front,
-    /// All that it can use, or the lexer isn't in code: the reader gives the lexeme.
+    /// A word in code, which the fast path doesn't pass.
+    Word(Word),
+    /// That no word begins there, in code.
+    Wordless,
+    /// All that it can find, or the lexer isn't in code: the reader gives the lexeme.
     All,
 }
 
@@ -169,12 +173,12 @@ impl Lookahead {
         matches!(self, Lookahead::Nothing)
     }
 
-    /// Whether the lookahead was the first two bytes.
+    /// Whether the reader gives the lexeme.
     #[inline(always)]
-    fn is_front(self) -> bool
-        ensures { result ≡ is_front self }
+    fn is_all(self) -> bool
+        ensures { result ≡ is_all self }
     {
-        matches!(self, Lookahead::Front)
+        matches!(self, Lookahead::All)
     }
 }
 
@@ -190,16 +194,6 @@ fn is_text_opener(class: Class) -> bool
             ..
         }
     )
-}
-
-/// Number of bytes of lookahead for a word that `common_word` found and the loop doesn't take. For an
-/// opener of a text literal, or a word of one byte, it is one more than the word has.
-#[inline(always)]
-fn looked_len(is_text: bool, len: usize) -> usize
-    requires { len < 2 ^ 33 }
-    ensures { result ≡ looked_len is_text len }
-{
-    if is_text || len == 1 { len + 1 } else { len }
 }
 
 /// Lookahead state after any lexeme. Below `looked_to` it is spent.
@@ -238,6 +232,7 @@ impl<'a> LexerState<'a> {
     fn next_of_reader(&mut self) -> Option<Lexeme>
         requires lexing { IsLexing self.old }
         requires going { self.old.has_ended ≡ false }
+        requires spared { HasSpared self.old.reader.text.now self.old.reader self.old.looked_to }
         ensures { HasGivenNext self.old result self.new }
     {
         match self.reader.next() {
@@ -289,17 +284,100 @@ impl<'a> LexerState<'a> {
     fn item_in_code(&mut self, taken: Result<(usize, Token, usize), AllocError>) -> Option<Lexeme>
         requires taken { IsTakenNext self.old taken }
         requires code { OnOk taken (IsAtCode self.old.reader.text.now self.old.reader) }
-        requires reads { OnOk taken (HasSpared self.old.reader.text.now 0 self.old.reader self.old.looked_to) }
+        requires reads { OnOk taken (HasSpared self.old.reader.text.now self.old.reader self.old.looked_to) }
         ensures { HasGivenNext self.old result self.new }
     {
         let lookahead = looked_further(&self.reader, self.looked_to);
         self.item_of(taken, lookahead)
     }
 
-    /// Next lexeme where the first two bytes don't determine it.
+    /// Next lexeme, a bytes literal whose opener has `len` bytes.
+    #[inline(always)]
+    fn next_bytes(&mut self, is_raw: bool, quote: Quote, len: usize) -> Option<Lexeme>
+        requires lexing { IsLexing self.old }
+        requires going { self.old.has_ended ≡ false }
+        requires found { self.old.lookahead ≡ Lookahead.Word (record { class = Class.Opener kind.Bytes is_raw quote; len = len }) }
+        ensures { HasGivenNext self.old result self.new }
+    {
+        match self
+            .reader
+            .plain_body_len(LiteralKind::Bytes, is_raw, quote, len)
+        {
+            Ok(body) => {
+                let taken = self.reader.take_plain_bytes(is_raw, quote, len, body);
+                self.item_in_code(taken)
+            }
+            Err(run) => {
+                self.looked_to = self.reader.at() + len + run + 1;
+                self.lookahead = Lookahead::All;
+                self.next_of_reader()
+            }
+        }
+    }
+
+    /// Next lexeme, which begins with a word.
     ///
-    /// By three bytes these come fast: a number, the start of an f-string, a bytes literal without
-    /// escapes, the `!` of an f-string's expression, and a comment.
+    /// These come fast: a number, the start of an f-string, a bytes literal without escapes, and a
+    /// comment. The slow path reads any other again.
+    #[inline(always)]
+    fn next_word(&mut self, word: Word) -> Option<Lexeme>
+        requires lexing { IsLexing self.old }
+        requires going { self.old.has_ended ≡ false }
+        requires found { self.old.lookahead ≡ Lookahead.Word word }
+        ensures { HasGivenNext self.old result self.new }
+    {
+        if let Some(digit) = self.reader.single_digit(word) {
+            let lexeme = self.reader.take_digit(digit);
+            return self.item_in_code(Ok(lexeme));
+        }
+        if self.reader.is_plain_number(word) {
+            let taken = self.reader.take_number(word);
+            return self.item_in_code(taken);
+        }
+        match word.class {
+            Class::Opener {
+                kind: LiteralKind::FString,
+                is_raw,
+                quote,
+            } => {
+                let taken = self.reader.take_fstring(is_raw, quote, word.len);
+                self.item_of(taken, Lookahead::All)
+            }
+            Class::Opener {
+                kind: LiteralKind::Bytes,
+                is_raw,
+                quote,
+            } => self.next_bytes(is_raw, quote, word.len),
+            Class::Comment => {
+                let taken = self.reader.take_comment(word.len);
+                self.item_in_code(taken)
+            }
+            _ => {
+                self.looked_to = self.reader.at() + word.len + 1;
+                self.lookahead = Lookahead::All;
+                self.next_of_reader()
+            }
+        }
+    }
+
+    /// Next lexeme, which begins with no word: the `!` of an f-string's expression, or by the slow path.
+    #[inline(always)]
+    fn next_wordless(&mut self) -> Option<Lexeme>
+        requires lexing { IsLexing self.old }
+        requires going { self.old.has_ended ≡ false }
+        requires found { self.old.lookahead ≡ Lookahead.Wordless }
+        ensures { HasGivenNext self.old result self.new }
+    {
+        if self.reader.bang_stands() {
+            let lexeme = self.reader.take_bang();
+            return self.item_in_code(Ok(lexeme));
+        }
+        self.looked_to = self.reader.at() + 1;
+        self.lookahead = Lookahead::All;
+        self.next_of_reader()
+    }
+
+    /// Next lexeme where the fast path doesn't pass it.
     // A call. `next_of_reader` is inlined into it: as a call it costs 3 to 8 % of f-strings.
     #[inline(never)]
     fn next_of_all(&mut self) -> Option<Lexeme>
@@ -307,62 +385,25 @@ impl<'a> LexerState<'a> {
         requires going { self.old.has_ended ≡ false }
         ensures { HasGivenNext self.old result self.new }
     {
-        if !self.lookahead.is_front() {
-            return self.next_of_reader();
+        match self.lookahead {
+            Lookahead::Word(word) => self.next_word(word),
+            Lookahead::Wordless => self.next_wordless(),
+            Lookahead::Nothing | Lookahead::All => self.next_of_reader(),
         }
-        let front = self.reader.front();
-        if let Some(digit) = self.reader.single_digit(front) {
-            let lexeme = self.reader.take_digit(digit);
-            return self.item_in_code(Ok(lexeme));
-        }
-        if begins_plain_number(front) {
-            let word = self.reader.number(front);
-            let taken = self.reader.take_number(word);
-            return self.item_in_code(taken);
-        }
-        if let Some(quote) = self.reader.fstring_opener(front) {
-            let taken = self.reader.take_fstring(quote);
-            return self.item_of(taken, Lookahead::All);
-        }
-        if let Some(quote) = self.reader.bytes_opener(front) {
-            let kind = LiteralKind::Bytes;
-            return match self.reader.plain_body_len(kind, false, quote, 2) {
-                Ok(body) => {
-                    let taken = self.reader.take_plain_bytes(quote, body);
-                    self.item_in_code(taken)
-                }
-                Err(run) => {
-                    self.looked_to = self.reader.at() + 2 + run + 1;
-                    self.lookahead = Lookahead::All;
-                    self.next_of_reader()
-                }
-            };
-        }
-        if self.reader.bang_stands(front) {
-            let lexeme = self.reader.take_bang();
-            return self.item_in_code(Ok(lexeme));
-        }
-        if let Some(len) = self.reader.comment_len(front) {
-            let taken = self.reader.take_comment(len);
-            return self.item_in_code(taken);
-        }
-        self.lookahead = Lookahead::All;
-        self.next_of_reader()
     }
 
-    /// Passes the string literal here if it has no escapes and one quote closes it. Returns the
-    /// length of its opener; 0 if it isn't so, or something else comes.
-    // A number in a register: a result in memory costs each lexeme (8 % of a mix).
+    /// Passes the string literal here, whose opener has `len` bytes, if it has no escapes and one quote
+    /// closes it. Returns whether it was passed.
+    ///
+    /// Lookahead is all spent before, and nothing is looked at after it is passed.
+    // A result in a register: one in memory costs each lexeme (8 % of a mix).
     #[inline(never)]
-    fn pass_string(&mut self) -> usize
-        requires lexing { IsLexing self.old }
-        requires going { self.old.has_ended ≡ false }
-        requires front { self.old.lookahead ≡ Lookahead.Front }
-        requires opened { HasOpened self.old.reader.text.now self.old.reader self.old.looked_to }
-        ensures passed { 0 < result → HasPassed self.old (FastPath.Passed (plain_string self.old.reader.at result self.new.reader.at)) self.new }
-        ensures lexing { IsLexing self.new }
-        ensures some { 0 < result → view_of self.new ≡ record (view_of self.old) { yielded_count = self.old.yielded_count + 1; reads = self.new.reader.reads } }
-        ensures none { result ≡ 0 → view_of self.new ≡ record (view_of self.old) { reads = self.new.reader.reads } }
+    fn pass_string(&mut self, len: usize) -> bool
+        requires opener { IsAtOpener (record self.old { lookahead = Lookahead.Nothing }) len }
+        requires all { self.old.lookahead ≡ Lookahead.All }
+        ensures passed { result ≡ true → HasPassedNext self.old (FastPath.Passed (plain_string self.old.reader.at len self.new.reader.at)) self.new }
+        ensures closed { result ≡ true → self.old.reader.at + len < self.new.reader.at }
+        ensures stays { result ≡ false → HasPassedNext self.old FastPath.Undecided self.new }
     {
         let Some(
             Word {
@@ -371,26 +412,28 @@ impl<'a> LexerState<'a> {
                     is_raw,
                     quote,
                 },
-                len,
+                ..
             },
         ) = self.reader.text_opener()
         else {
-            self.lookahead = Lookahead::All;
-            return 0;
+            self.looked_to = self.reader.at() + len + 1;
+            return false;
         };
-        let kind = LiteralKind::Text;
-        let body = match self.reader.plain_body_len(kind, is_raw, quote, len) {
-            Ok(body) => body,
+        match self
+            .reader
+            .plain_body_len(LiteralKind::Text, is_raw, quote, len)
+        {
+            Ok(body) => {
+                self.reader.pass_plain_text(is_raw, quote, len, body);
+                self.yielded_count += 1;
+                self.lookahead = Lookahead::Nothing;
+                true
+            }
             Err(run) => {
                 self.looked_to = self.reader.at() + len + 1 + run;
-                self.lookahead = Lookahead::All;
-                return 0;
+                false
             }
-        };
-        self.reader.pass_plain_text(is_raw, quote, len, body);
-        self.yielded_count += 1;
-        self.lookahead = Lookahead::Nothing;
-        len
+        }
     }
 
     /// Passes the first pending comment. Returns the offsets where it begins and ends.
@@ -399,6 +442,7 @@ impl<'a> LexerState<'a> {
     fn pass_pending_comment(&mut self) -> (usize, usize)
         requires lexing { IsLexing self.old }
         requires going { self.old.has_ended ≡ false }
+        requires all { self.old.lookahead ≡ Lookahead.All }
         requires some { self.old.reader.pending.from < self.old.reader.pending.to }
         ensures { HasPassedNext self.old (FastPath.Passed (plain_comment result.0 result.1)) self.new }
     {
@@ -413,6 +457,7 @@ impl<'a> LexerState<'a> {
     fn pass_mark(&mut self) -> Waiting
         requires lexing { IsLexing self.old }
         requires going { self.old.has_ended ≡ false }
+        requires all { self.old.lookahead ≡ Lookahead.All }
         requires none { self.old.reader.pending.to ≤ self.old.reader.pending.from }
         ensures passed { HasPassedNext self.old (passed_as result self.new.passed_begin self.new.passed_end) self.new }
         ensures stays { result ≡ Waiting.Nothing → self.new ≡ self.old }
@@ -433,6 +478,7 @@ impl<'a> LexerState<'a> {
     fn pass_fstring_text(&mut self) -> Waiting
         requires lexing { IsLexing self.old }
         requires going { self.old.has_ended ≡ false }
+        requires all { self.old.lookahead ≡ Lookahead.All }
         ensures { HasPassedNext self.old (passed_as result self.new.passed_begin self.new.passed_end) self.new }
     {
         if self.reader.at() < self.looked_to || !self.reader.reads_on() {
@@ -472,6 +518,9 @@ impl<'a> LexerState<'a> {
         requires none { self.old.reader.pending.to ≤ self.old.reader.pending.from }
         ensures { HasPassedNext self.old (passed_as result self.new.passed_begin self.new.passed_end) self.new }
     {
+        if !self.lookahead.is_all() {
+            return Waiting::Nothing;
+        }
         let mark = self.pass_mark();
         if !mark.is_nothing() {
             return mark;
@@ -505,25 +554,34 @@ impl<'a> LexerState<'a> {
     }
 
     /// Passes the string literal whose opener of `len` bytes is here, if it has no escapes and one
-    /// quote closes it. `is_text` says whether the word here opens a text literal.
-    // Not by the word's class: a copy of it costs 1 to 2 % of string literals.
+    /// quote closes it.
+    // Not by the word's class: a copy of it costs 1 to 2 % of string literals. Lookahead is spent before
+    // the call: else each lexeme takes 15 instructions more.
     #[inline(always)]
-    fn pass_literal(&mut self, is_text: bool, len: usize) -> FastPath
-        requires { IsAtOpener self.old is_text len }
+    fn pass_literal(&mut self, len: usize) -> FastPath
+        requires { IsAtOpener self.old len }
         ensures { HasPassedNext self.old result self.new }
     {
         let begin = self.reader.at();
-        self.looked_to = begin + looked_len(is_text, len);
-        self.lookahead = Lookahead::Front;
-        if !is_text {
-            return FastPath::Undecided;
+        self.lookahead = Lookahead::All;
+        if self.pass_string(len) {
+            FastPath::Passed(PlainLexeme::string(begin, len, self.reader.at()))
+        } else {
+            FastPath::Undecided
         }
-        let opener = self.pass_string();
-        if opener == 0 {
-            return FastPath::Undecided;
-        }
-        let end = self.reader.at();
-        FastPath::Passed(PlainLexeme::string(begin, opener, end))
+    }
+
+    /// Finds the word here, where the first two bytes tell none.
+    // A call: in line it costs each lexeme.
+    #[inline(never)]
+    fn look_further(&mut self)
+        requires { IsUnnamed self.old }
+        ensures { HasPassedNext self.old FastPath.Undecided self.new }
+    {
+        self.lookahead = match self.reader.unnamed_word() {
+            Some(word) => Lookahead::Word(word),
+            None => Lookahead::Wordless,
+        };
     }
 
     /// Passes the next lexeme if the fast path decides it: a name, a keyword, a symbol, a newline,
@@ -538,8 +596,7 @@ impl<'a> LexerState<'a> {
     {
         while self.lookahead.is_nothing() {
             let Some(Word { class, len }) = self.reader.common_word() else {
-                self.looked_to = self.reader.at() + 1;
-                self.lookahead = Lookahead::Front;
+                self.look_further();
                 return FastPath::Undecided;
             };
             match class {
@@ -565,13 +622,22 @@ impl<'a> LexerState<'a> {
                     let newline = PlainLexeme::of_kind(PlainKind::Newline, begin, begin + len);
                     return FastPath::Passed(newline);
                 }
-                _ => return self.pass_literal(is_text_opener(class), len),
+                _ => {
+                    if is_text_opener(class) {
+                        return self.pass_literal(len);
+                    }
+                    self.lookahead = Lookahead::Word(Word { class, len });
+                    return FastPath::Undecided;
+                }
             }
         }
         if self.has_ended {
             return FastPath::Undecided;
         }
         if self.reader.has_comments() {
+            if !self.lookahead.is_all() {
+                return FastPath::Undecided;
+            }
             let (begin, end) = self.pass_pending_comment();
             return FastPath::Passed(PlainLexeme::comment(begin, end));
         }

@@ -1,11 +1,11 @@
 //! Finds the longest word at the front of a text.
 
-ghost use Rattle.std.specs.Prelude.{◌≡◌, false, ◌<◌, ◌≤◌, ◌==◌, ◌+◌, ◌-◌, ◌*◌, ◌^◌, ◌∷◌, IfSome, None, Some, length, nat_eq, take, true};
+ghost use Rattle.std.specs.Prelude.{◌≡◌, false, ◌<◌, ◌≤◌, ◌==◌, ◌+◌, ◌-◌, ◌*◌, ◌^◌, IfSome, None, Some, length, nat_eq, take, true};
 ghost use Rattle.std.specs.List.{prefix_len, slice_get};
 ghost use Rattle.std.specs.Option.{option_map};
 ghost use Rattle.starlark_grammar.specs.Front.{language_front};
 ghost use Rattle.starlark_words.specs.Inner.Reads.{AreReads, more_reads};
-ghost use Rattle.starlark_words.specs.Inner.ScannedWords.{IsDigitAt, begins_number, begins_plain_number, is_number, word_len, word_view};
+ghost use Rattle.starlark_words.specs.Inner.ScannedWords.{begins_number, word_len, word_view};
 ghost use Rattle.starlark_grammar.specs.Pieces.{is_bang};
 ghost use Rattle.starlark_grammar.specs.Words as grammar;
 ghost use Rattle.starlark_grammar.specs.declared.class.Class.TheVariants as class;
@@ -50,15 +50,6 @@ fn tabs(len: usize) -> Word
 {
     Word {
         class: Class::Tabs,
-        len,
-    }
-}
-
-fn comment(len: usize) -> Word
-    ensures { word_view result ≡ (class.Comment, len) }
-{
-    Word {
-        class: Class::Comment,
         len,
     }
 }
@@ -162,49 +153,11 @@ pub fn word_after(reads: &mut ReadCounter, gap: usize, text: &str) -> Option<Wor
     requires { gap < 2 ^ 32 }
     ensures word { IfSome result (λ word. Some (word_view word) ≡ language_front text.now) }
     ensures bang { IfSome result (λ word. is_bang text.now ≡ false) }
-    ensures reads { AreReads (gap + word_len result) (gap + (5 * word_len result - 4) + 3) reads.old reads.new }
+    ensures none { result ≡ None → grammar.begins grammar.is_name_start text.now ≡ false }
+    ensures reads { AreReads (gap + word_len result) (gap + (5 * word_len result - 4) + 2) reads.old reads.new }
+    ensures two { result ≡ None → reads.new ≡ more_reads reads.old (gap + 2) }
 {
-    word_by_front(reads, gap + 3, text)
-}
-
-/// The value of the integer at the start of a text if it has one digit, and the byte after it tells
-/// so. `front` is the text's first three bytes.
-#[inline(always)]
-pub fn single_digit(front: &[u8], text: &str) -> Option<u8>
-    requires { front.now ≡ take 3 text.now }
-    ensures word { IfSome result (λ digit. Some (class.Decimal, 1) ≡ language_front text.now) }
-    ensures digit { IfSome result (λ digit. IsDigitAt digit text.now) }
-    ensures bang { IfSome result (λ digit. is_bang text.now ≡ false) }
-{
-    let first = *front.first()?;
-    if numbers::is_digit_alone(front) {
-        Some(first - b'0')
-    } else {
-        None
-    }
-}
-
-/// Whether a text begins with a digit, and not with a 0 before another digit, which is a fault.
-/// `front` is the text's first three bytes.
-#[inline(always)]
-pub fn begins_plain_number(front: &[u8]) -> bool
-    ensures { (text : grammar.Text) → front.now ≡ take 3 text → result ≡ begins_plain_number text }
-{
-    numbers::begins_plain_number(front)
-}
-
-/// The number at the start of a text that begins with a digit. `front` is the text's first three
-/// bytes, whose reads the caller has counted.
-#[inline(always)]
-pub fn plain_number(reads: &mut ReadCounter, front: &[u8], text: &str) -> Word
-    requires number { begins_plain_number text.now ≡ true }
-    requires front { front.now ≡ take 3 text.now }
-    ensures word { Some (word_view result) ≡ language_front text.now }
-    ensures class { is_number result.class ≡ true }
-    ensures bang { is_bang text.now ≡ false }
-    ensures reads { AreReads (result.len - 2) (5 * result.len) reads.old reads.new }
-{
-    numbers::number_from(reads, front, text.as_bytes())
+    word_by_front(reads, gap + 2, text)
 }
 
 /// The longest word at the front of a text if its first two bytes open a text literal.
@@ -218,47 +171,36 @@ pub fn text_opener(reads: &mut ReadCounter, text: &str) -> Option<Word>
     openers::text_opener(front)
 }
 
-/// The quote of the opener at the start of a text if that is an `f` and a quote. `front` is the
-/// text's first three bytes.
+/// Whether a text begins with `!`, and not with `!=`.
 #[inline(always)]
-pub fn fstring_opener(front: &[u8], text: &str) -> Option<Quote>
-    requires { front.now ≡ take 3 text.now }
-    ensures word { IfSome result (λ quote. Some (class.Opener kind.FString false quote, 2) ≡ language_front text.now) }
-    ensures bang { IfSome result (λ quote. is_bang text.now ≡ false) }
+pub fn is_bang(text: &[u8]) -> bool
+    ensures { result ≡ is_bang text.now }
 {
-    openers::quote_after(b'f', front)
+    match text {
+        [b'!', second, ..] => *second != b'=',
+        [b'!'] => true,
+        _ => false,
+    }
 }
 
-/// The quote of the opener at the start of a text if that is a `b` and a quote. `front` is the
-/// text's first three bytes.
+/// The comment at the front of a text. `value` is the text after its `#`, whose read the caller has
+/// counted.
 #[inline(always)]
-pub fn bytes_opener(front: &[u8], text: &str) -> Option<Quote>
-    requires { front.now ≡ take 3 text.now }
-    ensures word { IfSome result (λ quote. Some (class.Opener kind.Bytes false quote, 2) ≡ language_front text.now) }
-    ensures bang { IfSome result (λ quote. is_bang text.now ≡ false) }
+fn comment_before(reads: &mut ReadCounter, value: &[u8]) -> Word
+    requires { length value.now < 2 ^ 64 - 16 }
+    ensures word { word_view result ≡ (class.Comment, 1 + prefix_len grammar.is_in_line value.now) }
+    ensures reads { AreReads result.len (5 * result.len) reads.old reads.new }
 {
-    openers::quote_after(b'b', front)
-}
-
-/// Length of the comment at the start of a text; `None` if something else is there. `front` is the
-/// text's first three bytes.
-#[inline(always)]
-pub fn comment_len(reads: &mut ReadCounter, front: &[u8], text: &str) -> Option<usize>
-    requires { front.now ≡ take 3 text.now }
-    ensures word { IfSome result (λ len. Some (class.Comment, len) ≡ language_front text.now) }
-    ensures bang { IfSome result (λ len. is_bang text.now ≡ false) }
-    ensures reads { IfSome result (λ len. AreReads len (5 * len + 2) reads.old reads.new) }
-    ensures none { result ≡ None → reads.new ≡ reads.old }
-{
-    match front {
-        [b'#', ..] => Some(front_len(reads, 0, text.as_bytes(), b'\r')),
-        _ => None,
+    Word {
+        class: Class::Comment,
+        len: 1 + front_len(reads, 0, value, b'\r'),
     }
 }
 
 /// The longest word at the front of a text that doesn't begin with a letter or `_`; `None` if there
 /// is none. The caller has counted the reads of the first two bytes.
-pub(crate) fn unnamed_word(reads: &mut ReadCounter, text: &str) -> Option<Word>
+#[inline(always)]
+pub fn unnamed_word(reads: &mut ReadCounter, text: &str) -> Option<Word>
     requires { grammar.begins grammar.is_name_start text.now ≡ false }
     ensures word { option_map word_view result ≡ language_front text.now }
     ensures bang { IfSome result (λ word. is_bang text.now ≡ false) }
@@ -267,13 +209,22 @@ pub(crate) fn unnamed_word(reads: &mut ReadCounter, text: &str) -> Option<Word>
     let bytes = text.as_bytes();
     let front = reads.more_front(bytes, 2, 3);
     let first = *front.first()?;
+    if numbers::is_digit_alone(front) {
+        return Some(Word {
+            class: Class::Decimal,
+            len: 1,
+        });
+    }
     if begins_number(front) {
         return Some(numbers::number_from(reads, front, bytes));
+    }
+    if is_bang(front) {
+        return None;
     }
     match first {
         b' ' => Some(skipped(reads.spaces_len(bytes))),
         b'\t' => Some(tabs(reads.tabs_len(bytes))),
-        b'#' => Some(comment(reads.line_len(bytes))),
+        b'#' => Some(comment_before(reads, &bytes[1..])),
         b'\'' => Some(quote_word(Quote::Single)),
         b'"' => Some(quote_word(Quote::Double)),
         _ => marks::mark_from(front),

@@ -62,11 +62,6 @@ bang_in_two [] = refl
 bang_in_two (b ∷ []) = refl
 bang_in_two (b ∷ c ∷ bs) = refl
 
-pub bang_in_three : (text : Text) → is_bang (take 3 text) ≡ is_bang text
-bang_in_three [] = refl
-bang_in_three (b ∷ []) = refl
-bang_in_three (b ∷ c ∷ bs) = refl
-
 -- whether the step is a bang, by the situation
 pub bang_by : (s : Situation) (text : Text) (at : Mode) (stands known : Bool) → s.mode ≡ at → stands ≡ (takes_bang at s.before && is_bang text) → stands ≡ known → (takes_bang s.mode s.before && is_bang text) ≡ known
 bang_by s text at stands known here is e = ap (λ p. takes_bang p s.before && is_bang text) here ∙ sym is ∙ e

@@ -17,7 +17,6 @@ use Rattle.starlark_grammar.specs.Depths.{AtTop, InText, Mode}
 use Rattle.starlark_words.specs.Inner.LiteralViews.{IsPlainBody}
 use Rattle.starlark_grammar.specs.Inner.Openings.{opening_view}
 use Rattle.starlark_grammar.specs.declared.class.Opening.{Opening}
-use Rattle.starlark_words.specs.Inner.ScannedWords.{IsDigitAt}
 use Rattle.std.proofs.lemmas.Str.{IsUtf8-drop}
 use Rattle.starlark_grammar.proofs.Order.Edges.{boundary_shift}
 use Rattle.starlark_reader.proofs.ReadLiterals.LiteralPieces.{opener_plain}
@@ -39,6 +38,7 @@ use Rattle.starlark_token.specs.declared.tokens.Token.{Token}
 use Rattle.starlark_words.specs.declared.scanner.word.Word.{Word}
 use Rattle.starlark_reader.specs.Inner.PieceViews.{IsAfter, IsPiece, is_code, nothing_of}
 use Rattle.starlark_reader.specs.Inner.Reader.{IsAhead, IsAheadAfter, IsAheadPast, IsBangHere, IsInCode, IsPlainTextHere, IsStateAfter, IsRead, IsReadPast, IsReady, IsTokenOf, IsWordHere, before_view, left_here, silent_sort, step_here}
+use Rattle.starlark_reader.specs.Inner.StepViews.{IsDigitAt}
 use Rattle.starlark_token.specs.TokenViews.{TokenView, Whole, token_view}
 use Rattle.starlark_reader.specs.declared.nesting.LexerMode.{LexerMode}
 use Rattle.starlark_reader.specs.declared.nesting.LexerMode.TheVariants as modes
@@ -202,15 +202,15 @@ pub text_here : (text : Text) (history : History) (reader : Reader) (is_raw : Bo
     → step_here text history reader ≡ pieces.token (len + count + 1) (Tokens.String (take count (drop len (drop reader.at text))))
 text_here text history reader is_raw quote len count kept here plain = plain_front text history reader OfText is_raw quote len count (λ e. cc) kept here plain
 
-pub bytes_step : (text : Text) (history : History) (reader : Reader) (quote : Quote) (count : ℕ) (value : Vec ℕ Global) → IsStateAfter text history reader
-    → IsWordHere text reader (record { class = class.Opener OfBytes false quote; len = 2 }) → IsPlainBody OfBytes false quote (drop 2 (drop reader.at text)) count
-    → value.items ≡ take count (drop 2 (drop reader.at text)) → IsStep (step_here text history reader) (step.Token (token.Bytes value) (2 + count + 1))
+pub bytes_step : (text : Text) (history : History) (reader : Reader) (is_raw : Bool) (quote : Quote) (len count : ℕ) (value : Vec ℕ Global) → IsStateAfter text history reader
+    → IsWordHere text reader (record { class = class.Opener OfBytes is_raw quote; len = len }) → IsPlainBody OfBytes is_raw quote (drop len (drop reader.at text)) count
+    → value.items ≡ take count (drop len (drop reader.at text)) → IsStep (step_here text history reader) (step.Token (token.Bytes value) (len + count + 1))
 unfolding token_view situation
-bytes_step text history reader quote count value kept here plain is = (
-  Tokens.Bytes (take count (drop 2 (drop reader.at text))),
+bytes_step text history reader is_raw quote len count value kept here plain is = (
+  Tokens.Bytes (take count (drop len (drop reader.at text))),
   ap (λ t. Whole (Tokens.Bytes t)) is,
   refl,
-  plain_front text history reader OfBytes false quote 2 count (λ e. cc) kept here plain,
+  plain_front text history reader OfBytes is_raw quote len count (λ e. cc) kept here plain,
 )
 
 pub terminal_step : (text : Text) (history : History) (reader : Reader) (terminal : Terminal) (len : ℕ) (found : Token) → IsStateAfter text history reader → IsWordHere text reader (record { class = class.Fixed terminal; len = len })
@@ -227,14 +227,14 @@ terminal_step text history reader terminal len found kept here view own = (
 )
 
 -- the step of an f-string's start, from its opener and the text after that
-pub fstring_step : (text : Text) (history : History) (reader : Reader) (quote : Quote) (opening : Tokens.Opening) (len : ℕ) → IsStateAfter text history reader → IsWordHere text reader (record { class = class.Opener OfFString false quote; len = 2 })
-    → opening ≡ pieces.opening_of false quote (drop 2 (drop reader.at text)) → len ≡ 2 + pieces.more_quotes opening
+pub fstring_step : (text : Text) (history : History) (reader : Reader) (is_raw : Bool) (quote : Quote) (opening : Tokens.Opening) (word len : ℕ) → IsStateAfter text history reader → IsWordHere text reader (record { class = class.Opener OfFString is_raw quote; len = word })
+    → opening ≡ pieces.opening_of is_raw quote (drop word (drop reader.at text)) → len ≡ word + pieces.more_quotes opening
     → step_here text history reader ≡ pieces.token len (Tokens.FStringStart opening)
 unfolding situation
-fstring_step text history reader quote opening len kept here is whole =
-    word_read text history reader (record { class = class.Opener OfFString false quote; len = 2 }) kept here
-    ∙ ap (λ n. pieces.opener (mode_after history.tokens) OfFString (pieces.opening_of false quote (drop 2 (drop reader.at text))) n (drop 2 (drop reader.at text))) (word_len (drop reader.at text) (class.Opener OfFString false quote) 2 (sym here.front))
-    ∙ ap (λ o. pieces.token (2 + pieces.more_quotes o) (Tokens.FStringStart o)) (sym is) ∙ ap (λ n. pieces.token n (Tokens.FStringStart opening)) (sym whole)
+fstring_step text history reader is_raw quote opening word len kept here is whole =
+    word_read text history reader (record { class = class.Opener OfFString is_raw quote; len = word }) kept here
+    ∙ ap (λ n. pieces.opener (mode_after history.tokens) OfFString (pieces.opening_of is_raw quote (drop word (drop reader.at text))) n (drop word (drop reader.at text))) (word_len (drop reader.at text) (class.Opener OfFString is_raw quote) word (sym here.front))
+    ∙ ap (λ o. pieces.token (word + pieces.more_quotes o) (Tokens.FStringStart o)) (sym is) ∙ ap (λ n. pieces.token n (Tokens.FStringStart opening)) (sym whole)
 
 -- the step of a newline at the reader's offset, which counts or doesn't
 pub line_end_step : (text : Text) (history : History) (reader : Reader) (len : ℕ) → IsStateAfter text history reader → IsWordHere text reader (record { class = class.LineEnd; len = len })

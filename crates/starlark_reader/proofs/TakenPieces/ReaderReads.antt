@@ -115,14 +115,14 @@ pub looked_twice : (least most more_least more_most : ℕ) (old mid new : Reader
 looked_twice least most more_least more_most old mid new first second = (second.0 ∙ first.0, second.1 ∙ first.1, omega (arith, first.2, second.2), (omega (arith, first.3.0, second.3.0), omega (arith, first.3.1, second.3.1)))
 
 -- lookahead at an f-string's opener is part of the reads of its start
-pub begun_reads : (text : Text) (beside : ℕ) (old mid new : Reader) → old.stage ≡ stages.Onward → HasRead text beside old → HasLookedHere 3 3 old mid → HasStarted mid new → HasRead text beside new
-begun_reads text beside old mid new onward has lookahead begun =
+pub begun_reads : (text : Text) (beside len : ℕ) (old mid new : Reader) → 1 ≤ len → old.stage ≡ stages.Onward → HasRead text beside old → HasLooked len (5 * len + 3) old mid → HasStarted len mid new → HasRead text beside new
+begun_reads text beside len old mid new some onward has lookahead begun =
     let on : HasReadAt text beside old stages.Onward = subst (HasReadAt text beside old) onward has in
     subst (HasReadAt text beside new) (sym begun.2)
-    (omega (arith, lookahead.0, lookahead.3.0, on.0, begun.1, begun.4.0), omega (arith, lookahead.0, lookahead.2, lookahead.3.1, on.1, begun.0, begun.3, begun.4.1))
+    (omega (arith, lookahead.0, lookahead.3.0, on.0, begun.1, begun.4.0), omega (arith, some, lookahead.0, lookahead.2, lookahead.3.1, on.1, begun.0, begun.3, begun.4.1))
 
 -- lookahead at a newline is part of the reads of it and its margin
-pub margin_reads : (text : Text) (beside len : ℕ) (old mid new : Reader) → mid.at + len ≤ length text → 1 ≤ len → old.stage ≡ stages.Onward → HasRead text beside old → HasLooked len ((5 * len - 4) + 3) old mid
+pub margin_reads : (text : Text) (beside len : ℕ) (old mid new : Reader) → mid.at + len ≤ length text → 1 ≤ len → old.stage ≡ stages.Onward → HasRead text beside old → HasLooked len ((5 * len - 4) + 2) old mid
     → IsMarginRead text len mid new new.stage → HasRead text beside new
 margin_reads text beside len old mid new inside some onward has lookahead margin =
     let on : HasReadAt text beside old stages.Onward = subst (HasReadAt text beside old) onward has in

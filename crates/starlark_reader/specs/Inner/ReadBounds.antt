@@ -112,10 +112,10 @@ HasLooked least most old new =
 abbrev pub HasLookedHere : (least most : ℕ) → Reader → Reader → Type 0
 HasLookedHere least most old new = (new.at ≡ old.at) × (new.stage ≡ old.stage) × (owed new.pending ≤ owed old.pending) × AreReads least most old.reads new.reads
 
--- the reader took the start of an f-string, whose opener has two bytes, and read the two bytes
+-- the reader took the start of an f-string, whose opener has `len` bytes, and read the two bytes
 -- after that
-abbrev pub HasStarted : Reader → Reader → Type 0
-HasStarted old new = (old.at + 2 ≤ new.at) × (new.at ≤ old.at + 4) × (new.stage ≡ stage.Onward) × (owed new.pending ≤ owed old.pending) × AreReads 2 2 old.reads new.reads
+abbrev pub HasStarted : (len : ℕ) → Reader → Reader → Type 0
+HasStarted len old new = (old.at + len ≤ new.at) × (new.at ≤ old.at + len + 2) × (new.stage ≡ stage.Onward) × (owed new.pending ≤ owed old.pending) × AreReads 2 2 old.reads new.reads
 
 -- the reader advanced past the step, or stopped at its fault, and read nothing
 abbrev pub IsPassed : Reader → Step → Reader → Type 0

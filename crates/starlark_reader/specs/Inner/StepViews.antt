@@ -1,5 +1,5 @@
 -- Steps of the code, as the grammar sees them.
-use Rattle.std.specs.Prelude.{◌≡◌, ℕ, ◌+◌, ◌++◌, ◌∷◌, [], false, Some, drop, string_bytes, take}
+use Rattle.std.specs.Prelude.{◌≡◌, ℕ, ◌<◌, ◌+◌, ◌++◌, ◌∷◌, [], false, Some, drop, string_bytes, take}
 use Rattle.std.specs.Str.{IsCharBoundary}
 use Rattle.starlark_grammar.specs.Words.{Text}
 use Rattle.starlark_grammar.specs.Tokens as grammar
@@ -21,6 +21,10 @@ use Rattle.starlark_reader.specs.declared.literal.pieces.Step.TheVariants as ste
 -- the step of an f-string text of `text_len` bytes, its value, and the `len` bytes that end it
 abbrev pub text_step : ℕ → Text → TextEnd → ℕ → pieces.Step
 text_step text_len value stop len = pieces.piece (text_len + len) (pieces.chunk_text text_len value ++ record { begin = text_len; node = text_end_node stop; end = text_len + len } ∷ [])
+
+-- the text begins with a digit of this value
+abbrev pub IsDigitAt : ℕ → Text → Type 0
+IsDigitAt value text = (value < 10) × (take 1 text ≡ (value + 48) ∷ [])
 
 -- the token of a number, by its class
 abbrev pub number_of : Class → Text → grammar.Token

@@ -121,7 +121,8 @@ pub(crate) fn digit_token(digit: u8) -> Token
 }
 
 /// Whether a number has more than one digit and the first is 0.
-fn starts_zero(word: &[u8]) -> bool
+#[inline(always)]
+pub(crate) fn starts_zero(word: &[u8]) -> bool
     ensures { result ≡ grammar.starts_zero word.now }
 {
     matches!(word, [b'0', _, ..])

@@ -6,10 +6,12 @@ use Rattle.starlark_words.specs.Inner.Reads.{more_reads}
 use Rattle.starlark_grammar.specs.Reading.{outcome}
 use Rattle.starlark_grammar.specs.Tokens as grammar
 use Rattle.starlark_grammar.specs.Tokens.{Fault, Spanned}
-use Rattle.starlark_grammar.specs.Words.{Text}
-use Rattle.starlark_grammar.specs.declared.class.Class.{Class}
+use Rattle.starlark_grammar.specs.Words.{Text, begins, is_name_start}
+use Rattle.starlark_grammar.specs.declared.class.Class.TheVariants as class
+use Rattle.starlark_grammar.specs.declared.class.LiteralKind.TheVariants as literal
+use Rattle.starlark_grammar.specs.declared.class.Quote.{Quote}
 use Rattle.starlark_words.specs.declared.scanner.word.Word.{Word}
-use Rattle.starlark_reader.specs.Inner.Reader.{IsAhead, IsAheadAfter, IsAheadPast, IsAtEnd, IsRaw, IsSomething, IsStateAfter, IsStateAtFault, IsText, IsTokenOf, IsWordHere, begins_with_tab, has_read_none, history_of, is_fault}
+use Rattle.starlark_reader.specs.Inner.Reader.{IsAhead, IsAheadAfter, IsAheadPast, IsAtCode, IsAtEnd, IsRaw, IsSomething, IsStateAfter, IsStateAtFault, IsText, IsTokenOf, IsWordHere, begins_with_tab, has_read_none, history_of, is_fault}
 use Rattle.starlark_reader.specs.Inner.ReadBounds.{HasRead, LeavesRepair}
 use Rattle.starlark_reader.specs.declared.reader.Before.{Before}
 use Rattle.starlark_reader.specs.declared.reader.Before.TheVariants as before
@@ -17,7 +19,7 @@ use Rattle.starlark_reader.specs.declared.reader.Reader.{Reader}
 use Rattle.starlark_reader.specs.declared.reader.Stage.{Stage}
 use Rattle.starlark_reader.specs.declared.reader.Stage.TheVariants as stages
 use Rattle.starlark_syntax.specs.Exceptions.{IsException}
-use Rattle.starlark_syntax.specs.Inner.Looked.{GoesOn, HasReadWord, IsInReach, IsLooked, is_text_opener}
+use Rattle.starlark_syntax.specs.Inner.Looked.{GoesOn, HasReadWord, HasSpent, IsInReach, IsLooked}
 use Rattle.starlark_syntax.specs.Lexer.{HasReadToFault, LexerView, is_ended_by, most_reads, yielded_by}
 use Rattle.starlark_syntax.specs.declared.error.kinds.ErrorKind.{ErrorKind}
 use Rattle.starlark_syntax.specs.PlainLexemes.{IsPlainIn, plain_view}
@@ -198,9 +200,22 @@ pub record IsAtWord (state : LexerState) (word : Word) : Type 0 where
   pub read : HasReadWord state.reader.text.now state.looked_to word.len state.reader
   pub reach : IsInReach state.reader.text.now state.looked_to
 
--- The lexer is at a word of any class, and `is_text` says whether that opens a text literal.
-abbrev pub IsAtOpener : LexerState → (is_text : Bool) → (len : ℕ) → Type 0
-IsAtOpener state is_text len = (class : Class) × (is_text_opener class ≡ is_text) × IsAtWord state (record { class = class; len = len })
+-- The lexer is at the opener of `len` bytes of a text literal.
+abbrev pub IsAtOpener : LexerState → (len : ℕ) → Type 0
+IsAtOpener state len = (is_raw : Bool) × (quote : Quote) × IsAtWord state (record { class = class.Opener literal.Text is_raw quote; len = len })
+
+-- The lexer is in code, where the first two bytes tell no word, and none begins with a letter.
+pub record IsUnnamed (state : LexerState) : Type 0 where
+  pub text : IsText state.reader.text.now
+  pub going : state.has_ended ≡ false
+  pub few : state.yielded_count ≤ length (outcome state.reader.text.now).lexemes
+  pub ahead : IsAhead state.reader.text.now state.reader state.reader.stage (left_in state) (outcome state.reader.text.now).fault
+  pub code : IsAtCode state.reader.text.now state.reader
+  pub unnamed : begins is_name_start (drop state.reader.at state.reader.text.now) ≡ false
+  pub past : state.looked_to ≤ state.reader.at
+  pub least : more_reads 0 (state.reader.at + 2) ≤ state.reader.reads
+  pub read : HasSpent state.reader.text.now 2 state.reader state.looked_to
+  pub reach : IsInReach state.reader.text.now state.looked_to
 
 -- the string literal between two offsets, by the length of its opener
 abbrev pub plain_string : (begin opener end : ℕ) → PlainLexeme

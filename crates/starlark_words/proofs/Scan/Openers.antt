@@ -9,7 +9,7 @@ use Rattle.std.specs.Prelude.{IfSome}
 use Rattle.starlark_grammar.specs.Front.{language_front}
 use Rattle.starlark_grammar.specs.Pieces.{is_bang}
 use Rattle.starlark_grammar.specs.Words.{Text, openers, is_in_name}
-use Rattle.starlark_words.specs.Inner.ScannedWords.{is_quote, plain_opener, quote_after, quote_of, raw_opener, text_opener, word_view}
+use Rattle.starlark_words.specs.Inner.ScannedWords.{is_quote, plain_opener, quote_of, raw_opener, text_opener, word_view}
 use Rattle.starlark_grammar.specs.declared.class.Class.TheVariants.{Opener}
 use Rattle.starlark_grammar.specs.declared.class.LiteralKind.{LiteralKind}
 use Rattle.starlark_grammar.specs.declared.class.LiteralKind.TheVariants.{Bytes, FString}
@@ -120,68 +120,3 @@ front_of_opener (b ∷ c ∷ rest) opener small h = go (b == 114) refl h
 pub opener_found : (text : Text) (found : Option Word) → ((i : ℕ) → get_or text i 0 < 256) → found ≡ text_opener text → IfSome found (λ opener. Some (word_view opener) ≡ language_front text)
 opener_found text None small h = tt
 opener_found text (Some opener) small h = (front_of_opener text opener small (sym h)).0
-
--- the opener that a letter and a quote are
-
-IsLettered : LiteralKind → Quote → Text → Type 0
-IsLettered kind quote text = (Some (Opener kind false quote, 2) ≡ language_front text) × (is_bang text ≡ false)
-
--- each letter opens literals of one kind
-IsLetterOf : ℕ → LiteralKind → Type 0
-IsLetterOf letter kind = (quote : ℕ) (rest : Text) → ((i : ℕ) → get_or (letter ∷ quote ∷ rest) i 0 < 256) → (quote ≡ 39 → IsLettered kind Single (letter ∷ quote ∷ rest)) × (quote ≡ 34 → IsLettered kind Double (letter ∷ quote ∷ rest))
-
--- a byte that is a known quote
-lettered : (letter known : ℕ) (kind : LiteralKind) (quote : Quote) (b : ℕ) (rest : Text) → b ≡ known → IsLettered kind quote (letter ∷ known ∷ rest) → IsLettered kind quote (letter ∷ b ∷ rest)
-lettered letter known kind quote b rest e is = subst (λ (n : ℕ). IsLettered kind quote (letter ∷ n ∷ rest)) (sym e) is
-
-small_as : (letter known b : ℕ) (rest : Text) → ((i : ℕ) → get_or (letter ∷ b ∷ rest) i 0 < 256) → b ≡ known → (i : ℕ) → get_or (letter ∷ known ∷ rest) i 0 < 256
-small_as letter known b rest small e = subst (λ (n : ℕ). (i : ℕ) → get_or (letter ∷ n ∷ rest) i 0 < 256) e small
-
-opens_fstrings : IsLetterOf 102 FString
-unfolding IsLetterOf IsLettered openers
-opens_fstrings quote rest small = (
-  λ e. lettered 102 39 FString Single quote rest e (sym (front_named (102 ∷ 39 ∷ rest) 1 (small_as 102 39 quote rest small e) refl refl), refl),
-  λ e. lettered 102 34 FString Double quote rest e (sym (front_named (102 ∷ 34 ∷ rest) 1 (small_as 102 34 quote rest small e) refl refl), refl),
-)
-
-opens_bytes : IsLetterOf 98 Bytes
-unfolding IsLetterOf IsLettered openers
-opens_bytes quote rest small = (
-  λ e. lettered 98 39 Bytes Single quote rest e (sym (front_named (98 ∷ 39 ∷ rest) 1 (small_as 98 39 quote rest small e) refl refl), refl),
-  λ e. lettered 98 34 Bytes Double quote rest e (sym (front_named (98 ∷ 34 ∷ rest) 1 (small_as 98 34 quote rest small e) refl refl), refl),
-)
-
-quoted : (letter : ℕ) (kind : LiteralKind) → IsLetterOf letter kind → (b : ℕ) (rest : Text) (quote : Quote) → ((i : ℕ) → get_or (letter ∷ b ∷ rest) i 0 < 256) → quote_of b ≡ Some quote → IsLettered kind quote (letter ∷ b ∷ rest)
-unfolding IsLetterOf
-quoted letter kind opens b rest quote small h = go (b == 39) (b == 34) refl refl
-  where
-    go : (single double : Bool) → (b == 39) ≡ single → (b == 34) ≡ double → IsLettered kind quote (letter ∷ b ∷ rest)
-    go true double e f = let same : Some Single ≡ Some quote = rw e at h in subst (λ q. IsLettered kind q (letter ∷ b ∷ rest)) (ap (λ found. unwrap_or found Single) same) ((opens b rest small).0 (eqb-true b 39 e))
-    go false true e f = let same : Some Double ≡ Some quote = rw (e, f) at h in subst (λ q. IsLettered kind q (letter ∷ b ∷ rest)) (ap (λ found. unwrap_or found Double) same) ((opens b rest small).1 (eqb-true b 34 f))
-    go false false e f = let none = rw (e, f) at h in cc
-
-front_of_quoted : (letter : ℕ) (kind : LiteralKind) → IsLetterOf letter kind → (text : Text) (quote : Quote) → ((i : ℕ) → get_or text i 0 < 256) → quote_after letter text ≡ Some quote → IsLettered kind quote text
-front_of_quoted letter kind opens [] quote small h = cc
-front_of_quoted letter kind opens (b ∷ []) quote small h = cc
-front_of_quoted letter kind opens (b ∷ c ∷ rest) quote small h = go (b == letter) refl h
-  where
-    go : (stands : Bool) → (b == letter) ≡ stands → quote_after letter (b ∷ c ∷ rest) ≡ Some quote → IsLettered kind quote (b ∷ c ∷ rest)
-    go true e h =
-        let byte : b ≡ letter = eqb-true b letter e in
-        let same = rw e at h in
-        subst (λ (n : ℕ). IsLettered kind quote (n ∷ c ∷ rest)) (sym byte) (quoted letter kind opens c rest quote (subst (λ (n : ℕ). (i : ℕ) → get_or (n ∷ c ∷ rest) i 0 < 256) byte small) same)
-    go false e h = let none = rw e at h in cc
-
-found_by : (letter : ℕ) (kind : LiteralKind) → IsLetterOf letter kind → (text : Text) (found : Option Quote) → ((i : ℕ) → get_or text i 0 < 256) → found ≡ quote_after letter text
-    → IfSome found (λ quote. Some (Opener kind false quote, 2) ≡ language_front text) × IfSome found (λ quote. is_bang text ≡ false)
-unfolding IsLettered
-found_by letter kind opens text None small h = (tt, tt)
-found_by letter kind opens text (Some quote) small h = front_of_quoted letter kind opens text quote small (sym h)
-
-pub fstring_found : (text : Text) (found : Option Quote) → ((i : ℕ) → get_or text i 0 < 256) → found ≡ quote_after 102 text
-    → IfSome found (λ quote. Some (Opener FString false quote, 2) ≡ language_front text) × IfSome found (λ quote. is_bang text ≡ false)
-fstring_found = found_by 102 FString opens_fstrings
-
-pub bytes_found : (text : Text) (found : Option Quote) → ((i : ℕ) → get_or text i 0 < 256) → found ≡ quote_after 98 text
-    → IfSome found (λ quote. Some (Opener Bytes false quote, 2) ≡ language_front text) × IfSome found (λ quote. is_bang text ≡ false)
-bytes_found = found_by 98 Bytes opens_bytes

@@ -1,11 +1,10 @@
 -- What the first bytes of a text tell, which are read of it.
-use Rattle.std.proofs.Common.{◌≡◌, ℕ, ◌+◌, ◌≤◌, ◌==◌, ◌&&◌, Bool, not, true, [], ◌∷◌, drop, length, take, refl, sym, ◌∙◌, arith}
-use Rattle.std.proofs.lemmas.Bool.{and_parts}
-use Rattle.std.specs.Char.{is_ascii_digit}
+use Rattle.std.proofs.Common.{◌≡◌, ℕ, ◌+◌, ◌≤◌, Bool, true, [], ◌∷◌, drop, length, take, refl, sym, ◌∙◌, arith}
 use Rattle.std.specs.List.{prefix_len, slice_get}
 use Rattle.starlark_grammar.specs.Front.{longest_front}
+use Rattle.starlark_grammar.specs.Pieces.{is_bang}
 use Rattle.starlark_grammar.specs.Words.{Text, begins, has_base, is_in_name, is_name_start, sign_len}
-use Rattle.starlark_words.specs.Inner.ScannedWords.{begins_cr_lf, begins_number, begins_plain_number, begins_symbol, is_digit_alone, is_mark_alone, quote_after, text_opener}
+use Rattle.starlark_words.specs.Inner.ScannedWords.{begins_cr_lf, begins_number, begins_symbol, is_digit_alone, is_mark_alone, text_opener}
 use Rattle.starlark_words.proofs.Scan.Marks.{front_three, mark_of}
 
 pub begins_by_one : (test : ℕ → Bool) (text : Text) → begins test (take 1 text) ≡ begins test text
@@ -26,17 +25,6 @@ number_by_three [] = refl
 number_by_three (a ∷ []) = refl
 number_by_three (a ∷ b ∷ rest) = refl
 
-pub plain_number_by_three : (text : Text) → begins_plain_number (take 3 text) ≡ begins_plain_number text
-plain_number_by_three [] = refl
-plain_number_by_three (a ∷ []) = refl
-plain_number_by_three (a ∷ b ∷ rest) = refl
-
--- a text that begins with a digit begins with a number
-pub plain_number_begins : (text : Text) → begins_plain_number text ≡ true → begins_number text ≡ true
-plain_number_begins [] h = cc
-plain_number_begins (a ∷ []) h = h
-plain_number_begins (a ∷ b ∷ rest) h = rw (and_parts (is_ascii_digit a) (not (a == 48 && is_ascii_digit b)) h).0 refl
-
 pub alone_by_two : (text : Text) → is_mark_alone (take 2 text) ≡ is_mark_alone text
 alone_by_two [] = refl
 alone_by_two (a ∷ []) = refl
@@ -46,11 +34,6 @@ pub opener_by_two : (text : Text) → text_opener (take 2 text) ≡ text_opener 
 opener_by_two [] = refl
 opener_by_two (a ∷ []) = refl
 opener_by_two (a ∷ b ∷ rest) = refl
-
-pub after_by_three : (letter : ℕ) (text : Text) → quote_after letter (take 3 text) ≡ quote_after letter text
-after_by_three letter [] = refl
-after_by_three letter (a ∷ []) = refl
-after_by_three letter (a ∷ b ∷ rest) = refl
 
 pub first_by_three : (text : Text) → slice_get (take 3 text) 0 ≡ slice_get text 0
 first_by_three [] = refl
@@ -66,6 +49,11 @@ pub digit_by_three : (text : Text) → is_digit_alone (take 3 text) ≡ is_digit
 digit_by_three [] = refl
 digit_by_three (a ∷ []) = refl
 digit_by_three (a ∷ b ∷ rest) = refl
+
+pub bang_by_three : (text : Text) → is_bang (take 3 text) ≡ is_bang text
+bang_by_three [] = refl
+bang_by_three (a ∷ []) = refl
+bang_by_three (a ∷ b ∷ rest) = refl
 
 pub cr_lf_by_two : (text : Text) → begins_cr_lf (take 2 text) ≡ begins_cr_lf text
 cr_lf_by_two [] = refl

@@ -1,5 +1,5 @@
 -- Words, and the tables and tests by which the scanner finds them.
-use Rattle.std.specs.Prelude.{◌≡◌, ℕ, ◌+◌, ◌<◌, if◌then◌else◌, Bool, true, false, not, ◌&&◌, ◌||◌, ◌==◌, List, [], ◌∷◌, ◌++◌, get_or, take, Option, None, Some, unwrap_or}
+use Rattle.std.specs.Prelude.{ℕ, if◌then◌else◌, Bool, true, false, not, ◌&&◌, ◌||◌, ◌==◌, List, [], ◌∷◌, ◌++◌, get_or, Option, None, Some, unwrap_or}
 use Rattle.std.specs.List.{list_any}
 use Rattle.std.specs.Map.{lookup}
 use Rattle.std.specs.Option.{option_map}
@@ -89,12 +89,6 @@ begins_number [] = false
 begins_number (a ∷ []) = is_ascii_digit a
 begins_number (a ∷ b ∷ rest) = is_ascii_digit a || (a == 46 && is_ascii_digit b)
 
--- the text begins with a digit, and not with a 0 and another digit
-abbrev pub begins_plain_number : grammar.Text → Bool
-begins_plain_number [] = false
-begins_plain_number (a ∷ []) = is_ascii_digit a
-begins_plain_number (a ∷ b ∷ rest) = is_ascii_digit a && not (a == 48 && is_ascii_digit b)
-
 -- whether words of a class are numbers
 abbrev pub is_number : Class → Bool
 is_number Decimal = true
@@ -103,10 +97,6 @@ is_number Octal = true
 is_number Binary = true
 is_number Float = true
 is_number class = false
-
--- the text begins with a digit of this value
-abbrev pub IsDigitAt : ℕ → grammar.Text → Type 0
-IsDigitAt value text = (value < 10) × (take 1 text ≡ (value + 48) ∷ [])
 
 -- a byte that may be part of a number
 abbrev pub may_be_in_number : ℕ → Bool
@@ -134,8 +124,3 @@ abbrev pub text_opener : grammar.Text → Option Word
 text_opener [] = None
 text_opener (a ∷ []) = option_map plain_opener (quote_of a)
 text_opener (a ∷ b ∷ rest) = if a == 114 then option_map raw_opener (quote_of b) else option_map plain_opener (quote_of a)
-
--- the quote of a text that begins with a letter and a quote
-abbrev pub quote_after : ℕ → grammar.Text → Option Quote
-quote_after letter (a ∷ b ∷ rest) = if a == letter then quote_of b else None
-quote_after letter text = None

@@ -5,7 +5,7 @@ ghost use Rattle.std.specs.Option.{option_map};
 ghost use Rattle.starlark_grammar.specs.Front.{language_front, longest_front};
 ghost use Rattle.starlark_grammar.specs.Lengths.{longest_len};
 ghost use Rattle.starlark_words.specs.Inner.Reads.{AreReads, more_reads};
-ghost use Rattle.starlark_words.specs.Inner.ScannedWords.{begins_number, begins_plain_number, is_digit_alone, is_number, may_be_in_number, word_len, word_view};
+ghost use Rattle.starlark_words.specs.Inner.ScannedWords.{begins_number, is_digit_alone, is_number, may_be_in_number, word_len, word_view};
 ghost use Rattle.starlark_grammar.specs.Words as grammar;
 
 use super::first::is_name_start;
@@ -179,20 +179,6 @@ pub(crate) fn is_digit_alone(text: &[u8]) -> bool
         [] => false,
         [first] => first.is_ascii_digit(),
         [first, next, ..] => first.is_ascii_digit() && !may_be_in_number(*next),
-    }
-}
-
-/// Whether a text begins with a digit, and not with a 0 before another digit.
-#[inline(always)]
-pub(crate) fn begins_plain_number(text: &[u8]) -> bool
-    ensures { result ≡ begins_plain_number text.now }
-{
-    match text {
-        [] => false,
-        [first] => first.is_ascii_digit(),
-        [first, second, ..] => {
-            first.is_ascii_digit() && !(*first == b'0' && second.is_ascii_digit())
-        }
     }
 }
 

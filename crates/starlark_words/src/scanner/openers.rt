@@ -6,7 +6,7 @@ ghost use Rattle.std.specs.Option.{option_map};
 ghost use Rattle.std.specs.Str.{bytes_eq};
 ghost use Rattle.starlark_grammar.specs.Words as grammar;
 ghost use Rattle.starlark_grammar.specs.declared.class.Class.TheVariants as class;
-ghost use Rattle.starlark_words.specs.Inner.ScannedWords.{plain_opener, quote_after, quote_of, raw_opener, text_opener};
+ghost use Rattle.starlark_words.specs.Inner.ScannedWords.{plain_opener, quote_of, raw_opener, text_opener};
 
 use super::{Class, LiteralKind, Quote, Word};
 
@@ -62,17 +62,6 @@ pub(crate) fn text_opener(text: &[u8]) -> Option<Word>
     match text.get(1) {
         Some(second) => raw_opener(*second),
         None => None,
-    }
-}
-
-/// The quote of a text that begins with `letter` and a quote.
-#[inline(always)]
-pub(crate) fn quote_after(letter: u8, text: &[u8]) -> Option<Quote>
-    ensures { result ≡ quote_after letter text.now }
-{
-    match text {
-        [first, second, ..] if *first == letter => quote_of(*second),
-        _ => None,
     }
 }
 

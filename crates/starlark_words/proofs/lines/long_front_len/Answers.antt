@@ -1,4 +1,4 @@
-use Rattle.std.proofs.Common.{◌-◌, arith}
+use Rattle.std.proofs.Common.{arith}
 use Rattle.starlark_words.specs.Inner.LineFronts.{is_in_front}
 use Rattle.starlark_words.proofs.LaneRuns.{last_run, step_ends, step_goes_on}
 use Rattle.starlark_words.proofs.lines.long_front_len.Goals as goal

@@ -4,7 +4,7 @@ use Rattle.starlark_reader.specs.Inner.Reader.{IsAheadAfter}
 use Rattle.starlark_syntax.specs.Inner.LexerStates.{left_in}
 use Rattle.starlark_syntax.proofs.FoundWords.{one_more_fits, past_lexing}
 use Rattle.starlark_syntax.proofs.LexerStates.{lexing_sound, same_lexing}
-use Rattle.starlark_syntax.proofs.LexerReads.{found_out, spared}
+use Rattle.starlark_syntax.proofs.LexerReads.{found_out}
 use Rattle.starlark_syntax.specs.declared.lexer_state.Lookahead.TheVariants as lookahead
 use Rattle.starlark_syntax.proofs.lexer_state.LexerState.next_of_reader.Goals as goal
 
@@ -20,7 +20,7 @@ pub returns-in-Ok-Some : goal.returns-in-Ok-Some
 returns-in-Ok-Some c =
     let inv = c.requires.lexing.1 c.requires.going in
     let is = subst (λ given. IsAheadAfter c.args.self.now.reader.text.now given c.next.new.self (left_in c.args.self.now) (outcome c.args.self.now.reader.text.now).fault) c.in-Ok-Some.field-0-is (c.in-Ok-Some.ensures.next _ _ inv.1) in
-    let paid = spared c.args.self.now.reader.text.now c.args.self.now.reader c.args.self.now.looked_to c.args.self.now.lookahead (c.requires.lexing.3 c.requires.going) in
+    let paid = c.requires.spared in
     let read = c.in-Ok-Some.ensures.reads paid.0 paid.2 in
     record {
       answer = is;
@@ -32,7 +32,7 @@ pub returns-in-Ok-None : goal.returns-in-Ok-None
 returns-in-Ok-None c =
     let inv = c.requires.lexing.1 c.requires.going in
     let is = subst (λ given. IsAheadAfter c.args.self.now.reader.text.now given c.next.new.self (left_in c.args.self.now) (outcome c.args.self.now.reader.text.now).fault) c.in-Ok-None.field-0-is (c.in-Ok-None.ensures.next _ _ inv.1) in
-    let paid = spared c.args.self.now.reader.text.now c.args.self.now.reader c.args.self.now.looked_to c.args.self.now.lookahead (c.requires.lexing.3 c.requires.going) in
+    let paid = c.requires.spared in
     let none : c.args.self.now.yielded_count + 0 ≡ c.args.self.now.yielded_count = omega (arith) in
     record {
       answer = c.in-Ok-None.ensures.end c.in-Ok-None.field-0-is;

@@ -1,18 +1,10 @@
-use Rattle.std.proofs.Common.{◌≡◌, ap, subst, ◌∙◌, ◌+◌, ◌≤◌, ◌^◌, arith, refl, rules, sym}
-use Rattle.starlark_grammar.specs.Words.{Text}
-use Rattle.starlark_reader.specs.Inner.Reader.{IsAtCode}
-use Rattle.starlark_reader.specs.Inner.ReadBounds.{HasLooked}
-use Rattle.starlark_reader.proofs.TakenPieces.ReaderReads.{looked_reads}
-use Rattle.starlark_reader.proofs.TakenPieces.PieceTaken.{left_onward}
-use Rattle.starlark_syntax.proofs.FoundWords.{HasPassedSince, at_word, faulty_margin, line_end_passed, passed_since, pending_newline, plain_newline}
+use Rattle.std.proofs.Common.{◌≡◌, ap, ◌∙◌, ◌+◌, ◌≤◌, ◌^◌, arith, refl, rules, sym}
+use Rattle.starlark_syntax.proofs.FoundWords.{HasPassedSince, at_word, faulty_margin, line_end_passed, opener_here, passed_since, pending_newline, plain_newline, unnamed_here, word_found}
 use Rattle.starlark_syntax.proofs.LexerReads.{fault_counts, newline_counts, nothing_looked, pending_counts}
-use Rattle.starlark_syntax.proofs.LexerStates.{lexing_on, lexing_sound, same_lexing, same_text}
-use Rattle.starlark_syntax.proofs.Reaches.{reached}
-use Rattle.starlark_syntax.proofs.RestartReads.{next_line_after}
+use Rattle.starlark_syntax.proofs.LexerStates.{lexing_on, lexing_sound, same_text}
 use Rattle.starlark_grammar.proofs.Order.Inside.{lexemes_few}
 use Rattle.starlark_syntax.specs.declared.lexer_state.FastPath.TheVariants as fast
 use Rattle.starlark_syntax.specs.declared.lexer_state.LexerState.{LexerState}
-use Rattle.starlark_syntax.specs.declared.lexer_state.Lookahead.TheVariants as lookahead
 use Rattle.starlark_syntax.proofs.lexer_state.LexerState.next_plain.Goals.{in-Pending, in-Newline}
 use Rattle.starlark_syntax.proofs.lexer_state.LexerState.next_plain.Goals as goal
 
@@ -45,27 +37,36 @@ returns-in-Fixed c =
     let since = passed_since c.args.self.now _ c.pass_symbol.result c.pass_symbol.new.self same (sym c.loop-self.invariant.2 ∙ quick.0) c.pass_symbol.ensures in
     record { ended = since.ended; passed = since.passed; lexing = since.lexing; after = since.after }
 
-pub returns-in_default-clause-lexing : goal.returns-in_default-clause-lexing
-returns-in_default-clause-lexing c =
-    let quick = (nothing_looked c.loop-self.self.reader.text.now c.loop-self.self.reader c.loop-self.self.looked_to c.loop-self.self.has_ended c.loop-self.self.lookahead (sym c.is_nothing.ensures ∙ c.loop-self-test.true) c.loop-self.invariant.4 c.loop-self.invariant.5) in
-    let paid = quick.3 in
-    let ahead = c.common_word.ensures.ahead _ _ (c.loop-self.invariant.3 quick.0) in
-    let inv = c.requires.1 (sym c.loop-self.invariant.2 ∙ quick.0) in
-    let inside = (left_onward c.loop-self.self.reader.text.now c.common_word.new.self _ _ c.common_word.ensures.code.stage ahead).is_left.1.inside in
-    let looked : HasLooked 0 3 c.loop-self.self.reader c.common_word.new.self = rw c.in_default.is at c.common_word.ensures.lookahead in
-    let read = looked_reads c.loop-self.self.reader.text.now paid.0 0 3 c.loop-self.self.reader c.common_word.new.self quick.1.stage paid.2 looked in
-    same_lexing c.loop-self.self.reader.text.now (record c.loop-self.self { reader = c.common_word.new.self; looked_to = c.at.result + 1; lookahead = lookahead.Front }) (ap (λ t. t.now) c.common_word.ensures.text) (rw c.loop-self.invariant.0 c.requires.0, (λ on. (rw (c.loop-self.invariant.0, c.loop-self.invariant.1) inv.0, ahead)), quick.0, (λ on. (subst (λ (t : Text). IsAtCode t c.common_word.new.self) (ap (λ t. t.now) c.common_word.ensures.text) c.common_word.ensures.code, omega (arith, inside, c.at.ensures), (λ class len front two text. omega (arith, two, c.at.ensures)), (paid.0 + 3, omega (arith, paid.1, quick.2, looked.0, c.at.ensures), read))), reached c.loop-self.self.reader.text.now c.common_word.new.self _ c.common_word.new.self.at _ c.common_word.ensures.code.stage ahead refl (omega (arith, next_line_after c.loop-self.self.reader.text.now c.common_word.new.self.at inside, c.at.ensures)))
+pub look_further-requires : goal.look_further-requires
+look_further-requires c =
+    let quick = nothing_looked c.loop-self.self.reader.text.now c.loop-self.self.reader c.loop-self.self.looked_to c.loop-self.self.has_ended c.loop-self.self.lookahead (sym c.is_nothing.ensures ∙ c.loop-self-test.true) c.loop-self.invariant.4 c.loop-self.invariant.5 in
+    unnamed_here c.args.self.now c.loop-self.self c.common_word.new.self c.common_word.ensures.text c.requires c.loop-self.invariant (sym c.is_nothing.ensures ∙ c.loop-self-test.true) (c.common_word.ensures.two c.in_default.is) (c.common_word.ensures.ahead _ _ (c.loop-self.invariant.3 quick.0)) c.common_word.ensures.code (c.common_word.ensures.none c.in_default.is)
+
+pub returns-in_default : goal.returns-in_default
+returns-in_default c =
+    let quick = nothing_looked c.loop-self.self.reader.text.now c.loop-self.self.reader c.loop-self.self.looked_to c.loop-self.self.has_ended c.loop-self.self.lookahead (sym c.is_nothing.ensures ∙ c.loop-self-test.true) c.loop-self.invariant.4 c.loop-self.invariant.5 in
+    let same = same_text c.args.self.now c.loop-self.self (record c.loop-self.self { reader = c.common_word.new.self }) c.loop-self.invariant c.common_word.ensures.text refl in
+    let since = passed_since c.args.self.now _ _ c.look_further.new.self same (sym c.loop-self.invariant.2 ∙ quick.0) c.look_further.ensures in
+    record { ended = since.ended; passed = since.passed; lexing = since.lexing; after = since.after }
 
 pub pass_literal-requires : goal.pass_literal-requires
 pass_literal-requires c =
     let quick = nothing_looked c.loop-self.self.reader.text.now c.loop-self.self.reader c.loop-self.self.looked_to c.loop-self.self.has_ended c.loop-self.self.lookahead (sym c.is_nothing.ensures ∙ c.loop-self-test.true) c.loop-self.invariant.4 c.loop-self.invariant.5 in
-    (c.in-Some.field-0.class, sym c.is_text_opener.ensures, at_word c.args.self.now c.loop-self.self c.common_word.new.self c.in-Some.field-0 c.common_word.ensures.text c.requires c.loop-self.invariant (sym c.is_nothing.ensures ∙ c.loop-self-test.true) c.in-Some.ensures.lookahead (c.common_word.ensures.ahead _ _ (c.loop-self.invariant.3 quick.0)) c.in-Some.ensures.stands)
+    opener_here (record c.loop-self.self { reader = c.common_word.new.self }) c.in-Some.field-0.class c.in-Some.field-0.len (sym c.if-is_text_opener.ensures) (at_word c.args.self.now c.loop-self.self c.common_word.new.self c.in-Some.field-0 c.common_word.ensures.text c.requires c.loop-self.invariant (sym c.is_nothing.ensures ∙ c.loop-self-test.true) c.in-Some.ensures.lookahead (c.common_word.ensures.ahead _ _ (c.loop-self.invariant.3 quick.0)) c.in-Some.ensures.stands)
+
+pub returns-then-is_text_opener : goal.returns-then-is_text_opener
+returns-then-is_text_opener c =
+    let quick = nothing_looked c.loop-self.self.reader.text.now c.loop-self.self.reader c.loop-self.self.looked_to c.loop-self.self.has_ended c.loop-self.self.lookahead (sym c.is_nothing.ensures ∙ c.loop-self-test.true) c.loop-self.invariant.4 c.loop-self.invariant.5 in
+    let same = same_text c.args.self.now c.loop-self.self (record c.loop-self.self { reader = c.common_word.new.self }) c.loop-self.invariant c.common_word.ensures.text refl in
+    let since = passed_since c.args.self.now _ c.pass_literal.result c.pass_literal.new.self same (sym c.loop-self.invariant.2 ∙ quick.0) c.pass_literal.ensures in
+    record { ended = since.ended; passed = since.passed; lexing = since.lexing; after = since.after }
 
 pub returns-in_default-class : goal.returns-in_default-class
 returns-in_default-class c =
     let quick = nothing_looked c.loop-self.self.reader.text.now c.loop-self.self.reader c.loop-self.self.looked_to c.loop-self.self.has_ended c.loop-self.self.lookahead (sym c.is_nothing.ensures ∙ c.loop-self-test.true) c.loop-self.invariant.4 c.loop-self.invariant.5 in
     let same = same_text c.args.self.now c.loop-self.self (record c.loop-self.self { reader = c.common_word.new.self }) c.loop-self.invariant c.common_word.ensures.text refl in
-    let since = passed_since c.args.self.now _ c.pass_literal.result c.pass_literal.new.self same (sym c.loop-self.invariant.2 ∙ quick.0) c.pass_literal.ensures in
+    let found = word_found (record c.loop-self.self { reader = c.common_word.new.self }) c.in-Some.field-0 (at_word c.args.self.now c.loop-self.self c.common_word.new.self c.in-Some.field-0 c.common_word.ensures.text c.requires c.loop-self.invariant (sym c.is_nothing.ensures ∙ c.loop-self-test.true) c.in-Some.ensures.lookahead (c.common_word.ensures.ahead _ _ (c.loop-self.invariant.3 quick.0)) c.in-Some.ensures.stands) in
+    let since = passed_since c.args.self.now _ _ _ same (sym c.loop-self.invariant.2 ∙ quick.0) found in
     record { ended = since.ended; passed = since.passed; lexing = since.lexing; after = since.after }
 
 pub loop-self-preserved : goal.loop-self-preserved
@@ -83,8 +84,8 @@ returns-in-Fault c =
     let since = passed_since c.args.self.now _ _ _ same (sym c.loop-self.invariant.2 ∙ quick.0) passed in
     record { ended = since.ended; passed = since.passed; lexing = since.lexing; after = since.after }
 
-pub overflow_add-self-in-LineEnd : goal.overflow_add-self-in-LineEnd
-overflow_add-self-in-LineEnd c =
+pub overflow_add-self : goal.overflow_add-self
+overflow_add-self c =
     let quick = nothing_looked c.loop-self.self.reader.text.now c.loop-self.self.reader c.loop-self.self.looked_to c.loop-self.self.has_ended c.loop-self.self.lookahead (sym c.is_nothing.ensures ∙ c.loop-self-test.true) c.loop-self.invariant.4 c.loop-self.invariant.5 in
     let inv = c.requires.1 (sym c.loop-self.invariant.2 ∙ quick.0) in
     let few = lexemes_few c.args.self.now.reader.text.now c.requires.0.fits in

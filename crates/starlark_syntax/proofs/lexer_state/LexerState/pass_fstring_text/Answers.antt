@@ -10,7 +10,7 @@ use Rattle.starlark_syntax.proofs.FoundWords.{one_more_fits, past_lexing}
 use Rattle.starlark_reader.proofs.TakenPieces.SameTexts.{keeps_passes, keeps_takes}
 use Rattle.starlark_syntax.proofs.LexerStates.{lexing_sound, same_lexing}
 use Rattle.starlark_syntax.proofs.Reaches.{reached}
-use Rattle.starlark_syntax.proofs.LexerReads.{found_out, spared}
+use Rattle.starlark_syntax.proofs.LexerReads.{all_spared, found_out}
 use Rattle.starlark_syntax.proofs.PlainLexemes.{fstring_text_shown, mark_counted, mark_passed, plain_inside, waiting_in_memory}
 use Rattle.starlark_syntax.specs.declared.plain_lexeme.PlainKind.TheVariants as kind
 use Rattle.starlark_token.specs.TokenViews.{TokenView, token_view}
@@ -37,7 +37,7 @@ plain_text-requires c = record { sound = lexing_sound c.args.self.now c.requires
 pub returns-in-Err : goal.returns-in-Err
 returns-in-Err c =
     let inv = c.requires.lexing.1 c.requires.going in
-    let paid = spared c.args.self.now.reader.text.now c.args.self.now.reader c.args.self.now.looked_to c.args.self.now.lookahead (c.requires.lexing.3 c.requires.going) in
+    let paid = all_spared c.args.self.now.reader.text.now c.args.self.now.reader c.args.self.now.looked_to c.args.self.now.lookahead c.requires.all (c.requires.lexing.3 c.requires.going) in
     let other = rw c.plain_text.ensures.text at c.in-Err.ensures.other in
     let here = other.1 in
     let on = c.reads_on.ensures.stage c.if-not-reads_on.false in
@@ -67,7 +67,7 @@ pub returns-then-found-eq0 : goal.returns-then-found-eq0
 returns-then-found-eq0 c =
     let inv = c.requires.lexing.1 c.requires.going in
     let is = keeps_takes c.args.self.now.reader c.plain_text.new.self c.pass_text_end-begin.new.self c.plain_text.ensures.text c.plain_text.ensures.ahead (Some c.pass_text_end-begin.result) c.pass_text_end-begin.ensures.ahead _ _ inv.1 in
-    let paid = spared c.args.self.now.reader.text.now c.args.self.now.reader c.args.self.now.looked_to c.args.self.now.lookahead (c.requires.lexing.3 c.requires.going) in
+    let paid = all_spared c.args.self.now.reader.text.now c.args.self.now.reader c.args.self.now.looked_to c.args.self.now.lookahead c.requires.all (c.requires.lexing.3 c.requires.going) in
     let found = c.in-Ok.found in
     let some = c.in-Ok.ensures.some in
     let read = here_taken_reads c.args.self.now.reader.text.now paid.0 (found.len + 3) (6 * found.len + 4) (found.len + found.stop_len) c.args.self.now.reader c.plain_text.new.self c.pass_text_end-begin.new.self (c.reads_on.ensures.stage c.if-not-reads_on.false) paid.2 c.in-Ok.ensures.lookahead
@@ -85,7 +85,7 @@ pub returns : goal.returns
 returns c =
     let inv = c.requires.lexing.1 c.requires.going in
     let is = keeps_passes c.args.self.now.reader c.plain_text.new.self c.pass_text.new.self c.plain_text.ensures.text c.plain_text.ensures.ahead (λ text. fstring_text_lexeme text c.plain_text.new.self.at c.in-Ok.found.len) c.pass_text.ensures.ahead _ _ inv.1 in
-    let paid = spared c.args.self.now.reader.text.now c.args.self.now.reader c.args.self.now.looked_to c.args.self.now.lookahead (c.requires.lexing.3 c.requires.going) in
+    let paid = all_spared c.args.self.now.reader.text.now c.args.self.now.reader c.args.self.now.looked_to c.args.self.now.lookahead c.requires.all (c.requires.lexing.3 c.requires.going) in
     let found = c.in-Ok.found in
     let some = c.in-Ok.ensures.some in
     let read = here_taken_reads c.args.self.now.reader.text.now paid.0 (found.len + 3) (6 * found.len + 4) (found.len + found.stop_len) c.args.self.now.reader c.plain_text.new.self c.pass_text.new.self (c.reads_on.ensures.stage c.if-not-reads_on.false) paid.2 c.in-Ok.ensures.lookahead

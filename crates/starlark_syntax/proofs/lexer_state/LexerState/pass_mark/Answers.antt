@@ -1,6 +1,6 @@
 use Rattle.std.proofs.Common.{◌+◌, ◌≤◌, ◌^◌, arith, refl, rules}
 use Rattle.starlark_syntax.proofs.FoundWords.{one_more_fits, past_lexing}
-use Rattle.starlark_syntax.proofs.LexerReads.{found_out, spared}
+use Rattle.starlark_syntax.proofs.LexerReads.{all_spared, found_out}
 use Rattle.starlark_syntax.proofs.PlainLexemes.{mark_counted, mark_passed, waiting_in_memory}
 use Rattle.starlark_token.specs.TokenViews.{token_view}
 use Rattle.starlark_syntax.proofs.lexer_state.LexerState.pass_mark.Goals as goal
@@ -14,7 +14,7 @@ pub returns-clause-passed : goal.returns-clause-passed
 returns-clause-passed c =
     let inv = c.requires.lexing.1 c.requires.going in
     let is = c.in-Some.ensures.ahead c.args.self.now.reader.text.now _ _ inv.1 in
-    let paid = spared c.args.self.now.reader.text.now c.args.self.now.reader c.args.self.now.looked_to c.args.self.now.lookahead (c.requires.lexing.3 c.requires.going) in
+    let paid = all_spared c.args.self.now.reader.text.now c.args.self.now.reader c.args.self.now.looked_to c.args.self.now.lookahead c.requires.all (c.requires.lexing.3 c.requires.going) in
     let count = mark_counted c.of_mark.result (token_view c.in-Some.token) c.in-Some.begin c.in-Some.end c.of_mark.ensures in
     let memory = waiting_in_memory c.of_mark.result c.in-Some.begin c.in-Some.end in
     record {

@@ -1,114 +1,143 @@
-use Rattle.std.proofs.Common.{◌≡◌, ap, drop, subst, sym, ◌∙◌, ◌*◌, ◌+◌, ◌-◌, ◌≤◌, ◌^◌, arith, rules}
+use Rattle.std.proofs.Common.{◌≡◌, ap, drop, refl, subst, sym, ◌∙◌, ◌*◌, ◌+◌, ◌-◌, ◌≤◌, ◌^◌, arith, rules}
 use Rattle.std.specs.Str.{IsCharBoundary}
+use Rattle.starlark_grammar.specs.Reading.{outcome}
 use Rattle.starlark_grammar.specs.Tokens.{Spanned}
 use Rattle.starlark_token.specs.TokenViews.{TokenView}
 use Rattle.starlark_reader.specs.Inner.Reader.{IsAheadPast, text_lexeme}
+use Rattle.starlark_reader.proofs.TakenPieces.PieceTaken.{left_onward}
+use Rattle.starlark_reader.proofs.TakenPieces.ReaderReads.{here_reads, looked_reads}
+use Rattle.starlark_reader.proofs.TakenPieces.SameTexts.{keeps_passes, keeps_twice}
+use Rattle.starlark_reader.proofs.NextLines.{next_line_inside}
 use Rattle.starlark_syntax.specs.Inner.LexerStates.{left_in}
 use Rattle.starlark_syntax.specs.declared.plain_lexeme.PlainKind.TheVariants as kind
 use Rattle.starlark_syntax.proofs.PlainLexemes.{plain_inside, reader_boundary, string_shown}
-use Rattle.starlark_grammar.specs.Reading.{outcome}
-use Rattle.starlark_reader.proofs.TakenPieces.ReaderReads.{here_reads}
-use Rattle.starlark_reader.proofs.TakenPieces.SameTexts.{keeps_passes, keeps_twice}
-use Rattle.starlark_syntax.proofs.LexerStates.{lexing_sound, same_lexing}
-use Rattle.starlark_reader.proofs.NextLines.{next_line_inside}
-use Rattle.starlark_syntax.proofs.Reaches.{reached}
+use Rattle.starlark_syntax.proofs.LexerStates.{same_lexing}
+use Rattle.starlark_syntax.proofs.Reaches.{reached, word_line}
 use Rattle.starlark_syntax.proofs.FoundWords.{one_more_fits, past_lexing}
-use Rattle.starlark_syntax.proofs.LexerReads.{front_is, plain_reads, text_opener_len}
+use Rattle.starlark_syntax.proofs.LexerReads.{string_reads, text_opener_len, word_inside}
 use Rattle.starlark_syntax.specs.declared.lexer_state.Lookahead.TheVariants as lookahead
 use Rattle.starlark_syntax.proofs.lexer_state.LexerState.pass_string.Goals as goal
 
-pub text_opener-requires-clause-sound : goal.text_opener-requires-clause-sound
-text_opener-requires-clause-sound c = lexing_sound c.args.self.now c.requires.lexing c.requires.going
-
-pub overflow_add-self-2 : goal.overflow_add-self-2
-overflow_add-self-2 c =
-    let small : c.args.self.now.yielded_count + 1 ≤ 2 ^ 34 = one_more_fits c.args.self.now c.requires.lexing.0.fits (c.requires.lexing.1 c.requires.going).0 in
-    search (rules, small)
-
-pub returns-clause-lexing : goal.returns-clause-lexing
-returns-clause-lexing c =
-    let inv = c.requires.lexing.1 c.requires.going in
-    let is = keeps_passes c.args.self.now.reader c.plain_body_len.new.self c.pass_plain_text.new.self (c.plain_body_len.ensures.text ∙ c.text_opener.ensures.text) (keeps_twice c.args.self.now.reader c.text_opener.new.self c.plain_body_len.new.self c.text_opener.ensures.text c.text_opener.ensures.ahead c.plain_body_len.ensures.ahead) (λ text. text_lexeme text c.plain_body_len.new.self.at c.in-Some-Opener.field-0.len c.in-Ok.body) c.pass_plain_text.ensures.ahead _ _ inv.1 in
-    let front = front_is c.args.self.now.reader.text.now c.args.self.now.reader c.args.self.now.looked_to c.args.self.now.lookahead c.requires.front (c.requires.lexing.3 c.requires.going) in
-    let paid = c.requires.opened.1 in
-    let opener = text_opener_len (drop c.plain_body_len.new.self.at c.plain_body_len.new.self.text.now) c.in-Some-Opener.is_raw c.in-Some-Opener.quote c.in-Some-Opener.field-0.len c.plain_body_len.ensures.stands.front in
-    let read = plain_reads c.args.self.now.reader.text.now paid.0 2 2 c.in-Some-Opener.field-0.len c.in-Ok.body c.args.self.now.reader c.text_opener.new.self c.plain_body_len.new.self c.pass_plain_text.new.self front.0.stage paid.2 c.text_opener.ensures.lookahead (omega arith, omega arith) c.in-Ok.ensures.lookahead opener
-    (c.pass_plain_text.ensures.taken.1, c.pass_plain_text.ensures.taken.2) in
-    let same = c.text_opener.ensures.lookahead.0 in
-    let stands = rw (c.text_opener.ensures.text, same) at (sym c.in-Some-Opener.ensures.stands.front) in
-    let reach = c.requires.opened.0 _ c.in-Some-Opener.field-0.len stands in
-    past_lexing c.args.self.now _ _ lookahead.Nothing (c.pass_plain_text.ensures.text ∙ c.plain_body_len.ensures.text ∙ c.text_opener.ensures.text) c.requires.lexing.0 c.requires.going c.requires.lexing.4 is
-    (rw (c.plain_body_len.ensures.text, c.text_opener.ensures.text) at c.pass_plain_text.ensures.code, omega (arith, reach, same, c.in-Ok.ensures.lookahead.0, c.pass_plain_text.ensures.taken.1.0), (paid.0, omega (arith, paid.1), read))
-
-pub returns-in_default-clause-lexing : goal.returns-in_default-clause-lexing
-returns-in_default-clause-lexing c =
-    let inv = c.requires.lexing.1 c.requires.going in
-    let front = front_is c.args.self.now.reader.text.now c.args.self.now.reader c.args.self.now.looked_to c.args.self.now.lookahead c.requires.front (c.requires.lexing.3 c.requires.going) in
-    let paid = c.requires.opened.1 in
-    let opened = here_reads c.args.self.now.reader.text.now paid.0 2 2 c.args.self.now.reader c.text_opener.new.self front.0.stage paid.2 c.text_opener.ensures.lookahead in
-    same_lexing c.args.self.now.reader.text.now (record c.args.self.now { reader = c.text_opener.new.self; lookahead = lookahead.All }) (ap (λ t. t.now) c.text_opener.ensures.text) (c.requires.lexing.0, (λ on. (inv.0, c.text_opener.ensures.ahead _ _ inv.1)), tt, (λ on. (paid.0 + 2, omega (arith, paid.1), opened)), c.requires.lexing.4)
-
-pub returns-in-Err-clause-lexing : goal.returns-in-Err-clause-lexing
-returns-in-Err-clause-lexing c =
-    let inv = c.requires.lexing.1 c.requires.going in
-    let front = front_is c.args.self.now.reader.text.now c.args.self.now.reader c.args.self.now.looked_to c.args.self.now.lookahead c.requires.front (c.requires.lexing.3 c.requires.going) in
-    let paid = c.requires.opened.1 in
-    let opened = here_reads c.args.self.now.reader.text.now paid.0 2 2 c.args.self.now.reader c.text_opener.new.self front.0.stage paid.2 c.text_opener.ensures.lookahead in
-    let other = rw (c.plain_body_len.ensures.text, c.text_opener.ensures.text) at c.in-Err.ensures.other in
-    let read = here_reads c.args.self.now.reader.text.now (paid.0 + 2) 0 (6 * c.in-Err.run' + 3) c.text_opener.new.self c.plain_body_len.new.self (c.text_opener.ensures.lookahead.1 ∙ front.0.stage) opened other.1 in
-    let same = c.text_opener.ensures.lookahead.0 in
-    let stands = rw (c.text_opener.ensures.text, same) at (sym c.in-Some-Opener.ensures.stands.front) in
-    let reach = c.requires.opened.0 _ c.in-Some-Opener.field-0.len stands in
-    let at : c.at.result ≡ c.args.self.now.reader.at = c.at.ensures ∙ other.1.0 ∙ same in
-    same_lexing c.args.self.now.reader.text.now (record c.args.self.now { reader = c.plain_body_len.new.self; looked_to = c.at.result + c.in-Some-Opener.field-0.len + 1 + c.in-Err.run'; lookahead = lookahead.All }) (ap (λ t. t.now) (c.plain_body_len.ensures.text ∙ c.text_opener.ensures.text)) (
-      c.requires.lexing.0,
-      (λ on. (inv.0, (keeps_twice c.args.self.now.reader c.text_opener.new.self c.plain_body_len.new.self c.text_opener.ensures.text c.text_opener.ensures.ahead c.plain_body_len.ensures.ahead) _ _ inv.1)),
-      tt,
-      (λ on. (paid.0 + 2 + (6 * c.in-Err.run' + 3), omega (arith, paid.1, reach, at, c.in-Some-Opener.len-is), read)),
-      reached c.args.self.now.reader.text.now c.args.self.now.reader _ c.plain_body_len.new.self.at _ front.0.stage inv.1 (other.1.0 ∙ same) (omega (arith, other.0, other.1.0, same, at, c.in-Some-Opener.len-is)),
-    )
-
 pub overflow_add-self : goal.overflow_add-self
 overflow_add-self c =
-    let line = next_line_inside c.args.self.now.reader.text.now c.plain_body_len.new.self.at in
-    let other = rw (c.plain_body_len.ensures.text, c.text_opener.ensures.text) at c.in-Err.ensures.other in
-    let small : c.at.result + c.in-Some-Opener.field-0.len ≤ 2 ^ 34 = omega (arith, other.0, line, c.at.ensures, c.in-Some-Opener.len-is, c.requires.lexing.0.fits) in
+    let at = c.requires.opener.2 in
+    let inside = word_inside c.args.self.now.reader.text.now c.args.self.now.reader _ _ _ c.args.len at.stands.stage at.ahead (sym at.stands.front) in
+    let small : c.at.result + c.args.len ≤ 2 ^ 34 = omega (arith, inside.1, c.text_opener.ensures.lookahead.0, c.at.ensures, at.text.fits) in
+    search (rules, small)
+
+pub overflow_add-self-in_default : goal.overflow_add-self-in_default
+overflow_add-self-in_default c =
+    let at = c.requires.opener.2 in
+    let inside = word_inside c.args.self.now.reader.text.now c.args.self.now.reader _ _ _ c.args.len at.stands.stage at.ahead (sym at.stands.front) in
+    let small : c.at.result + c.args.len + 1 ≤ 2 ^ 34 = omega (arith, inside.1, c.text_opener.ensures.lookahead.0, c.at.ensures, at.text.fits) in
+    search (rules, small)
+
+pub returns-in_default-clause-stays : goal.returns-in_default-clause-stays
+returns-in_default-clause-stays c = λ no.
+    let text = c.args.self.now.reader.text.now in
+    let at = c.requires.opener.2 in
+    let word = at.read in
+    let paid = word.3 in
+    let inside = word_inside text c.args.self.now.reader _ _ _ c.args.len at.stands.stage at.ahead (sym at.stands.front) in
+    let line = word_line text c.args.self.now.reader.at c.args.len _ (left_onward text c.args.self.now.reader _ _ at.stands.stage at.ahead).is_left.1.inside (sym at.stands.front) in
+    let had = looked_reads text paid.0 c.args.len ((5 * c.args.len - 4) + 2) word.0 c.args.self.now.reader word.1 paid.2 word.4 in
+    let read = here_reads text (paid.0 + ((5 * c.args.len - 4) + 2)) 2 2 c.args.self.now.reader c.text_opener.new.self at.stands.stage had c.text_opener.ensures.lookahead in
+    let here : c.at.result ≡ c.args.self.now.reader.at = c.at.ensures ∙ c.text_opener.ensures.lookahead.0 in
+    let none : c.args.self.now.yielded_count + 0 ≡ c.args.self.now.yielded_count = omega (arith) in
+    record {
+      passed = tt;
+      lexing = same_lexing text (record c.args.self.now { reader = c.text_opener.new.self; looked_to = c.at.result + c.args.len + 1; lookahead = c.args.self.now.lookahead }) (ap (λ t. t.now) c.text_opener.ensures.text) (
+        at.text,
+        (λ on. (at.few, c.text_opener.ensures.ahead _ _ at.ahead)),
+        rw c.requires.all tt,
+        (λ on. rw c.requires.all (paid.0 + ((5 * c.args.len - 4) + 2) + 2, omega (arith, inside.0, paid.1, word.2, word.4.0, here), read)),
+        reached text c.args.self.now.reader _ c.args.self.now.reader.at _ at.stands.stage at.ahead refl (omega (arith, line, here)),
+      );
+      after = rw (c.text_opener.ensures.text, at.going, none) refl;
+    }
+
+pub overflow_add-self-in-Ok : goal.overflow_add-self-in-Ok
+overflow_add-self-in-Ok c =
+    let at = c.requires.opener.2 in
+    let small : c.args.self.now.yielded_count + 1 ≤ 2 ^ 34 = one_more_fits c.args.self.now at.text.fits at.few in
     search (rules, small)
 
 pub overflow_add-self-in-Err : goal.overflow_add-self-in-Err
 overflow_add-self-in-Err c =
     let line = next_line_inside c.args.self.now.reader.text.now c.plain_body_len.new.self.at in
     let other = rw (c.plain_body_len.ensures.text, c.text_opener.ensures.text) at c.in-Err.ensures.other in
-    let small : c.at.result + c.in-Some-Opener.field-0.len + 1 ≤ 2 ^ 34 = omega (arith, other.0, line, c.at.ensures, c.in-Some-Opener.len-is, c.requires.lexing.0.fits) in
+    let small : c.at-in-Err.result + c.args.len ≤ 2 ^ 34 = omega (arith, other.0, line, c.at-in-Err.ensures, c.requires.opener.2.text.fits) in
     search (rules, small)
 
 pub overflow_add-self-in-Err-2 : goal.overflow_add-self-in-Err-2
 overflow_add-self-in-Err-2 c =
     let line = next_line_inside c.args.self.now.reader.text.now c.plain_body_len.new.self.at in
     let other = rw (c.plain_body_len.ensures.text, c.text_opener.ensures.text) at c.in-Err.ensures.other in
-    let small : c.at.result + c.in-Some-Opener.field-0.len + 1 + c.in-Err.run' ≤ 2 ^ 34 = omega (arith, other.0, line, c.at.ensures, c.in-Some-Opener.len-is, c.requires.lexing.0.fits) in
+    let small : c.at-in-Err.result + c.args.len + 1 ≤ 2 ^ 34 = omega (arith, other.0, line, c.at-in-Err.ensures, c.requires.opener.2.text.fits) in
     search (rules, small)
 
-pub returns-clause-passed : goal.returns-clause-passed
-returns-clause-passed c = λ some.
+pub overflow_add-self-in-Err-3 : goal.overflow_add-self-in-Err-3
+overflow_add-self-in-Err-3 c =
+    let line = next_line_inside c.args.self.now.reader.text.now c.plain_body_len.new.self.at in
+    let other = rw (c.plain_body_len.ensures.text, c.text_opener.ensures.text) at c.in-Err.ensures.other in
+    let small : c.at-in-Err.result + c.args.len + 1 + c.in-Err.run' ≤ 2 ^ 34 = omega (arith, other.0, line, c.at-in-Err.ensures, c.requires.opener.2.text.fits) in
+    search (rules, small)
+
+pub returns-in-Ok-clause-passed : goal.returns-in-Ok-clause-passed
+returns-in-Ok-clause-passed c = λ yes.
     let text = c.args.self.now.reader.text.now in
-    let inv = c.requires.lexing.1 c.requires.going in
-    let front = front_is text c.args.self.now.reader c.args.self.now.looked_to c.args.self.now.lookahead c.requires.front (c.requires.lexing.3 c.requires.going) in
-    let is = keeps_passes c.args.self.now.reader c.plain_body_len.new.self c.pass_plain_text.new.self (c.plain_body_len.ensures.text ∙ c.text_opener.ensures.text) (keeps_twice c.args.self.now.reader c.text_opener.new.self c.plain_body_len.new.self c.text_opener.ensures.text c.text_opener.ensures.ahead c.plain_body_len.ensures.ahead) (λ text. text_lexeme text c.plain_body_len.new.self.at c.in-Some-Opener.field-0.len c.in-Ok.body) c.pass_plain_text.ensures.ahead _ _ inv.1 in
+    let at = c.requires.opener.2 in
+    let word = at.read in
+    let paid = word.3 in
+    let body = c.in-Ok.body in
+    let is = keeps_passes c.args.self.now.reader c.plain_body_len.new.self c.pass_plain_text.new.self (c.plain_body_len.ensures.text ∙ c.text_opener.ensures.text) (keeps_twice c.args.self.now.reader c.text_opener.new.self c.plain_body_len.new.self c.text_opener.ensures.text c.text_opener.ensures.ahead c.plain_body_len.ensures.ahead) (λ text. text_lexeme text c.plain_body_len.new.self.at c.args.len body) c.pass_plain_text.ensures.ahead _ _ at.ahead in
+    let opener = text_opener_len (drop c.args.self.now.reader.at text) _ _ c.args.len at.stands.front in
     let taken = c.pass_plain_text.ensures.taken in
+    let read = string_reads text paid.0 c.args.len body word.0 c.args.self.now.reader c.text_opener.new.self c.plain_body_len.new.self c.pass_plain_text.new.self word.1 paid.2 word.4 c.text_opener.ensures.lookahead c.in-Ok.ensures.lookahead opener (taken.1, taken.2) in
     let same : c.plain_body_len.new.self.at ≡ c.args.self.now.reader.at = c.in-Ok.ensures.lookahead.0 ∙ c.text_opener.ensures.lookahead.0 in
-    let first = reader_boundary text c.args.self.now.reader _ _ front.0.stage inv.1 in
+    let first = reader_boundary text c.args.self.now.reader _ _ at.stands.stage at.ahead in
     let last = reader_boundary text c.pass_plain_text.new.self _ _ taken.2 is.2 in
     let value = rw (c.plain_body_len.ensures.text, c.text_opener.ensures.text) at c.pass_plain_text.ensures.value in
-    let to : c.plain_body_len.new.self.at + c.in-Some-Opener.field-0.len + c.in-Ok.body ≡ c.pass_plain_text.new.self.at - 1 = omega (arith, taken.1.0) in (
-      plain_inside text kind.String c.args.self.now.reader.at c.pass_plain_text.new.self.at (c.args.self.now.reader.at + c.in-Some-Opener.field-0.len) (c.pass_plain_text.new.self.at - 1) c.requires.lexing.0.fits
-          (omega (arith, same, taken.1.0)) (omega (arith, same, taken.1.0)) first last
-          (subst (λ n. IsCharBoundary text (n + c.in-Some-Opener.field-0.len)) same value.0) (subst (IsCharBoundary text) to value.1),
-      subst (λ (lexeme : Spanned TokenView). IsAheadPast text lexeme c.pass_plain_text.new.self (left_in c.args.self.now) (outcome text).fault)
-          (string_shown text c.args.self.now.reader.at c.plain_body_len.new.self.at c.in-Some-Opener.field-0.len c.in-Ok.body c.pass_plain_text.new.self.at same taken.1.0) is,
-    )
+    let to : c.plain_body_len.new.self.at + c.args.len + body ≡ c.pass_plain_text.new.self.at - 1 = omega (arith, taken.1.0) in
+    record {
+      passed = (
+        plain_inside text kind.String c.args.self.now.reader.at c.pass_plain_text.new.self.at (c.args.self.now.reader.at + c.args.len) (c.pass_plain_text.new.self.at - 1) at.text.fits
+            (omega (arith, same, taken.1.0)) (omega (arith, same, taken.1.0)) first last
+            (subst (λ n. IsCharBoundary text (n + c.args.len)) same value.0) (subst (IsCharBoundary text) to value.1),
+        subst (λ (lexeme : Spanned TokenView). IsAheadPast text lexeme c.pass_plain_text.new.self (left_in c.args.self.now) (outcome text).fault)
+            (string_shown text c.args.self.now.reader.at c.plain_body_len.new.self.at c.args.len body c.pass_plain_text.new.self.at same taken.1.0) is,
+      );
+      lexing = past_lexing c.args.self.now _ _ lookahead.Nothing (c.pass_plain_text.ensures.text ∙ c.plain_body_len.ensures.text ∙ c.text_opener.ensures.text) at.text at.going at.reach is
+          (rw (c.plain_body_len.ensures.text, c.text_opener.ensures.text) at c.pass_plain_text.ensures.code, omega (arith, word.2, word.4.0, same, taken.1.0), (paid.0, paid.1, read));
+      after = rw (c.pass_plain_text.ensures.text, c.plain_body_len.ensures.text, c.text_opener.ensures.text, at.going) refl;
+    }
 
-pub returns-clause-none : goal.returns-clause-none
-returns-clause-none c = λ none.
-    let opener = text_opener_len (drop c.plain_body_len.new.self.at c.plain_body_len.new.self.text.now) c.in-Some-Opener.is_raw c.in-Some-Opener.quote c.in-Some-Opener.field-0.len c.plain_body_len.ensures.stands.front in
-    absurd (omega (arith, opener.0, none))
+pub returns-in-Err-clause-stays : goal.returns-in-Err-clause-stays
+returns-in-Err-clause-stays c = λ no.
+    let text = c.args.self.now.reader.text.now in
+    let at = c.requires.opener.2 in
+    let word = at.read in
+    let paid = word.3 in
+    let run = c.in-Err.run' in
+    let inside = word_inside text c.args.self.now.reader _ _ _ c.args.len at.stands.stage at.ahead (sym at.stands.front) in
+    let other = rw (c.plain_body_len.ensures.text, c.text_opener.ensures.text) at c.in-Err.ensures.other in
+    let had = looked_reads text paid.0 c.args.len ((5 * c.args.len - 4) + 2) word.0 c.args.self.now.reader word.1 paid.2 word.4 in
+    let opened = here_reads text (paid.0 + ((5 * c.args.len - 4) + 2)) 2 2 c.args.self.now.reader c.text_opener.new.self at.stands.stage had c.text_opener.ensures.lookahead in
+    let read = here_reads text (paid.0 + ((5 * c.args.len - 4) + 2) + 2) 0 (6 * run + 3) c.text_opener.new.self c.plain_body_len.new.self (c.text_opener.ensures.lookahead.1 ∙ at.stands.stage) opened other.1 in
+    let same : c.plain_body_len.new.self.at ≡ c.args.self.now.reader.at = other.1.0 ∙ c.text_opener.ensures.lookahead.0 in
+    let here : c.at-in-Err.result ≡ c.args.self.now.reader.at = c.at-in-Err.ensures ∙ same in
+    let none : c.args.self.now.yielded_count + 0 ≡ c.args.self.now.yielded_count = omega (arith) in
+    record {
+      passed = tt;
+      lexing = same_lexing text (record c.args.self.now { reader = c.plain_body_len.new.self; looked_to = c.at-in-Err.result + c.args.len + 1 + run; lookahead = c.args.self.now.lookahead }) (ap (λ t. t.now) (c.plain_body_len.ensures.text ∙ c.text_opener.ensures.text)) (
+        at.text,
+        (λ on. (at.few, (keeps_twice c.args.self.now.reader c.text_opener.new.self c.plain_body_len.new.self c.text_opener.ensures.text c.text_opener.ensures.ahead c.plain_body_len.ensures.ahead) _ _ at.ahead)),
+        rw c.requires.all tt,
+        (λ on. rw c.requires.all (paid.0 + ((5 * c.args.len - 4) + 2) + 2 + (6 * run + 3), omega (arith, inside.0, paid.1, word.2, word.4.0, here), read)),
+        reached text c.args.self.now.reader _ c.plain_body_len.new.self.at _ at.stands.stage at.ahead same (omega (arith, other.0, same, here)),
+      );
+      after = rw (c.plain_body_len.ensures.text, c.text_opener.ensures.text, at.going, none) refl;
+    }
+
+pub returns-in-Ok-clause-closed : goal.returns-in-Ok-clause-closed
+returns-in-Ok-clause-closed c = λ yes. omega (arith, c.in-Ok.ensures.lookahead.0, c.text_opener.ensures.lookahead.0, c.pass_plain_text.ensures.taken.1.0)

@@ -13,7 +13,7 @@ returns c =
     let word = c.requires.read in
     let paid = word.3 in
     let taken = c.take_terminal-lexeme.ensures.taken in
-    let read = taken_reads c.args.self.now.reader.text.now paid.0 c.args.len ((5 * c.args.len - 4) + 3) c.args.len word.0 c.args.self.now.reader c.take_terminal-lexeme.new.self word.1 paid.2 word.4 (omega (arith)) (omega (arith, taken.0)) (taken.1, taken.2) in
+    let read = taken_reads c.args.self.now.reader.text.now paid.0 c.args.len ((5 * c.args.len - 4) + 2) c.args.len word.0 c.args.self.now.reader c.take_terminal-lexeme.new.self word.1 paid.2 word.4 (omega (arith)) (omega (arith, taken.0)) (taken.1, taken.2) in
     record {
       passed = (c.take_terminal-lexeme.ensures.token, is);
       lexing = past_lexing c.args.self.now _ _ c.looked_in_code-self.result c.take_terminal-lexeme.ensures.text c.requires.text c.requires.going c.requires.reach is (found_in_code c.args.self.now.reader.text.now c.take_terminal-lexeme.new.self c.args.self.now.looked_to paid.0 c.looked_in_code-self.result c.looked_in_code-self.ensures c.take_terminal-lexeme.ensures.code (omega (arith, word.2, word.4.0, taken.1.0)) (omega (arith, paid.1)) read);

@@ -7,7 +7,7 @@ use Rattle.starlark_reader.proofs.NextLines.{restart_inside}
 use Rattle.starlark_reader.specs.Searches.{search_reads}
 use Rattle.starlark_syntax.specs.Inner.LexerStates.{left_in}
 use Rattle.starlark_syntax.proofs.FoundWords.{one_more_fits}
-use Rattle.starlark_syntax.proofs.LexerReads.{spared}
+use Rattle.starlark_syntax.proofs.LexerReads.{end_spared}
 use Rattle.starlark_syntax.proofs.LexerStates.{none_dropped, raw_place, same_lexing}
 use Rattle.starlark_reader.specs.Inner.ReadBounds.{LeavesRepair}
 use Rattle.starlark_syntax.specs.declared.lexer_state.Lookahead.TheVariants as lookahead
@@ -17,7 +17,7 @@ pub returns-in_err-fault-clause-last : goal.returns-in_err-fault-clause-last
 returns-in_err-fault-clause-last c = λ going.
     let text = c.args.self.now.reader.text.now in
     let inv = c.requires.lexing.1 going in
-    let paid = spared text c.args.self.now.reader c.args.self.now.looked_to c.args.self.now.lookahead (c.requires.lexing.3 going) in
+    let paid = end_spared text c.args.self.now.reader c.args.self.now.looked_to c.args.self.now.lookahead (c.requires.end going) (c.requires.lexing.3 going) in
     let is = c.in_err-fault.ensures.last text (left_in c.args.self.now) (outcome text).fault (c.requires.end going) inv.1 in
     let read = c.in_err-fault.ensures.reads text paid.0 (c.requires.end going) paid.2 in
     rw c.from_residual.ensures (is.0, is.1, is.3, read.1, omega (arith, paid.1, read.2, c.requires.lexing.4.inside))
@@ -31,7 +31,7 @@ returns-in_err-fault-clause-lexing c = same_lexing c.args.self.now.reader.text.n
       (inv.0, rw (is.0, is.1) is.2)),
   tt,
   (λ on.
-      let paid = spared c.args.self.now.reader.text.now c.args.self.now.reader c.args.self.now.looked_to c.args.self.now.lookahead (c.requires.lexing.3 on) in
+      let paid = end_spared c.args.self.now.reader.text.now c.args.self.now.reader c.args.self.now.looked_to c.args.self.now.lookahead (c.requires.end on) (c.requires.lexing.3 on) in
       let read = c.in_err-fault.ensures.reads c.args.self.now.reader.text.now paid.0 (c.requires.end on) paid.2 in
       (paid.0, paid.1, read.0)),
   c.requires.lexing.4,
@@ -46,7 +46,7 @@ pub returns-clause-last : goal.returns-clause-last
 returns-clause-last c = λ going.
     let text = c.args.self.now.reader.text.now in
     let inv = c.requires.lexing.1 going in
-    let paid = spared text c.args.self.now.reader c.args.self.now.looked_to c.args.self.now.lookahead (c.requires.lexing.3 going) in
+    let paid = end_spared text c.args.self.now.reader c.args.self.now.looked_to c.args.self.now.lookahead (c.requires.end going) (c.requires.lexing.3 going) in
     let is = c.in_ok-fault.ensures.last text (left_in c.args.self.now) (outcome text).fault (c.requires.end going) inv.1 in
     let read = c.in_ok-fault.ensures.reads text paid.0 (c.requires.end going) paid.2 in
     let it : Spanned Fault = is.1.0 in
