@@ -16,3 +16,4 @@ pub mod PieceTaken
 pub mod NextLexeme
 pub mod Repaired
 pub mod SameTexts
+pub mod WordSteps

@@ -4,7 +4,7 @@ ghost use Rattle.std.specs.Prelude.{◌&&◌, ◌≡◌, ◌≢◌, true, false,
 ghost use Rattle.std.specs.List.{ends_with};
 ghost use Rattle.std.specs.Str.{IsCharBoundary};
 ghost use Rattle.starlark_words.specs.Inner.Reads.{AreReads, more_reads};
-ghost use Rattle.starlark_reader.specs.Inner.StepViews.{IsDigitAt, IsStep};
+ghost use Rattle.starlark_reader.specs.Inner.StepViews.{IsDigitAt, IsFaultWord, IsStep};
 ghost use Rattle.starlark_token.specs.Lexemes.{shown_lexeme};
 ghost use Rattle.starlark_words.specs.Inner.LiteralViews.{IsPlainBody};
 ghost use Rattle.starlark_grammar.specs.Inner.Openings.{opening_view};
@@ -14,10 +14,11 @@ ghost use Rattle.starlark_reader.specs.Inner.MarginViews.{IsMargin, spaces_margi
 ghost use Rattle.starlark_grammar.specs.Pieces as grammar;
 ghost use Rattle.starlark_grammar.specs.declared.class.Class.TheVariants as class;
 ghost use Rattle.starlark_grammar.specs.declared.class.LiteralKind.TheVariants as kind;
+ghost use Rattle.starlark_grammar.specs.declared.class.LiteralKind.TheVariants.{FString as OfFString};
 ghost use Rattle.starlark_reader.specs.Inner.Pending.{IsCommentIn, IsIdle, IsMark, IsPending, comment_lexeme, pending_lexemes};
 ghost use Rattle.starlark_reader.specs.Inner.MarginCuts.{IsCutBefore};
 ghost use Rattle.starlark_reader.specs.Inner.ReadBounds.{HasStarted, HasLooked, HasLookedHere, HasRead, HasReadAt, HasReadLast, IsMarginRead, IsPassed, IsPassedBy, IsTaken};
-ghost use Rattle.starlark_reader.specs.Inner.Reader.{HasSomething, IsText, IsAtLineEnd, IsAtStep, IsLineEndStep, IsSound, KeepsAhead, PassesNext, Takes, TakesNext, CountsLineEnds, has_read_none, is_fault, IsAhead, IsAheadAfter, IsAheadPast, IsAtCode, IsBangHere, IsInCode, IsInFlatMargin, IsReached, IsStateAfter, IsStateAtFault, IsAtEnd, IsLast, IsPlainTextHere, IsRead, IsReady, IsSomething, IsTokenOf, IsWordHere, before_margin, before_view, begins_with_tab, fstring_text_lexeme, left_here, left_to_read, name_lexeme, newline_if, newline_of, silent_sort, step_here, text_lexeme};
+ghost use Rattle.starlark_reader.specs.Inner.Reader.{HasSomething, IsText, IsAtLineEnd, IsAtStep, IsLineEndStep, IsSound, KeepsAhead, PassesNext, Takes, TakesNext, CountsLineEnds, has_read_none, is_fault, IsAhead, IsAheadAfter, IsAheadPast, IsAtCode, IsBangHere, IsInCode, IsInFlatMargin, IsReached, IsStateAfter, IsStateAtFault, IsAtEnd, IsLast, IsPlainTextHere, IsRead, IsReady, IsSomething, IsTokenOf, IsWordHere, before_margin, before_view, begins_with_tab, fstring_text_lexeme, left_here, left_to_read, name_lexeme, newline_if, newline_of, step_here, text_lexeme};
 ghost use Rattle.starlark_reader.specs.Inner.PieceViews.{IsAfter, IsLineEnd};
 ghost use Rattle.starlark_grammar.specs.AfterFaults.{next_line};
 ghost use Rattle.starlark_grammar.specs.Cuts.{is_layout, is_settled};
@@ -26,20 +27,25 @@ ghost use Rattle.starlark_grammar.specs.RepairLaws.{KeepsLine};
 ghost use Rattle.starlark_grammar.specs.Repairs.{repair_end, repaired};
 ghost use Rattle.starlark_grammar.specs.Reading.{History, outcome};
 ghost use Rattle.starlark_token.specs.TokenViews.{TokenView, token_view};
+ghost use Rattle.starlark_grammar.specs.Tokens as grammar_tokens;
 ghost use Rattle.starlark_grammar.specs.Tokens.{FStringStart, Fault, Spanned};
-ghost use Rattle.starlark_reader.specs.Inner.Nesting.{change_by};
+ghost use Rattle.starlark_grammar.specs.Depths.{InText, mode_after};
+ghost use Rattle.starlark_grammar.specs.Front.{language_front};
+ghost use Rattle.starlark_reader.specs.Inner.Nesting.{Represents, change_by};
 ghost use Rattle.starlark_reader.specs.declared.changes.NestingChange.TheVariants as change;
 ghost use Rattle.starlark_grammar.specs.Words.{Text, begins, is_name_start};
 
 use crate::indent_stack::IndentStack;
-use crate::literal::{Opening, PlainText, Step, opening_of, plain_text, quotes_of};
+use crate::literal::{
+    Opening, PlainText, Step, chunk_from, literal_piece, opening_of, plain_text, quotes_of,
+};
 use crate::margins::{Margin, margin_of, plain_margin};
 use crate::nesting::{LexerMode, Nesting};
 use crate::pending::{AfterComments, Pending};
 use crate::reading::code::{gap_len, is_code};
 use crate::reading::terminals::token_in;
-use crate::reading::words::{digit_token, number_token, starts_zero};
-use crate::reading::{Piece, bang_stands, is_outside, line_end_counts, piece_at};
+use crate::reading::words::{digit_token, fault_step, number_token, starts_zero};
+use crate::reading::{bang_stands, invalid_input, is_outside, line_end_counts};
 use crate::text_end::TextEnd;
 use crate::widths::{keep_margin, keeps_widths, margin_fault, take_margin};
 use starlark_token::lexeme_error::LexemeError;
@@ -47,7 +53,7 @@ use starlark_token::tokens::Token;
 use starlark_words::plain_body_len;
 use starlark_words::reads::ReadCounter;
 use starlark_words::scanner::{
-    Class, LiteralKind, Quote, Terminal, Word, text_opener, unnamed_word, word_after,
+    Class, LiteralKind, Quote, Terminal, Word, first_word, text_opener, unnamed_word, word_after,
 };
 use std::alloc::{AllocError, Global};
 use std::mem;
@@ -71,15 +77,6 @@ enum Before {
     Layout,
     Gap,
     Other,
-}
-
-impl Before {
-    /// The kind of a piece without lexemes: a skipped piece, or a newline that doesn't count.
-    fn silent(is_gap: bool) -> Self
-        ensures { result ≡ silent_sort is_gap }
-    {
-        if is_gap { Before::Gap } else { Before::Other }
-    }
 }
 
 /// A text, and the state of reading it up to byte `at`. It stores the open brackets, f-strings and
@@ -121,6 +118,17 @@ fn before_margin(is_laid: bool) -> LineEnd
         LineEnd::Pending
     } else {
         LineEnd::Fault
+    }
+}
+
+/// The `Newline` between two offsets, if that is the outcome of a newline.
+fn newline_of(line_end: LineEnd, begin: usize, end: usize) -> Option<(usize, Token, usize)>
+    requires { begin ≤ end }
+    ensures { result ≡ newline_of line_end begin (end - begin) }
+{
+    match line_end {
+        LineEnd::Newline | LineEnd::Pending => Some((begin, Token::Newline, end)),
+        LineEnd::Fault | LineEnd::Passed => None,
     }
 }
 
@@ -318,22 +326,6 @@ impl<'a> Reader<'a> {
         keep_margin(&self.levels, &mut self.pending, begin, margin);
         self.step_to(begin + margin.blanks.len, Before::Layout);
         Ok(LineEnd::Newline)
-    }
-
-    /// Reads a newline of `len` bytes that counts, and the margin after it. Returns its `Newline`;
-    /// `None` where the margin has a fault.
-    fn read_line_end(&mut self, len: usize) -> Result<Option<(usize, Token, usize)>, AllocError>
-        requires { IsAtLineEnd self.old len }
-        ensures text { self.new.text ≡ self.old.text }
-        ensures read { IfOk result (λ given. Takes self.old (IsLineEndStep self.old len) given self.new) }
-        ensures less { OnOk result (left_to_read self.old.text.now self.new self.new.stage < left_to_read self.old.text.now self.old Stage.Onward) }
-        ensures reads { OnOk result (IsLineEnd len (drop self.old.at self.old.text.now) → IsMarginRead self.old.text.now len self.old self.new self.new.stage) }
-    {
-        let begin = self.at;
-        match self.lay_line_end(len)? {
-            LineEnd::Fault => Ok(None),
-            _ => Ok(Some((begin, Token::Newline, begin + len))),
-        }
     }
 
     /// Takes the start of an f-string, which has `len` bytes with its quotes.
@@ -545,6 +537,175 @@ impl<'a> Reader<'a> {
         (self.at, Token::Newline, self.at)
     }
 
+    /// Passes the skipped piece of `len` bytes here.
+    #[inline(always)]
+    fn pass_gap(&mut self, len: usize)
+        requires sound { IsSound self.old }
+        requires stands { IsWordHere self.old.text.now self.old (record { class = class.Skipped; len = len }) }
+        ensures text { self.new.text ≡ self.old.text }
+        ensures ahead { TakesNext self.old None self.new }
+        ensures taken { IsTaken len self.old self.new }
+    {
+        self.step_over(len, Before::Gap);
+    }
+
+    /// Takes the newline of `len` bytes here. `None` where it doesn't count, or its margin has a fault.
+    #[inline(always)]
+    fn read_line_end(&mut self, len: usize) -> Result<Option<(usize, Token, usize)>, AllocError>
+        requires sound { IsSound self.old }
+        requires stands { IsWordHere self.old.text.now self.old (record { class = class.LineEnd; len = len }) }
+        ensures text { self.new.text ≡ self.old.text }
+        ensures ahead { IfOk result (λ given. TakesNext self.old given self.new) }
+        ensures memory { OnErr result (HasSomething self.old) }
+        ensures less { OnOk result (left_to_read self.old.text.now self.new self.new.stage < left_to_read self.old.text.now self.old self.old.stage) }
+        ensures reads { OnOk result ((beside before : ℕ) → HasReadAt self.old.text.now beside (record self.old { reads = before }) Stage.Onward → AreReads len (5 * len + 3) before self.old.reads → HasRead self.old.text.now beside self.new) }
+    {
+        let begin = self.at;
+        let line_end = self.take_line_end(len)?;
+        Ok(newline_of(line_end, begin, begin + len))
+    }
+
+    /// Takes the name of `len` bytes here.
+    #[inline(always)]
+    fn take_name(&mut self, len: usize) -> Result<(usize, Token, usize), AllocError>
+        requires sound { IsSound self.old }
+        requires stands { IsWordHere self.old.text.now self.old (record { class = class.Identifier; len = len }) }
+        ensures text { self.new.text ≡ self.old.text }
+        ensures ahead { IfOk result (λ given. TakesNext self.old (Some given) self.new) }
+        ensures memory { OnErr result (HasSomething self.old) }
+        ensures taken { OnOk result (IsTaken len self.old self.new) }
+    {
+        let begin = self.at;
+        let rest = &self.text[begin..];
+        let token = Token::Identifier(String::from_str(self.alloc, &rest[..len])?);
+        self.pass_token(&token, len);
+        Ok((begin, token, begin + len))
+    }
+
+    /// Takes the string or bytes literal here, whose opener has `len` bytes, or stops at its fault.
+    #[inline(always)]
+    fn read_literal(
+        &mut self,
+        kind: LiteralKind,
+        is_raw: bool,
+        quote: Quote,
+        len: usize,
+    ) -> Result<Option<(usize, Token, usize)>, AllocError>
+        requires kind { kind ≢ OfFString }
+        requires sound { IsSound self.old }
+        requires stands { IsWordHere self.old.text.now self.old (record { class = class.Opener kind is_raw quote; len = len }) }
+        ensures text { self.new.text ≡ self.old.text }
+        ensures ahead { IfOk result (λ given. TakesNext self.old given self.new) }
+        ensures memory { OnErr result (HasSomething self.old) }
+        ensures less { OnOk result (left_to_read self.old.text.now self.new self.new.stage < left_to_read self.old.text.now self.old self.old.stage) }
+        ensures reads { OnOk result ((beside before : ℕ) → HasReadAt self.old.text.now beside (record self.old { reads = before }) Stage.Onward → AreReads len (5 * len + 3) before self.old.reads → HasRead self.old.text.now beside self.new) }
+    {
+        let outside = is_outside(self.nesting.mode());
+        let rest = &self.text[self.at..];
+        let step = literal_piece(
+            &mut self.reads,
+            self.alloc,
+            outside,
+            kind,
+            is_raw,
+            quote,
+            len,
+            &rest[len..],
+        )?;
+        Ok(self.take(step))
+    }
+
+    /// Stops at the word here, which is a fault: tabs, a reserved word, or a 0 before more digits.
+    fn refuse_word(&mut self, word: Word) -> Result<Option<(usize, Token, usize)>, AllocError>
+        requires sound { IsSound self.old }
+        requires stands { IsWordHere self.old.text.now self.old word }
+        requires fault { IsFaultWord word.class (take word.len (drop self.old.at self.old.text.now)) }
+        ensures text { self.new.text ≡ self.old.text }
+        ensures ahead { IfOk result (λ given. TakesNext self.old given self.new) }
+        ensures memory { OnErr result (HasSomething self.old) }
+        ensures less { OnOk result (left_to_read self.old.text.now self.new self.new.stage < left_to_read self.old.text.now self.old self.old.stage) }
+        ensures reads { OnOk result ((beside before : ℕ) → HasReadAt self.old.text.now beside (record self.old { reads = before }) Stage.Onward → AreReads word.len (5 * word.len + 3) before self.old.reads → HasRead self.old.text.now beside self.new) }
+    {
+        let rest = &self.text[self.at..];
+        let step = fault_step(self.alloc, word.class, &rest[..word.len])?;
+        Ok(self.take(step))
+    }
+
+    /// Reads the word here. Returns its lexeme; `None` where it has none, or is a fault.
+    #[inline(always)]
+    fn read_word(&mut self, word: Word) -> Result<Option<(usize, Token, usize)>, AllocError>
+        requires sound { IsSound self.old }
+        requires stands { IsWordHere self.old.text.now self.old word }
+        ensures text { self.new.text ≡ self.old.text }
+        ensures ahead { IfOk result (λ given. TakesNext self.old given self.new) }
+        ensures memory { OnErr result (HasSomething self.old) }
+        ensures less { OnOk result (left_to_read self.old.text.now self.new self.new.stage < left_to_read self.old.text.now self.old self.old.stage) }
+        ensures reads { OnOk result ((beside before : ℕ) → HasReadAt self.old.text.now beside (record self.old { reads = before }) Stage.Onward → AreReads word.len (5 * word.len + 3) before self.old.reads → HasRead self.old.text.now beside self.new) }
+    {
+        if self.is_plain_number(word) {
+            return Ok(Some(self.take_number(word)?));
+        }
+        let len = word.len;
+        match word.class {
+            Class::Skipped => {
+                self.pass_gap(len);
+                Ok(None)
+            }
+            Class::LineEnd => self.read_line_end(len),
+            Class::Comment => Ok(Some(self.take_comment(len)?)),
+            Class::Identifier => Ok(Some(self.take_name(len)?)),
+            Class::Opener {
+                kind: LiteralKind::FString,
+                is_raw,
+                quote,
+            } => Ok(Some(self.take_fstring(is_raw, quote, len)?)),
+            Class::Opener {
+                kind,
+                is_raw,
+                quote,
+            } => self.read_literal(kind, is_raw, quote, len),
+            Class::Fixed(terminal) => Ok(Some(self.take_terminal(terminal, len))),
+            _ => self.refuse_word(word),
+        }
+    }
+
+    /// Reads what is here, where no word begins: a bang, or a fault.
+    fn read_wordless(&mut self) -> Result<Option<(usize, Token, usize)>, AllocError>
+        requires sound { IsSound self.old }
+        requires code { IsAtCode self.old.text.now self.old }
+        requires some { self.old.at < length self.old.text.now }
+        requires none { language_front (drop self.old.at self.old.text.now) ≡ None }
+        ensures text { self.new.text ≡ self.old.text }
+        ensures ahead { IfOk result (λ given. TakesNext self.old given self.new) }
+        ensures memory { OnErr result (HasSomething self.old) }
+        ensures less { OnOk result (left_to_read self.old.text.now self.new self.new.stage < left_to_read self.old.text.now self.old self.old.stage) }
+        ensures reads { OnOk result ((beside before : ℕ) → HasReadAt self.old.text.now beside (record self.old { reads = before }) Stage.Onward → AreReads 0 (5 * 0 + 3) before self.old.reads → HasRead self.old.text.now beside self.new) }
+    {
+        if self.bang_stands() {
+            return Ok(Some(self.take_bang()));
+        }
+        let step = invalid_input(&mut self.reads, self.alloc, &self.text[self.at..])?;
+        Ok(self.take(step))
+    }
+
+    /// Reads the f-string text at the offset, up to its first stop. Returns its first lexeme; `None`
+    /// if it is a fault.
+    fn read_chunk(&mut self, opening: Opening) -> Result<Option<(usize, Token, usize)>, AllocError>
+        requires text { IsText self.old.text.now }
+        requires stage { self.old.stage ≡ Stage.Onward }
+        requires ready { IsReady self.old.text.now self.old Stage.Onward }
+        requires idle { IsIdle self.old.text.now self.old.pending }
+        requires inside { (before : List grammar_tokens.Token) → Represents before self.old.nesting → mode_after before ≡ InText (opening_view opening) }
+        ensures text { self.new.text ≡ self.old.text }
+        ensures ahead { IfOk result (λ given. TakesNext self.old given self.new) }
+        ensures less { OnOk result (left_to_read self.old.text.now self.new self.new.stage < left_to_read self.old.text.now self.old Stage.Onward) }
+        ensures reads { OnOk result ((beside : ℕ) → HasReadAt self.old.text.now beside self.old Stage.Onward → HasRead self.old.text.now beside self.new) }
+    {
+        let rest = &self.text[self.at..];
+        let step = chunk_from(&mut self.reads, self.alloc, opening, rest)?;
+        Ok(self.take(step))
+    }
+
     /// Reads the piece at the offset, where no lexeme is pending. Returns its first lexeme; `None`
     /// if it has none.
     fn read_piece(&mut self) -> Result<Option<(usize, Token, usize)>, AllocError>
@@ -557,21 +718,15 @@ impl<'a> Reader<'a> {
         ensures less { OnOk result (left_to_read self.old.text.now self.new self.new.stage < left_to_read self.old.text.now self.old Stage.Onward) }
         ensures reads { OnOk result ((beside : ℕ) → HasReadAt self.old.text.now beside self.old Stage.Onward → HasRead self.old.text.now beside self.new) }
     {
-        let mode = self.nesting.mode();
-        let is_balanced = self.nesting.is_balanced();
-        let rest = &self.text[self.at..];
-        let follows_gap = self.follows_gap();
-        let reads = &mut self.reads;
-        let piece = piece_at(reads, self.alloc, mode, is_balanced, follows_gap, rest)?;
-        match piece {
-            Piece::Nothing { len, is_gap } => {
-                self.step_over(len, Before::silent(is_gap));
-                Ok(None)
-            }
-            Piece::LineEnd { len } => self.read_line_end(len),
-            Piece::FString { opening, len } => Ok(Some(self.begin_fstring(opening, len)?)),
-            Piece::Lexed(step) => Ok(self.take(step)),
-            Piece::End => Ok(Some(self.close())),
+        if let LexerMode::InText(opening) = self.nesting.mode() {
+            return self.read_chunk(opening);
+        }
+        if self.at == self.text.len() {
+            return Ok(Some(self.close()));
+        }
+        match first_word(&mut self.reads, &self.text[self.at..]) {
+            Some(word) => self.read_word(word),
+            None => self.read_wordless(),
         }
     }
 
@@ -737,6 +892,7 @@ impl<'a> Reader<'a> {
         ensures code { IsAtCode self.new.text.now self.new }
         ensures stands { result ≡ true → IsBangHere self.new.text.now self.new }
         ensures lookahead { HasLookedHere 2 2 self.old self.new }
+        ensures other { result ≡ false → (history : History) → IsStateAfter self.new.text.now history self.new → (grammar.takes_bang (mode_after history.tokens) history.before && grammar.is_bang (drop self.new.at self.new.text.now)) ≡ false }
     {
         let front = self.reads.front(self.text[self.at..].as_bytes(), 2);
         bang_stands(self.nesting.mode(), self.follows_gap(), front)
@@ -780,6 +936,7 @@ impl<'a> Reader<'a> {
         ensures text { self.new.text ≡ self.old.text }
         ensures ahead { IfOk result (λ line_end. TakesNext self.old (newline_of line_end self.old.at len) self.new) }
         ensures memory { OnErr result (HasSomething self.old) }
+        ensures less { OnOk result (left_to_read self.old.text.now self.new self.new.stage < left_to_read self.old.text.now self.old self.old.stage) }
         ensures reads { OnOk result (IsMarginRead self.old.text.now len self.old self.new self.new.stage) }
         ensures counts { IfOk result (λ line_end. line_end ≢ LineEnd.Passed) }
         ensures onward { IfOk result (λ line_end. line_end ≡ LineEnd.Newline → (self.new.stage ≡ Stage.Onward) × IsInCode self.new × ((text : Text) → pending_lexemes text self.new.pending ≡ [])) }
@@ -797,7 +954,7 @@ impl<'a> Reader<'a> {
         ensures ahead { IfOk result (λ line_end. TakesNext self.old (newline_of line_end self.old.at len) self.new) }
         ensures memory { OnErr result (HasSomething self.old) }
         ensures cut { IsCharBoundary self.old.text.now (self.old.at + len) }
-        ensures less { IfOk result (λ line_end. line_end ≡ LineEnd.Passed → left_to_read self.old.text.now self.new self.new.stage < left_to_read self.old.text.now self.old self.old.stage) }
+        ensures less { OnOk result (left_to_read self.old.text.now self.new self.new.stage < left_to_read self.old.text.now self.old self.old.stage) }
         ensures code { IfOk result (λ line_end. line_end ≡ LineEnd.Passed → IsAtCode self.old.text.now self.new) }
         ensures taken { IfOk result (λ line_end. line_end ≡ LineEnd.Passed → IsTaken len self.old self.new) }
         ensures reads { IfOk result (λ line_end. line_end ≢ LineEnd.Passed → IsMarginRead self.old.text.now len self.old self.new self.new.stage) }
@@ -1100,6 +1257,7 @@ impl<'a> Reader<'a> {
         requires stands { IsWordHere self.now.text.now self.now word }
         ensures number { result ≡ true → is_number word.class ≡ true }
         ensures plain { result ≡ true → word.class ≡ class.Decimal → grammar.starts_zero (take word.len (drop self.now.at self.now.text.now)) ≡ false }
+        ensures other { result ≡ false → is_number word.class ≡ true → IsFaultWord word.class (take word.len (drop self.now.at self.now.text.now)) }
     {
         match word.class {
             Class::Decimal => {

@@ -1,7 +1,7 @@
 -- The lexer at a word that the scanner has found, and after something was taken or passed.
 use Rattle.std.proofs.Common.{◌≡◌, ◌<◌, ◌≤◌, ◌+◌, ◌-◌, ◌*◌, ◌||◌, ◌^◌, ℕ, [], Some, true, false, ap, arith, drop, length, map, refl, subst, sym, ◌∙◌}
 use Rattle.std.proofs.lemmas.List.{length-map}
-use Rattle.std.specs.Prelude.{IfOk, IfSome, None, OnErr, Option, Result}
+use Rattle.std.specs.Prelude.{IfOk, OnErr, Result}
 use Rattle.std.specs.Str.{IsCharBoundary}
 use Rattle.starlark_grammar.specs.Reading.{outcome}
 use Rattle.starlark_grammar.specs.Tokens.{Spanned}
@@ -13,10 +13,10 @@ use Rattle.starlark_grammar.specs.declared.class.LiteralKind.TheVariants as lite
 use Rattle.starlark_grammar.proofs.Order.Inside.{lexemes_few}
 use Rattle.starlark_reader.specs.Inner.Pending.{pending_lexemes}
 use Rattle.starlark_reader.specs.Inner.Reader.{IsAhead, IsAheadAfter, IsAheadPast, IsAtCode, IsInCode, IsSomething, IsText, IsWordHere, newline_if}
-use Rattle.starlark_reader.specs.Inner.ReadBounds.{HasLooked, HasLookedHere, HasReadAt, IsMarginRead, IsTaken}
+use Rattle.starlark_reader.specs.Inner.ReadBounds.{HasLooked, HasReadAt, IsMarginRead, IsTaken}
 use Rattle.starlark_reader.specs.declared.reader.Reader.{Reader}
 use Rattle.starlark_reader.specs.declared.reader.Stage.TheVariants as stages
-use Rattle.starlark_reader.proofs.TakenPieces.ReaderReads.{here_reads, looked_reads, margin_reads, read_more, taken_reads}
+use Rattle.starlark_reader.proofs.TakenPieces.ReaderReads.{looked_reads, margin_reads, read_more, taken_reads}
 use Rattle.starlark_reader.proofs.TakenPieces.PieceTaken.{left_onward}
 use Rattle.starlark_syntax.proofs.LexerItems.{one_more}
 use Rattle.starlark_syntax.proofs.LexerReads.{goes_on, nothing_kept, nothing_looked, word_inside}
@@ -24,7 +24,7 @@ use Rattle.starlark_syntax.proofs.LexerStates.{IsGoingOn, IsSameText, same_lexin
 use Rattle.starlark_syntax.proofs.PlainLexemes.{newline_passed, passed_same}
 use Rattle.starlark_syntax.proofs.Reaches.{reached, word_line}
 use Rattle.starlark_syntax.specs.Inner.LexerStates.{HasPassed, HasPassedNext, IsAtOpener, IsAtWord, IsLexing, IsLexingIn, IsTakenNext, IsUnnamed, is_out_of_memory, left_in, passed_count, plain_mark, view_of}
-use Rattle.starlark_syntax.specs.Inner.Looked.{HasReadHere, HasReadWord, HasSpared, HasSpent, IsInReach, IsLooked, found_word, is_nothing, is_text_opener}
+use Rattle.starlark_syntax.specs.Inner.Looked.{HasReadHere, HasReadWord, HasSpared, HasSpent, IsInReach, IsLooked, is_nothing, is_text_opener}
 use Rattle.starlark_syntax.specs.declared.lexer_state.FastPath.{FastPath}
 use Rattle.starlark_syntax.specs.declared.lexer_state.FastPath.TheVariants as fast
 use Rattle.starlark_syntax.specs.declared.lexer_state.LexerState.{LexerState}
@@ -34,7 +34,6 @@ use Rattle.starlark_syntax.specs.declared.plain_lexeme.PlainKind.TheVariants as 
 use Rattle.starlark_token.specs.Lexemes.{shown_lexeme}
 use Rattle.starlark_token.specs.TokenViews.{TokenView}
 use Rattle.starlark_token.specs.declared.tokens.Token.{Token}
-use Rattle.starlark_words.specs.Inner.ScannedWords.{word_len}
 use Rattle.starlark_words.specs.declared.scanner.word.Word.{Word}
 
 -- the reader took something
@@ -147,26 +146,6 @@ unnamed_here first state mid same lexing on nothing looked ahead code unnamed =
       read = subst (λ (t : Text). HasSpent t 2 mid state.looked_to) (sym (ap (λ t. t.now) same)) (paid.0, paid.1, read);
       reach = rw same on.6;
     }
-
--- the word that is then found, or none
-pub further_found : (state : LexerState) (mid : Reader) (found : Option Word) (it : Lookahead) → mid.text ≡ state.reader.text → IsUnnamed state → HasLookedHere (word_len found - 2) (5 * word_len found + 1) state.reader mid
-    → IsAhead state.reader.text.now mid mid.stage (left_in state) (outcome state.reader.text.now).fault → IsAtCode mid.text.now mid → IfSome found (IsWordHere mid.text.now mid) → it ≡ found_word found
-    → HasPassedNext state fast.Undecided (record state { reader = mid; lookahead = it })
-further_found state mid found it same at looked ahead code here is =
-    let text = ap (λ t. t.now) same in
-    let none : state.yielded_count + 0 ≡ state.yielded_count = omega (arith) in
-    let read = here_reads state.reader.text.now (at.read.0 + 2) (word_len found - 2) (5 * word_len found + 1) state.reader mid at.code.stage at.read.2 looked in
-    let has : HasReadHere state.reader.text.now state.looked_to (word_len found) mid =
-    (omega (arith, at.past, looked.0), omega (arith, at.least, looked.0, looked.3.0), (at.read.0, at.read.1, read_more state.reader.text.now (at.read.0 + 2 + (5 * word_len found + 1)) (at.read.0 + (5 * word_len found + 3)) mid (omega (arith)) mid.stage read)) in
-    record {
-      passed = tt;
-      lexing = same_lexing state.reader.text.now (record state { reader = mid; lookahead = it }) text (at.text, (λ on. (at.few, ahead)), goes_on it state.has_ended at.going, (λ on. rw is (looked_as found (subst (λ (t : Text). IsAtCode t mid) text code) (subst (λ (t : Text). IfSome found (IsWordHere t mid)) text here) has)), at.reach);
-      after = rw (same, at.going, none) refl;
-    }
-  where
-    looked_as : (found : Option Word) → IsAtCode state.reader.text.now mid → IfSome found (IsWordHere state.reader.text.now mid) → HasReadHere state.reader.text.now state.looked_to (word_len found) mid → IsLooked state.reader.text.now mid state.looked_to (found_word found)
-    looked_as None code here has = (code, has)
-    looked_as (Some word) code here has = (here, has)
 
 -- a word that was found stands at the reader's offset
 pub record IsFoundHere (state : LexerState) (word : Word) : Type 0 where

@@ -1,5 +1,5 @@
 -- What a lexer's quick ways read is paid for by the place up to which they have looked.
-use Rattle.std.proofs.Common.{◌∙◌, ◌≡◌, ◌≤◌, ◌<◌, ◌+◌, ◌-◌, ◌*◌, Bool, List, Option, Some, true, false, ℕ, drop, ap, length, leb, refl, subst, sym, take, arith}
+use Rattle.std.proofs.Common.{◌≡◌, ◌≤◌, ◌<◌, ◌+◌, ◌-◌, ◌*◌, Bool, List, Option, Some, true, false, ℕ, drop, ap, length, leb, refl, subst, sym, take, arith}
 use Rattle.std.specs.Prelude.{Err, Ok, OnOk, Result}
 use Rattle.std.proofs.lemmas.Bool.{leb-true}
 use Rattle.std.proofs.lemmas.List.{length-drop, length-take}
@@ -87,13 +87,6 @@ nothing_kept text reader to beside lookahead.Nothing quick code remainder paid h
 nothing_kept text reader to beside (lookahead.Word word) quick code remainder paid has = cc
 nothing_kept text reader to beside lookahead.Wordless quick code remainder paid has = cc
 nothing_kept text reader to beside lookahead.All quick code remainder paid has = cc
-
--- a word is told in one way
-pub same_word : (text : Text) (one other : Class) (a b : ℕ) → Some (one, a) ≡ language_front text → language_front text ≡ Some (other, b) → (other ≡ one) × (b ≡ a)
-same_word text one other a b found again =
-    let both : Some (one, a) ≡ Some (other, b) = found ∙ again in
-    let pair : (one, a) ≡ (other, b) = cc in
-    (sym (ap (λ (word : Class × ℕ). word.0) pair), sym (ap (λ (word : Class × ℕ). word.1) pair))
 
 -- a word that was found is taken, …
 pub word_reads : (text : Text) (to len : ℕ) (old new : Reader) → old.stage ≡ stages.Onward → HasReadHere text to len old → IsTaken len old new → HasSpared text new to

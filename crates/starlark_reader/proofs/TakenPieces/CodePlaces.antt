@@ -1,5 +1,5 @@
 -- The step at an offset: the next part of an f-string text, or what the word in code determines.
-use Rattle.std.proofs.Common.{◌≡◌, ℕ, ◌≤◌, ◌<◌, Bool, true, false, ◌&&◌, [], ◌∷◌, length, take, drop, refl, ap, sym, ◌∙◌, arith, None, Some}
+use Rattle.std.proofs.Common.{◌≡◌, ℕ, ◌≤◌, ◌<◌, Bool, true, false, ◌&&◌, [], ◌∷◌, length, take, drop, refl, ap, ◌∙◌, arith, None, Some}
 use Rattle.std.proofs.lemmas.List.{length-take-le}
 use Rattle.std.specs.Str.{IsUtf8, IsCharBoundary}
 use Rattle.starlark_grammar.specs.Depths.{Mode, Outside, InText, AtTop, Deeper}
@@ -61,10 +61,6 @@ pub bang_in_two : (text : Text) → is_bang (take 2 text) ≡ is_bang text
 bang_in_two [] = refl
 bang_in_two (b ∷ []) = refl
 bang_in_two (b ∷ c ∷ bs) = refl
-
--- whether the step is a bang, by the situation
-pub bang_by : (s : Situation) (text : Text) (at : Mode) (stands known : Bool) → s.mode ≡ at → stands ≡ (takes_bang at s.before && is_bang text) → stands ≡ known → (takes_bang s.mode s.before && is_bang text) ≡ known
-bang_by s text at stands known here is e = ap (λ p. takes_bang p s.before && is_bang text) here ∙ sym is ∙ e
 
 -- a bang that is allowed is the step
 pub bang_at : (follows_gap : Bool) (s : Situation) (text : Text) (at : Mode) → is_code at ≡ true → IsAfter follows_gap s.before → s.mode ≡ at → (takes_bang at s.before && is_bang text) ≡ true → step_at language s text ≡ token 1 FStringBang

@@ -10,10 +10,7 @@ use Rattle.starlark_grammar.specs.Words.{Text, class_in, language}
 use Rattle.starlark_grammar.specs.declared.class.Class.TheVariants as word
 use Rattle.starlark_grammar.proofs.Words.Classes.{line_end_fits}
 use Rattle.starlark_grammar.proofs.Words.Fronts.{front_sound}
-use Rattle.starlark_reader.specs.Inner.PieceViews.{IsLineEnd, IsLineEndOf}
-use Rattle.starlark_reader.specs.Inner.ReadBounds.{AreReadsAfter}
-use Rattle.starlark_reader.specs.declared.reading.Piece.{Piece}
-use Rattle.starlark_reader.specs.declared.reading.Piece.TheVariants as piece
+use Rattle.starlark_reader.specs.Inner.PieceViews.{IsLineEnd}
 
 -- a word that is a newline has the bytes of its line end
 abbrev is_whole : Text → Bool
@@ -46,11 +43,3 @@ line_end_here text len front =
     let sound = front_sound (class_in language) text word.LineEnd len (sym front) in
     let whole : line_end_len (take len text) ≡ len = (line_end_word (take len text) sound.2).1 ∙ length-take-le len text sound.1 in
     (sound.0, line_end_front len text sound.0 whole)
-
--- the piece of a newline after its word
-pub line_end_piece : (front : Text) (line before after : ℕ) (piece : Piece) → class_in language front ≡ Some word.LineEnd → AreReadsAfter (length front) 9 line 8 piece before after → IsLineEndOf front piece
-line_end_piece front line before after (piece.LineEnd len) known reads = let is = line_end_word front known in (omega (arith, is.0, reads.0), omega (arith, is.1, reads.0))
-line_end_piece front line before after (piece.Nothing len is_gap) known reads = tt
-line_end_piece front line before after (piece.FString opening len) known reads = tt
-line_end_piece front line before after (piece.Lexed step) known reads = tt
-line_end_piece front line before after piece.End known reads = tt

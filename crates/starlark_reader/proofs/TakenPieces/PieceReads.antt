@@ -4,11 +4,9 @@ use Rattle.std.specs.Prelude.{if◌then◌else◌}
 use Rattle.starlark_grammar.specs.AfterFaults.{next_line}
 use Rattle.starlark_grammar.specs.Words.{Text}
 use Rattle.starlark_words.specs.Inner.Reads.{AreReads, more_reads}
-use Rattle.starlark_reader.specs.Inner.ReadBounds.{AreFaultReads, ArePieceReads, AreReadsAfter, AreStepReads, AreWordlessReads, AreWordReads, IsFaultAt, IsOfWord, IsTabFault, is_tab_error}
+use Rattle.starlark_reader.specs.Inner.ReadBounds.{AreFaultReads, AreStepReads, AreWordReads, IsFaultAt, IsOfWord, IsTabFault, is_tab_error}
 use Rattle.starlark_reader.specs.declared.literal.pieces.Step.{Step}
 use Rattle.starlark_reader.specs.declared.literal.pieces.Step.TheVariants as steps
-use Rattle.starlark_reader.specs.declared.reading.Piece.{Piece}
-use Rattle.starlark_reader.specs.declared.reading.Piece.TheVariants as piece
 use Rattle.starlark_reader.proofs.NextLines.{next_line_least}
 
 -- a word that is a token or a fault, of which at most two bytes are read once more
@@ -24,72 +22,48 @@ tabs_reads len line (steps.Text text text_len stop taken) reads is some inside =
 tabs_reads len line (steps.Fault begin fault end) reads is some inside = rw is.1 ((omega arith, omega arith), is.0, omega (arith, some, inside), inside)
 
 -- no opener is tabs, whose first line has `line` bytes
-pub opener_reads : (len line : ℕ) (piece : Piece) (before after : ℕ) → AreReadsAfter len 9 0 8 piece before after → AreReadsAfter len 9 line 8 piece before after
-opener_reads len line (piece.Nothing taken is_gap) before after reads = reads
-opener_reads len line (piece.LineEnd taken) before after reads = reads
-opener_reads len line (piece.FString opening taken) before after reads = reads
-opener_reads len line (piece.Lexed step) before after reads = by_step step reads
+pub opener_reads : (len line : ℕ) (step : Step) (before after : ℕ) → AreWordReads len 9 2 0 8 step before after → AreWordReads len 9 2 line 8 step before after
+opener_reads len line (steps.Token token taken) before after reads = reads
+opener_reads len line (steps.Text text text_len stop taken) before after reads = absurd reads
+opener_reads len line (steps.Fault begin fault end) before after reads = by_fault (is_tab_error fault) reads
   where
-    by_step : (step : Step) → AreWordReads len 9 2 0 8 step before after → AreWordReads len 9 2 line 8 step before after
-    by_step (steps.Token token taken) reads = reads
-    by_step (steps.Text text text_len stop taken) reads = reads
-    by_step (steps.Fault begin fault end) reads = by_fault (is_tab_error fault) reads
-      where
-        by_fault : (tab : Bool) → AreFaultReads tab len 0 begin end (9 * (end - len) + 8) before after → AreFaultReads tab len line begin end (9 * (end - len) + 8) before after
-        by_fault true reads = absurd (omega (arith, reads.2))
-        by_fault false reads = reads
-opener_reads len line piece.End before after reads = reads
+    by_fault : (tab : Bool) → AreFaultReads tab len 0 begin end (9 * (end - len) + 8) before after → AreFaultReads tab len line begin end (9 * (end - len) + 8) before after
+    by_fault true reads = absurd (omega (arith, reads.2))
+    by_fault false reads = reads
 
--- a piece after its word, whose first line has `line` bytes
-pub piece_reads : (passed line : ℕ) (text : Text) (piece : Piece) (before between after : ℕ) → 0 < passed → line ≤ next_line text 0 → AreReads passed (5 * passed + 3) before between
-    → AreReadsAfter passed 9 line 8 piece between after → ArePieceReads 10 6 text piece before after
-piece_reads passed line text (piece.Nothing len is_gap) before between after some whole word reads =
-    ((omega (arith, word.0, reads.0, reads.1), omega (arith, some, word.1, reads.0, reads.1)), omega (arith, some, reads.0))
-piece_reads passed line text (piece.LineEnd len) before between after some whole word reads =
-    ((omega (arith, word.0, reads.0, reads.1), omega (arith, some, word.1, reads.0, reads.1)), omega (arith, some, reads.0))
-piece_reads passed line text (piece.FString opening len) before between after some whole word reads =
-    ((omega (arith, word.0, reads.1, reads.2), omega (arith, some, word.1, reads.0, reads.2.1)), omega (arith, some, reads.0))
-piece_reads passed line text (piece.Lexed step) before between after some whole word reads = by_step step reads
+-- a step with its word, whose first line has `line` bytes
+pub whole_reads : (passed line : ℕ) (text : Text) (step : Step) (before between after : ℕ) → 0 < passed → line ≤ next_line text 0 → AreReads passed (5 * passed + 3) before between
+    → AreWordReads passed 9 2 line 8 step between after → AreStepReads 0 10 (next_line text 0) 6 step before after
+whole_reads passed line text (steps.Token token len) before between after some whole word reads = ((omega (arith, word.0, reads.0.0, reads.1), omega (arith, some, word.1, reads.0.1, reads.1)), omega (arith, some, reads.1))
+whole_reads passed line text (steps.Text text' text_len stop len) before between after some whole word reads = absurd reads
+whole_reads passed line text (steps.Fault begin fault end) before between after some whole word reads = by_fault (is_tab_error fault) reads
   where
-    by_step : (step : Step) → AreWordReads passed 9 2 line 8 step between after → AreStepReads 0 10 (next_line text 0) 6 step before after
-    by_step (steps.Token token len) reads = ((omega (arith, word.0, reads.0.0, reads.1), omega (arith, some, word.1, reads.0.1, reads.1)), omega (arith, some, reads.1))
-    by_step (steps.Text text text_len stop len) reads = absurd reads
-    by_step (steps.Fault begin fault end) reads = by_fault (is_tab_error fault) reads
-      where
-        by_fault : (tab : Bool) → AreFaultReads tab passed line begin end (9 * (end - passed) + 8) between after → AreReads begin (if tab then 5 * next_line text 0 + 3 else 10 * end + 6) before after
-        by_fault true reads = (omega (arith, word.0, reads.0.0, reads.1), omega (arith, whole, word.1, reads.0.1, reads.3))
-        by_fault false reads = (omega (arith, word.0, reads.0.0), omega (arith, some, word.1, reads.0.1, reads.1))
-piece_reads passed line text piece.End before between after some whole word reads = absurd reads
+    by_fault : (tab : Bool) → AreFaultReads tab passed line begin end (9 * (end - passed) + 8) between after → AreReads begin (if tab then 5 * next_line text 0 + 3 else 10 * end + 6) before after
+    by_fault true reads = (omega (arith, word.0, reads.0.0, reads.1), omega (arith, whole, word.1, reads.0.1, reads.3))
+    by_fault false reads = (omega (arith, word.0, reads.0.0), omega (arith, some, word.1, reads.0.1, reads.1))
 
--- a bang or a fault, where no word is
-pub none_reads : (text : Text) (piece : Piece) (before between after : ℕ) → 0 < length text → AreReads 0 3 before between → AreWordlessReads piece between after → ArePieceReads 10 6 text piece before after
-none_reads text (piece.Nothing len is_gap) before between after some none reads = absurd reads
-none_reads text (piece.LineEnd len) before between after some none reads = absurd reads
-none_reads text (piece.FString opening len) before between after some none reads = absurd reads
-none_reads text (piece.Lexed step) before between after some none reads = by_step step reads
+-- a fault where no word is
+pub none_reads : (text : Text) (step : Step) (before between after : ℕ) → 0 < length text → AreReads 0 3 before between → AreStepReads 0 3 0 2 step between after → AreStepReads 0 10 (next_line text 0) 6 step before after
+none_reads text (steps.Token token len) before between after some none reads = ((omega (arith, none.0, reads.0.0), omega (arith, none.1, reads.0.1, reads.1)), reads.1)
+none_reads text (steps.Text text' text_len stop len) before between after some none reads = ((omega (arith, none.0, reads.0.0), omega (arith, none.1, reads.0.1, reads.1)), reads.1)
+none_reads text (steps.Fault begin fault end) before between after some none reads = by_fault (is_tab_error fault) reads
   where
-    by_step : (step : Step) → AreStepReads 0 3 0 2 step between after → AreStepReads 0 10 (next_line text 0) 6 step before after
-    by_step (steps.Token token len) reads = ((omega (arith, none.0, reads.0.0), omega (arith, none.1, reads.0.1, reads.1)), reads.1)
-    by_step (steps.Text text text_len stop len) reads = ((omega (arith, none.0, reads.0.0), omega (arith, none.1, reads.0.1, reads.1)), reads.1)
-    by_step (steps.Fault begin fault end) reads = by_fault (is_tab_error fault) reads
-      where
-        line : 1 ≤ next_line text 0
-        line = let least = next_line_least text 0 some in omega (arith, least)
+    line : 1 ≤ next_line text 0
+    line = let least = next_line_least text 0 some in omega (arith, least)
 
-        by_fault : (tab : Bool) → AreReads begin (if tab then 5 * 0 + 3 else 3 * end + 2) between after → AreReads begin (if tab then 5 * next_line text 0 + 3 else 10 * end + 6) before after
-        by_fault true reads = (omega (arith, none.0, reads.0), omega (arith, line, none.1, reads.1))
-        by_fault false reads = (omega (arith, none.0, reads.0), omega (arith, none.1, reads.1))
-none_reads text piece.End before between after some none reads = absurd reads
+    by_fault : (tab : Bool) → AreReads begin (if tab then 5 * 0 + 3 else 3 * end + 2) between after → AreReads begin (if tab then 5 * next_line text 0 + 3 else 10 * end + 6) before after
+    by_fault true reads = (omega (arith, none.0, reads.0), omega (arith, line, none.1, reads.1))
+    by_fault false reads = (omega (arith, none.0, reads.0), omega (arith, none.1, reads.1))
 
 -- a fault, after the lookahead for a bang
-pub wordless_reads : (from to : ℕ) (step : Step) (before between after : ℕ) → between ≡ more_reads before 2 → IsFaultAt from to step → AreStepReads 0 1 0 0 step between after → AreStepReads 0 3 0 2 step before after
+pub wordless_reads : (from to : ℕ) (step : Step) (before between after : ℕ) → AreReads 2 2 before between → IsFaultAt from to step → AreStepReads 0 1 0 0 step between after → AreStepReads 0 3 0 2 step before after
 wordless_reads from to (steps.Token token taken) before between after bang is reads = absurd is
 wordless_reads from to (steps.Text text text_len stop taken) before between after bang is reads = absurd is
 wordless_reads from to (steps.Fault begin fault end) before between after bang is reads = by_fault (is_tab_error fault) is.2 reads
   where
     by_fault : (tab : Bool) → tab ≡ false → AreReads begin (if tab then 5 * 0 + 3 else 1 * end + 0) between after → AreReads begin (if tab then 5 * 0 + 3 else 3 * end + 2) before after
     by_fault true other reads = cc
-    by_fault false other reads = (omega (arith, bang, reads.0), omega (arith, bang, reads.1))
+    by_fault false other reads = (omega (arith, bang.0, reads.0), omega (arith, bang.1, reads.1))
 
 -- an f-string text
 pub chunk_reads : (line : ℕ) (step : Step) (before after : ℕ) → AreStepReads 0 8 0 6 step before after → AreStepReads 0 10 line 6 step before after

@@ -7,7 +7,9 @@ use Rattle.starlark_grammar.specs.Words.{Text, language}
 use Rattle.starlark_grammar.specs.Numbers.{integer_of}
 use Rattle.starlark_grammar.specs.Tokens as Tokens
 use Rattle.starlark_grammar.specs.Tokens.{Fault, Spanned, moved}
+use Rattle.starlark_grammar.specs.declared.class.Class.{Class}
 use Rattle.starlark_grammar.specs.declared.class.Class.TheVariants as class
+use Rattle.std.proofs.lemmas.List.{length-drop, length-take}
 use Rattle.starlark_grammar.specs.declared.class.LiteralKind.{LiteralKind}
 use Rattle.starlark_grammar.specs.declared.class.LiteralKind.TheVariants.{Text as OfText, Bytes as OfBytes, FString as OfFString}
 use Rattle.starlark_grammar.specs.declared.class.Quote.{Quote}
@@ -36,40 +38,28 @@ use Rattle.starlark_grammar.specs.Reading.{History, next_step, situation}
 use Rattle.starlark_reader.specs.Inner.Pending.{IsIdle}
 use Rattle.starlark_token.specs.declared.tokens.Token.{Token}
 use Rattle.starlark_words.specs.declared.scanner.word.Word.{Word}
-use Rattle.starlark_reader.specs.Inner.PieceViews.{IsAfter, IsPiece, is_code, nothing_of}
+use Rattle.starlark_reader.specs.Inner.PieceViews.{IsAfter, is_code, nothing_of}
 use Rattle.starlark_reader.specs.Inner.Reader.{IsAhead, IsAheadAfter, IsAheadPast, IsBangHere, IsInCode, IsPlainTextHere, IsStateAfter, IsRead, IsReadPast, IsReady, IsTokenOf, IsWordHere, before_view, left_here, silent_sort, step_here}
 use Rattle.starlark_reader.specs.Inner.StepViews.{IsDigitAt}
 use Rattle.starlark_token.specs.TokenViews.{TokenView, Whole, token_view}
 use Rattle.starlark_reader.specs.declared.nesting.LexerMode.{LexerMode}
 use Rattle.starlark_reader.specs.declared.nesting.LexerMode.TheVariants as modes
 use Rattle.starlark_reader.specs.declared.changes.NestingChange.TheVariants as change
-use Rattle.starlark_reader.specs.declared.reading.Piece as code
 use Rattle.starlark_reader.specs.declared.reader.Before as sort
 use Rattle.starlark_reader.specs.declared.reader.Before.TheVariants as before
 use Rattle.starlark_reader.specs.declared.reader.Reader.{Reader}
 use Rattle.starlark_reader.specs.declared.reader.Stage.TheVariants as stage
-use Rattle.starlark_reader.proofs.TakenPieces.CodePlaces.{bang_at, in_text, word_at, word_cut, word_len}
+use Rattle.starlark_reader.proofs.TakenPieces.CodePlaces.{bang_at, in_text, word_at, word_cut, word_len, word_some}
 use Rattle.starlark_reader.proofs.TakenPieces.Here.{piece_here, shown_own}
 use Rattle.starlark_reader.proofs.TakenPieces.Taken.{none_before, past_ahead, read_ahead, took, took_past}
 use Rattle.starlark_reader.proofs.TakenMargins.Waiting.{HandsPast, hands_none, passes_one}
 
--- the piece that was read is the step at the reader's offset
-pub piece_read : (text : Text) (history : History) (reader : Reader) (mode : LexerMode) (balanced follows_gap : Bool) (rest : Text) (piece : code.Piece) → rest ≡ drop reader.at text → IsStateAfter text history reader
-    → ((tokens : List Rattle.starlark_grammar.specs.Tokens.Token) → Represents tokens reader.nesting → mode_view mode ≡ mode_after tokens)
-    → ((tokens : List Rattle.starlark_grammar.specs.Tokens.Token) → Represents tokens reader.nesting → balanced ≡ is_balanced tokens)
-    → ((before : pieces.Before) → before_view reader.before ≡ before → IsAfter follows_gap before)
-    → ((s : Situation) → s.mode ≡ mode_view mode → s.is_balanced ≡ balanced → IsAfter follows_gap s.before → IsPiece s.levels rest (step_at language s rest) piece)
-    → IsPiece (open_widths history.widths) (drop reader.at text) (step_here text history reader) piece
-unfolding next_step situation
-piece_read text history reader mode balanced follows_gap rest piece e kept here count gap is =
-    subst (λ (t : Text). IsPiece (open_widths history.widths) t (step_at language (situation history) t) piece) e (is (situation history) (sym (here history.tokens kept.nesting)) (sym (count history.tokens kept.nesting)) (gap history.before kept.before))
-
 -- whether the piece right before is a skipped one
-abbrev is_gap_sort : sort.Before → Bool
+abbrev pub is_gap_sort : sort.Before → Bool
 is_gap_sort before.Gap = true
 is_gap_sort sort = false
 
-after_sort : (sort : sort.Before) (before : pieces.Before) → before_view sort ≡ before → IsAfter (is_gap_sort sort) before
+pub after_sort : (sort : sort.Before) (before : pieces.Before) → before_view sort ≡ before → IsAfter (is_gap_sort sort) before
 after_sort before.Layout before is = subst (IsAfter false) is refl
 after_sort before.Gap before is = subst (IsAfter true) is refl
 after_sort before.Other before is = subst (IsAfter false) is refl
@@ -110,6 +100,25 @@ word_read text history reader word kept here =
 pub name_here : (text : Text) (history : History) (reader : Reader) (len : ℕ) → IsStateAfter text history reader → IsWordHere text reader (record { class = class.Identifier; len = len }) → step_here text history reader ≡ pieces.token len (Tokens.Identifier (take len (drop reader.at text)))
 name_here text history reader len kept here =
     word_read text history reader (record { class = class.Identifier; len = len }) kept here ∙ ap (λ n. pieces.token n (Tokens.Identifier (take len (drop reader.at text)))) (word_len (drop reader.at text) class.Identifier len (sym here.front))
+
+-- a word has a byte at least, and lies inside of the text
+pub word_within : (text : Text) (history : History) (reader : Reader) (it : Class) (len : ℕ) → IsStateAfter text history reader → IsWordHere text reader (record { class = it; len = len }) → (1 ≤ len) × (reader.at + len ≤ length text)
+word_within text history reader it len kept here =
+    let rest = drop reader.at text in
+    (word_some rest it len (sym here.front), omega (arith, word_len rest it len (sym here.front), length-take len rest, length-drop reader.at text, kept.inside))
+
+pub name_step : (text : Text) (history : History) (reader : Reader) (len : ℕ) (value : String Global) → IsStateAfter text history reader → IsWordHere text reader (record { class = class.Identifier; len = len })
+    → string_bytes value ≡ take len (drop reader.at text) → IsStep (step_here text history reader) (step.Token (token.Identifier value) len)
+unfolding token_view
+name_step text history reader len value kept here is = (
+  Tokens.Identifier (take len (drop reader.at text)),
+  ap (λ t. Whole (Tokens.Identifier t)) is,
+  refl,
+  name_here text history reader len kept here,
+)
+
+pub gap_here : (text : Text) (history : History) (reader : Reader) (len : ℕ) → IsStateAfter text history reader → IsWordHere text reader (record { class = class.Skipped; len = len }) → step_here text history reader ≡ pieces.gap len
+gap_here text history reader len kept here = word_read text history reader (record { class = class.Skipped; len = len }) kept here ∙ ap pieces.gap (word_len (drop reader.at text) class.Skipped len (sym here.front))
 
 pub comment_step : (text : Text) (history : History) (reader : Reader) (len : ℕ) (value : String Global) → IsStateAfter text history reader → IsWordHere text reader (record { class = class.Comment; len = len })
     → string_bytes value ≡ drop 1 (take len (drop reader.at text)) → IsStep (step_here text history reader) (step.Token (token.Comment value) len)

@@ -1,5 +1,5 @@
 -- The reads of a reader after each of its steps.
-use Rattle.std.proofs.Common.{◌≡◌, ◌≤◌, ◌<◌, ◌+◌, ◌-◌, ◌*◌, ◌∙◌, ℕ, List, Option, drop, length, refl, subst, sym, arith}
+use Rattle.std.proofs.Common.{◌≡◌, ◌≢◌, ◌≤◌, ◌<◌, ◌+◌, ◌-◌, ◌*◌, ◌∙◌, ℕ, List, Option, drop, length, refl, subst, sym, arith}
 use Rattle.std.specs.Prelude.{IfErr, Result, Ok, Err}
 use Rattle.starlark_grammar.specs.AfterFaults.{next_line}
 use Rattle.starlark_grammar.specs.Reading.{History}
@@ -10,13 +10,14 @@ use Rattle.starlark_reader.specs.Inner.Reader.{IsAhead, IsLeft, IsStateAfter, hi
 use Rattle.starlark_words.specs.Inner.Reads.{AreReads, more_reads}
 use Rattle.starlark_reader.specs.Inner.Pending.{owed}
 use Rattle.starlark_reader.specs.Inner.StepViews.{IsStep}
-use Rattle.starlark_reader.specs.Inner.ReadBounds.{AreStepReads, HasStarted, HasLooked, HasLookedHere, HasRead, HasReadAt, IsMarginRead, IsPassed, IsPassedBy, LeavesReads}
+use Rattle.starlark_reader.specs.Inner.ReadBounds.{AreStepReads, HasStarted, HasLooked, HasLookedHere, HasRead, HasReadAt, IsMarginRead, IsPassed, IsPassedBy, IsTaken, LeavesReads}
 use Rattle.starlark_reader.proofs.TakenPieces.Here.{fault_here}
 use Rattle.starlark_reader.proofs.TakenPieces.RepairReads.{moved_repair}
 use Rattle.starlark_reader.proofs.TakenPieces.SearchReads.{fault_restart, step_search}
-use Rattle.starlark_reader.specs.declared.reading.Piece.TheVariants as piece
 use Rattle.starlark_reader.specs.declared.literal.pieces.Step.{Step}
 use Rattle.starlark_reader.specs.declared.literal.pieces.Step.TheVariants as steps
+use Rattle.starlark_reader.specs.declared.reader.LineEnd.{LineEnd}
+use Rattle.starlark_reader.specs.declared.reader.LineEnd.TheVariants as line_end
 use Rattle.starlark_reader.specs.declared.reader.Reader.{Reader}
 use Rattle.starlark_reader.specs.declared.reader.Stage.{Stage}
 use Rattle.starlark_reader.specs.declared.reader.Stage.TheVariants as stages
@@ -33,7 +34,7 @@ onward_reads text beside len before old new has read passed =
 
 -- the reads after a token or an f-string text, or at a fault
 pub step_reads : (text : Text) (beside before : ℕ) (history : History) (step : Step) (old new : Reader) → IsStateAfter text history old → IsStep (step_here text history old) step
-    → IsReadBefore beside before old.at (owed old.pending) → AreStepReads 0 10 (next_line (drop old.at text) 0) 6 step before old.reads → LeavesReads 0 (drop old.at text) (piece.Lexed step) before old.reads → IsPassed old step new → HasRead text beside new
+    → IsReadBefore beside before old.at (owed old.pending) → AreStepReads 0 10 (next_line (drop old.at text) 0) 6 step before old.reads → LeavesReads 0 (drop old.at text) step before old.reads → IsPassed old step new → HasRead text beside new
 step_reads text beside before history (steps.Token token len) old new kept stands has read leaves passed = onward_reads text beside len before old new has (omega (arith, read.0.0), omega (arith, read.0.1)) passed
 step_reads text beside before history (steps.Text chunk chunk_len stop len) old new kept stands has read leaves passed = onward_reads text beside (chunk_len + len) before old new has (omega (arith, read.0.0), omega (arith, read.0.1)) passed
 step_reads text beside before history (steps.Fault begin fault end) old new kept stands has read leaves passed =
@@ -47,6 +48,15 @@ step_reads text beside before history (steps.Fault begin fault end) old new kept
           (omega (arith, after, search, has.1, read.1, passed.0.1, passed.0.2), λ keeps inside. omega (arith, repair, leaves node is keeps, has.1, passed.0.1, passed.0.2)),
     )
 
+-- a word that was taken as it is
+pub word_taken : (text : Text) (beside len before : ℕ) (old new : Reader) → IsReadBefore beside before old.at (owed old.pending) → AreReads len (5 * len + 3) before old.reads → IsTaken len old new → HasRead text beside new
+word_taken text beside len before old new has read taken = onward_reads text beside len before old new has (read.0, omega (arith, read.1, taken.0)) (taken.1, taken.2)
+
+-- an f-string that begins
+pub word_begun : (text : Text) (beside len before : ℕ) (old new : Reader) → 1 ≤ len → IsReadBefore beside before old.at (owed old.pending) → AreReads len (5 * len + 3) before old.reads → HasStarted len old new → HasRead text beside new
+word_begun text beside len before old new some has read begun =
+    subst (HasReadAt text beside new) (sym begun.2) (omega (arith, has.0, read.0, begun.1, begun.4.0), omega (arith, some, has.1, read.0, read.1, begun.0, begun.3, begun.4.1))
+
 -- the reads after a newline and its margin
 pub line_reads : (text : Text) (beside len before : ℕ) (old new : Reader) → old.at + len ≤ length text → IsReadBefore beside before old.at (owed old.pending) → AreReads len (5 * len + 3) before old.reads → 0 < len
     → IsMarginRead text len old new new.stage → HasRead text beside new
@@ -58,11 +68,13 @@ line_reads text beside len before old new inside has read some margin = go new.s
     go (stages.Fault begin fault end) margin = (omega (arith, has.0, read.0, margin.0, margin.1), λ node is. let there = margin.2 node is in (omega (arith, has.1, read.1, there.0, there.1, there.2), λ keeps inside. let tab = there.3 keeps in cc))
     go stages.Closed margin = absurd margin
 
--- the reads at the end of the text
-pub end_reads : (text : Text) (beside rest before : ℕ) (old new : Reader) → length text ≡ old.at + rest → IsReadBefore beside before old.at (owed old.pending) → (old.reads ≡ before) × (rest ≡ 0)
-    → IsPassedBy old.at old new × (new.stage ≡ stages.Closed) → HasRead text beside new
-end_reads text beside rest before old new whole has read passed =
-    subst (HasReadAt text beside new) (sym passed.1) (omega (arith, whole, has.0, read.0, read.1, passed.0.1), omega (arith, whole, has.1, read.0, passed.0.1, passed.0.2))
+-- the reads after a newline, which counts or is passed
+pub newline_reads : (text : Text) (beside len before : ℕ) (it : LineEnd) (old new : Reader) → 1 ≤ len → old.at + len ≤ length text → IsReadBefore beside before old.at (owed old.pending) → AreReads len (5 * len + 3) before old.reads
+    → (it ≡ line_end.Passed → IsTaken len old new) → (it ≢ line_end.Passed → IsMarginRead text len old new new.stage) → HasRead text beside new
+newline_reads text beside len before line_end.Passed old new some inside has read taken margin = word_taken text beside len before old new has read (taken refl)
+newline_reads text beside len before line_end.Newline old new some inside has read taken margin = line_reads text beside len before old new inside has read some (margin (λ e. cc))
+newline_reads text beside len before line_end.Pending old new some inside has read taken margin = line_reads text beside len before old new inside has read some (margin (λ e. cc))
+newline_reads text beside len before line_end.Fault old new some inside has read taken margin = line_reads text beside len before old new inside has read some (margin (λ e. cc))
 
 -- the reads after a pending lexeme was yielded
 pub pending_reads : (text : Text) (beside : ℕ) (old new : Reader) → new.at ≡ old.at → more_reads old.reads 0 ≤ new.reads → new.reads + 5 * owed new.pending ≤ old.reads + 5 * owed old.pending
@@ -109,10 +121,6 @@ taken_reads text beside least most len old mid new onward has lookahead enough f
 pub here_taken_reads : (text : Text) (beside least most len : ℕ) (old mid new : Reader) → old.stage ≡ stages.Onward → HasRead text beside old → HasLookedHere least most old mid → len ≤ least → most ≤ 10 * len
     → IsPassedBy (mid.at + len) mid new × (new.stage ≡ stages.Onward) → HasRead text beside new
 here_taken_reads text beside least most len old mid new onward has lookahead = taken_reads text beside least most len old mid new onward has (here_looked least most old mid lookahead)
-
--- the reads of two peeks together
-pub looked_twice : (least most more_least more_most : ℕ) (old mid new : Reader) → HasLookedHere least most old mid → HasLookedHere more_least more_most mid new → HasLookedHere (least + more_least) (most + more_most) old new
-looked_twice least most more_least more_most old mid new first second = (second.0 ∙ first.0, second.1 ∙ first.1, omega (arith, first.2, second.2), (omega (arith, first.3.0, second.3.0), omega (arith, first.3.1, second.3.1)))
 
 -- lookahead at an f-string's opener is part of the reads of its start
 pub begun_reads : (text : Text) (beside len : ℕ) (old mid new : Reader) → 1 ≤ len → old.stage ≡ stages.Onward → HasRead text beside old → HasLooked len (5 * len + 3) old mid → HasStarted len mid new → HasRead text beside new

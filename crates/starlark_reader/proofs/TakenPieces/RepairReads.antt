@@ -1,5 +1,5 @@
 -- Reads of a fault that may keep its line leave some for its repair.
-use Rattle.std.proofs.Common.{◌≡◌, ◌≤◌, ◌+◌, ◌-◌, ◌*◌, ◌==◌, Bool, true, false, ℕ, zero, suc, List, [], ◌∷◌, Some, cond, length, drop, take, nat_eq, refl, ap, sym, subst, ◌∙◌, arith}
+use Rattle.std.proofs.Common.{◌≡◌, ◌≤◌, ◌+◌, ◌-◌, ◌*◌, Bool, true, false, ℕ, zero, suc, List, [], ◌∷◌, Some, cond, length, drop, take, nat_eq, refl, ap, sym, subst, ◌∙◌, arith}
 use Rattle.std.specs.Prelude.{if◌then◌else◌}
 use Rattle.std.specs.List.{list_all, prefix_len}
 use Rattle.std.proofs.lemmas.Bool.{and_parts}
@@ -8,8 +8,7 @@ use Rattle.starlark_grammar.specs.Inner.KeptFaults.{may_keep}
 use Rattle.starlark_grammar.specs.Pieces as grammar
 use Rattle.starlark_grammar.specs.Pieces.{Fails, Situation, starts_zero, word_step}
 use Rattle.starlark_grammar.specs.Repairs.{repair_end}
-use Rattle.starlark_grammar.specs.Numbers.{integer_of}
-use Rattle.starlark_grammar.specs.Tokens.{Fault, Int, InvalidTab, Opening, Spanned, StartsZero}
+use Rattle.starlark_grammar.specs.Tokens.{Fault, InvalidTab, Opening, Spanned}
 use Rattle.starlark_grammar.specs.Words.{Text, class_in, is_run, language, line_ends, names, openers, symbols}
 use Rattle.starlark_grammar.specs.declared.class.Class.{Class}
 use Rattle.starlark_grammar.specs.declared.class.Class.TheVariants as class
@@ -19,12 +18,10 @@ use Rattle.starlark_grammar.proofs.Repairs.Faults.{chunk_lost, step_keeps}
 use Rattle.starlark_grammar.proofs.Lists.{drop-sum}
 use Rattle.starlark_grammar.proofs.Words.Classes.{RowsFit, language_all_fit, patterns_all_fit}
 use Rattle.starlark_reader.specs.Inner.ReadBounds.{AreStepReads, IsFaultAt, LeavesReads, is_tab_view}
-use Rattle.starlark_words.specs.Inner.Reads.{more_reads}
+use Rattle.starlark_words.specs.Inner.Reads.{AreReads}
 use Rattle.starlark_reader.specs.Inner.StepViews.{IsStep}
 use Rattle.starlark_reader.specs.declared.literal.pieces.Step.{Step}
 use Rattle.starlark_reader.specs.declared.literal.pieces.Step.TheVariants as steps
-use Rattle.starlark_reader.specs.declared.reading.Piece.{Piece}
-use Rattle.starlark_reader.specs.declared.reading.Piece.TheVariants as piece
 
 -- what the bound says of a step of the grammar
 abbrev pub Leaves : (spent : ℕ) → Text → grammar.Step → (before after : ℕ) → Type 0
@@ -32,7 +29,7 @@ Leaves spent text stands before after =
     (fault : Spanned Fault) → stands ≡ Fails fault → may_keep fault.node ≡ true → after + spent + (repair_end text fault - fault.begin) + 1 ≤ before + 10 * (repair_end text fault - fault.begin)
 
 -- so it says it of the step of the code
-pub step_leaves : (spent : ℕ) (text : Text) (stands : grammar.Step) (step : Step) (before after : ℕ) → IsStep stands step → Leaves spent text stands before after → LeavesReads spent text (piece.Lexed step) before after
+pub step_leaves : (spent : ℕ) (text : Text) (stands : grammar.Step) (step : Step) (before after : ℕ) → IsStep stands step → Leaves spent text stands before after → LeavesReads spent text step before after
 step_leaves spent text stands (steps.Token token len) before after is leaves = tt
 step_leaves spent text stands (steps.Text value text_len stop len) before after is leaves = tt
 step_leaves spent text stands (steps.Fault begin fault end) before after is leaves = λ node view keeps.
@@ -40,7 +37,7 @@ step_leaves spent text stands (steps.Fault begin fault end) before after is leav
     let same : is.0 ≡ node = cc in
     leaves (record { begin = begin; node = node; end = end }) (is.2 ∙ ap (λ node. grammar.fault begin node end) same) keeps
 
-pub no_repair : (spent : ℕ) (text : Text) (stands : grammar.Step) (step : Step) (before after : ℕ) → IsStep stands step → step_keeps stands ≡ false → LeavesReads spent text (piece.Lexed step) before after
+pub no_repair : (spent : ℕ) (text : Text) (stands : grammar.Step) (step : Step) (before after : ℕ) → IsStep stands step → step_keeps stands ≡ false → LeavesReads spent text step before after
 no_repair spent text stands step before after is none = step_leaves spent text stands step before after is (λ fault e keeps. let some : step_keeps stands ≡ true = ap step_keeps e ∙ keeps in cc)
 
 -- no text of an f-string is such a fault
@@ -81,19 +78,6 @@ tabs_leave word reads known some = λ fault e keeps.
     let whole = run_passed (nat_eq 9) word (tabs_are word class.Tabs known) in
     subst (λ (fault : Spanned Fault). reads + (5 * length word + 3) + (repair_end word fault - fault.begin) + 1 ≤ reads + 10 * (repair_end word fault - fault.begin)) same (omega (arith, whole, some))
 
--- a decimal integer with a leading 0
-pub zero_leaves : (s : Situation) (word remainder : Text) (before after : ℕ) → after ≤ before + 2 → Leaves (5 * length word + 3) word (word_step s class.Decimal word remainder) before after
-zero_leaves s word remainder before after few = λ fault e keeps. by (starts_zero word) refl fault e keeps
-  where
-    several : (word : Text) → starts_zero word ≡ true → 2 ≤ length word
-    several [] zeroes = cc
-    several (a ∷ []) zeroes = let parts = and_parts (a == 48) false zeroes in cc
-    several (a ∷ b ∷ bs) zeroes = omega arith
-
-    by : (zeroes : Bool) → starts_zero word ≡ zeroes → Leaves (5 * length word + 3) word (if zeroes then grammar.fault 0 (StartsZero word) (length word) else grammar.token (length word) (Int (integer_of 10 word))) before after
-    by true e = word_leaves word (5 * length word + 3) (length word) (StartsZero word) before after refl (omega (arith, few, several word e))
-    by false e = λ fault e keeps. cc
-
 -- A text has at least the tabs of its front.
 front_tabs : (n : ℕ) (text : Text) → prefix_len (nat_eq 9) (take n text) ≤ prefix_len (nat_eq 9) text
 front_tabs zero text = omega arith
@@ -120,35 +104,27 @@ front_repair n text fault = by (is_tab fault.node)
         omega (arith, front_tabs front.0 (drop fault.begin text), ap (prefix_len (nat_eq 9)) front.1)
     by false = omega arith
 
--- the reads of a word's piece, with those of the word itself
-pub front_leaves : (n spent : ℕ) (text : Text) (it : Piece) (before between after : ℕ) → between ≤ before + spent → LeavesReads spent (take n text) it between after → LeavesReads 0 text it before after
-front_leaves n spent text (piece.Nothing len is_gap) before between after read leaves = tt
-front_leaves n spent text (piece.LineEnd len) before between after read leaves = tt
-front_leaves n spent text (piece.FString opening len) before between after read leaves = tt
-front_leaves n spent text (piece.Lexed (steps.Token token len)) before between after read leaves = tt
-front_leaves n spent text (piece.Lexed (steps.Text value text_len stop len)) before between after read leaves = tt
-front_leaves n spent text (piece.Lexed (steps.Fault begin fault end)) before between after read leaves = λ node view keeps.
+-- the reads of a word's step, with those of the word itself
+pub front_leaves : (n spent : ℕ) (text : Text) (it : Step) (before between after : ℕ) → between ≤ before + spent → LeavesReads spent (take n text) it between after → LeavesReads 0 text it before after
+front_leaves n spent text (steps.Token token len) before between after read leaves = tt
+front_leaves n spent text (steps.Text value text_len stop len) before between after read leaves = tt
+front_leaves n spent text (steps.Fault begin fault end) before between after read leaves = λ node view keeps.
     omega (arith, read, leaves node view keeps, front_repair n text (record { begin = begin; node = node; end = end }))
-front_leaves n spent text piece.End before between after read leaves = tt
 
 -- the same text, with reads before
-pub none_leave : (spent : ℕ) (text : Text) (it : Piece) (before between after : ℕ) → between ≤ before + spent → LeavesReads spent text it between after → LeavesReads 0 text it before after
-none_leave spent text (piece.Nothing len is_gap) before between after read leaves = tt
-none_leave spent text (piece.LineEnd len) before between after read leaves = tt
-none_leave spent text (piece.FString opening len) before between after read leaves = tt
-none_leave spent text (piece.Lexed (steps.Token token len)) before between after read leaves = tt
-none_leave spent text (piece.Lexed (steps.Text value text_len stop len)) before between after read leaves = tt
-none_leave spent text (piece.Lexed (steps.Fault begin fault end)) before between after read leaves = λ node view keeps. omega (arith, read, leaves node view keeps)
-none_leave spent text piece.End before between after read leaves = tt
+pub none_leave : (spent : ℕ) (text : Text) (it : Step) (before between after : ℕ) → between ≤ before + spent → LeavesReads spent text it between after → LeavesReads 0 text it before after
+none_leave spent text (steps.Token token len) before between after read leaves = tt
+none_leave spent text (steps.Text value text_len stop len) before between after read leaves = tt
+none_leave spent text (steps.Fault begin fault end) before between after read leaves = λ node view keeps. omega (arith, read, leaves node view keeps)
 
 -- a character that begins no word, after the lookahead for a bang
-pub character_leaves : (text : Text) (from to : ℕ) (step : Step) (before between after : ℕ) → from ≡ 0 → 1 ≤ to → between ≡ more_reads before 2 → IsFaultAt from to step → AreStepReads 0 1 0 0 step between after → LeavesReads 3 text (piece.Lexed step) before after
+pub character_leaves : (text : Text) (from to : ℕ) (step : Step) (before between after : ℕ) → from ≡ 0 → 1 ≤ to → AreReads 2 2 before between → IsFaultAt from to step → AreStepReads 0 1 0 0 step between after → LeavesReads 3 text step before after
 character_leaves text from to (steps.Token token len) before between after start some bang is reads = absurd is
 character_leaves text from to (steps.Text value text_len stop len) before between after start some bang is reads = absurd is
 character_leaves text from to (steps.Fault begin fault end) before between after start some bang is reads = λ node view keeps.
     let other : is_tab node ≡ false = sym (ap is_tab_view view) ∙ is.2 in
     let read : after ≤ between + (1 * end + 0) = subst (λ tab. after ≤ between + (if tab then 5 * 0 + 3 else 1 * end + 0)) is.2 reads.1 in
-    rw other (omega (arith, start, some, bang, is.0, is.1, read))
+    rw other (omega (arith, start, some, bang.1, is.0, is.1, read))
 
 -- a repair in the rest of a text, at its place in the text
 pub moved_repair : (text : Text) (at begin end : ℕ) (node : Fault) → repair_end text (record { begin = at + begin; node = node; end = at + end }) ≡ at + repair_end (drop at text) (record { begin = begin; node = node; end = end })

@@ -1,6 +1,6 @@
 -- Numbers of reads of bytes, by what was read.
 use Rattle.std.specs.Prelude.{◌≡◌, ◌≤◌, ◌<◌, ◌+◌, ◌-◌, ◌*◌, if◌then◌else◌, Bool, true, false, ℕ, Option, None, Some, length, max, ⊤}
-use Rattle.starlark_grammar.specs.AfterFaults.{is_margin_tab, is_tab, next_line, restart}
+use Rattle.starlark_grammar.specs.AfterFaults.{is_margin_tab, is_tab, restart}
 use Rattle.starlark_grammar.specs.Inner.KeptFaults.{may_keep}
 use Rattle.starlark_grammar.specs.Repairs.{repair_end}
 use Rattle.starlark_grammar.specs.Tokens.{Fault, Spanned}
@@ -11,8 +11,6 @@ use Rattle.starlark_words.specs.Inner.Reads.{AreReads, more_reads}
 use Rattle.starlark_reader.specs.Searches.{search_reads}
 use Rattle.starlark_reader.specs.declared.literal.pieces.Step.{Step}
 use Rattle.starlark_reader.specs.declared.literal.pieces.Step.TheVariants as step
-use Rattle.starlark_reader.specs.declared.reading.Piece.{Piece}
-use Rattle.starlark_reader.specs.declared.reading.Piece.TheVariants as piece
 use Rattle.starlark_reader.specs.declared.reader.Reader.{Reader}
 use Rattle.starlark_reader.specs.declared.reader.Stage.{Stage}
 use Rattle.starlark_reader.specs.declared.reader.Stage.TheVariants as stage
@@ -62,38 +60,16 @@ AreWordReads passed factor more line extra (step.Token token len) before after =
 AreWordReads passed factor more line extra (step.Text text text_len stop len) before after = ⊥
 AreWordReads passed factor more line extra (step.Fault begin fault end) before after = AreFaultReads (is_tab_error fault) passed line begin end (factor * (end - passed) + extra) before after
 
--- reads of a piece at the start of a text: at most `factor` a byte, and fewer of a newline; those of
--- a fault are of bytes up to its end, and those of a tab's fault of the text's first line
-abbrev pub ArePieceReads : (factor extra : ℕ) → Text → Piece → (before after : ℕ) → Type 0
-ArePieceReads factor extra text (piece.Nothing len is_gap) before after = AreReads len (factor * len) before after × (0 < len)
-ArePieceReads factor extra text (piece.LineEnd len) before after = AreReads len (5 * len + 3) before after × (0 < len)
-ArePieceReads factor extra text (piece.FString opening len) before after = AreReads len (factor * len) before after × (0 < len)
-ArePieceReads factor extra text (piece.Lexed step) before after = AreStepReads 0 factor (next_line text 0) extra step before after
-ArePieceReads factor extra text piece.End before after = (after ≡ before) × (length text ≡ 0)
-
--- reads of a piece that is no word: a bang, or a character that no word begins with
-abbrev pub AreWordlessReads : Piece → (before after : ℕ) → Type 0
-AreWordlessReads (piece.Lexed step) before after = AreStepReads 0 3 0 2 step before after
-AreWordlessReads piece before after = ⊥
-
--- reads of a piece after its word of `passed` bytes, which were read before
-abbrev pub AreReadsAfter : (passed factor line extra : ℕ) → Piece → (before after : ℕ) → Type 0
-AreReadsAfter passed factor line extra (piece.Nothing len is_gap) before after = (len ≡ passed) × (after ≡ before)
-AreReadsAfter passed factor line extra (piece.LineEnd len) before after = (len ≡ passed) × (after ≡ before)
-AreReadsAfter passed factor line extra (piece.FString opening len) before after = (passed ≤ len) × (len ≤ passed + 2) × AreReads 2 2 before after
-AreReadsAfter passed factor line extra (piece.Lexed step) before after = AreWordReads passed factor 2 line extra step before after
-AreReadsAfter passed factor line extra piece.End before after = ⊥
-
 -- the fault is as `P` says, as the grammar sees it
 abbrev pub AtFault : ℕ → LexemeError → ℕ → (Spanned Fault → Type 0) → Type 0
 AtFault begin fault end P = (node : Fault) → fault_view fault ≡ Some node → P (record { begin = begin; node = node; end = end })
 
 -- reads up to a fault that may keep its line, after `spent` others, leave one for each byte of its
 -- repair and one more: all are at most ten for each of these bytes
-abbrev pub LeavesReads : (spent : ℕ) → Text → Piece → (before after : ℕ) → Type 0
-LeavesReads spent text (piece.Lexed (step.Fault begin fault end)) before after =
+abbrev pub LeavesReads : (spent : ℕ) → Text → Step → (before after : ℕ) → Type 0
+LeavesReads spent text (step.Fault begin fault end) before after =
     AtFault begin fault end (λ spanned. may_keep spanned.node ≡ true → after + spent + (repair_end text spanned - begin) + 1 ≤ before + 10 * (repair_end text spanned - begin))
-LeavesReads spent text piece before after = ⊤
+LeavesReads spent text step before after = ⊤
 
 -- the reader advanced to byte `at`, and read nothing
 abbrev pub IsPassedBy : ℕ → Reader → Reader → Type 0

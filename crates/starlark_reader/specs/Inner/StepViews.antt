@@ -1,5 +1,5 @@
 -- Steps of the code, as the grammar sees them.
-use Rattle.std.specs.Prelude.{◌≡◌, ℕ, ◌<◌, ◌+◌, ◌++◌, ◌∷◌, [], false, Some, drop, string_bytes, take}
+use Rattle.std.specs.Prelude.{◌≡◌, ℕ, ◌<◌, ◌+◌, ◌++◌, ◌∷◌, [], false, true, Some, drop, string_bytes, take, ⊤}
 use Rattle.std.specs.Str.{IsCharBoundary}
 use Rattle.starlark_grammar.specs.Words.{Text}
 use Rattle.starlark_grammar.specs.Tokens as grammar
@@ -45,3 +45,10 @@ IsStep stands (step.Fault begin fault end) = (node : grammar.Fault) × (fault_vi
 pub record IsPlainText (opening : Opening) (text : Text) (found : PlainText) : Type 0 where
   pub boundary : IsCharBoundary text found.len
   pub stands : pieces.chunk (opening_view opening) text ≡ text_step found.len (take found.len text) found.stop found.stop_len
+
+-- a word that is a fault: tabs, a reserved word, or a 0 before more digits
+abbrev pub IsFaultWord : Class → Text → Type 0
+IsFaultWord class.Tabs word = ⊤
+IsFaultWord class.Reserved word = ⊤
+IsFaultWord class.Decimal word = pieces.starts_zero word ≡ true
+IsFaultWord it word = ⊥

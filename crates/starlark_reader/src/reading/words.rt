@@ -1,16 +1,14 @@
-//! Words with many spellings, as tokens or faults.
+//! Numbers as tokens, and words that are faults.
 
-ghost use Rattle.std.specs.Prelude.{◌≡◌, ◌≤◌, ◌<◌, ◌+◌, ◌∷◌, [], Some, drop, false, length, true, IfOk};
+ghost use Rattle.std.specs.Prelude.{◌≡◌, ◌≤◌, ◌<◌, ◌+◌, ◌*◌, ◌∷◌, ℕ, [], Some, drop, length, true, IfOk};
 ghost use Rattle.std.specs.Char.{is_digit};
-ghost use Rattle.starlark_words.specs.Inner.Reads.{more_reads};
+ghost use Rattle.starlark_grammar.specs.AfterFaults.{next_line};
 ghost use Rattle.starlark_words.specs.Inner.ScannedWords.{is_number};
-ghost use Rattle.starlark_reader.specs.Inner.ReadBounds.{IsOfWord, IsTabFault};
-ghost use Rattle.starlark_reader.specs.Inner.StepViews.{IsStep, number_of};
+ghost use Rattle.starlark_reader.specs.Inner.ReadBounds.{AreWordReads, LeavesReads};
+ghost use Rattle.starlark_reader.specs.Inner.StepViews.{IsFaultWord, IsStep, number_of};
 ghost use Rattle.starlark_grammar.specs.Numbers.{integer_of};
 ghost use Rattle.starlark_grammar.specs.Pieces as grammar;
 ghost use Rattle.starlark_grammar.specs.Tokens as tokens;
-ghost use Rattle.starlark_grammar.specs.declared.class.Class.TheVariants as class;
-ghost use Rattle.starlark_grammar.specs.declared.class.Class.TheVariants.{Decimal};
 ghost use Rattle.starlark_grammar.specs.Words.{Text, class_in, is_run, language};
 ghost use Rattle.starlark_token.specs.TokenViews.{Whole, token_view};
 
@@ -19,57 +17,8 @@ use starlark_token::lexeme_error::LexemeError;
 use starlark_token::number_text;
 use starlark_token::token_int::TokenInt;
 use starlark_token::tokens::Token;
-use starlark_words::reads::ReadCounter;
 use starlark_words::scanner::Class;
 use std::alloc::{AllocError, Global};
-
-/// The token of a comment, whose value leaves out the `#`.
-pub(crate) fn comment(alloc: Global, word: &str) -> Result<Step, AllocError>
-    requires { class_in language word.now ≡ Some class.Comment }
-    ensures step { IfOk result (IsStep (grammar.token (length word.now) (tokens.Comment (drop 1 word.now)))) }
-    ensures word { IfOk result (IsOfWord (length word.now)) }
-{
-    Ok(Step::Token {
-        token: Token::Comment(String::from_str(alloc, &word[1..])?),
-        len: word.len(),
-    })
-}
-
-/// The fault of tabs outside of a margin, at their start.
-pub(crate) fn tabs() -> Step
-    ensures step { IsStep (grammar.fault 0 tokens.InvalidTab 0) result }
-    ensures fault { IsTabFault result }
-{
-    Step::Fault {
-        begin: 0,
-        fault: LexemeError::InvalidTab,
-        end: 0,
-    }
-}
-
-/// The fault of a reserved word.
-pub(crate) fn reserved(alloc: Global, word: &str) -> Result<Step, AllocError>
-    ensures step { IfOk result (IsStep (grammar.fault 0 (tokens.ReservedKeyword word.now) (length word.now))) }
-    ensures word { IfOk result (IsOfWord (length word.now)) }
-{
-    Ok(Step::Fault {
-        begin: 0,
-        fault: LexemeError::ReservedKeyword(String::from_str(alloc, word)?),
-        end: word.len(),
-    })
-}
-
-/// The token of an identifier, with its name.
-#[inline(always)]
-pub(crate) fn identifier(alloc: Global, word: &str) -> Result<Step, AllocError>
-    ensures step { IfOk result (IsStep (grammar.token (length word.now) (tokens.Identifier word.now))) }
-    ensures word { IfOk result (IsOfWord (length word.now)) }
-{
-    Ok(Step::Token {
-        token: Token::Identifier(String::from_str(alloc, word)?),
-        len: word.len(),
-    })
-}
 
 /// The token of an integer, from its digits in a base.
 fn integer(alloc: Global, digits: &str, base: u32) -> Result<Token, AllocError>
@@ -97,20 +46,6 @@ pub(crate) fn number_token(alloc: Global, class: Class, word: &str) -> Result<To
     }
 }
 
-/// The step of a number that isn't a 0 before more digits.
-pub(crate) fn number(alloc: Global, class: Class, word: &str) -> Result<Step, AllocError>
-    requires number { is_number class ≡ true }
-    requires known { class_in language word.now ≡ Some class }
-    requires plain { class ≡ Decimal → grammar.starts_zero word.now ≡ false }
-    ensures step { IfOk result (λ step. (s : grammar.Situation) (remainder : Text) → IsStep (grammar.word_step s class word.now remainder) step) }
-    ensures word { IfOk result (IsOfWord (length word.now)) }
-{
-    Ok(Step::Token {
-        token: number_token(alloc, class, word)?,
-        len: word.len(),
-    })
-}
-
 /// The token of an integer of one digit, from its value. It doesn't allocate.
 #[inline(always)]
 pub(crate) fn digit_token(digit: u8) -> Token
@@ -128,23 +63,30 @@ pub(crate) fn starts_zero(word: &[u8]) -> bool
     matches!(word, [b'0', _, ..])
 }
 
-/// The token of a decimal integer, or the fault of a leading 0 before more digits.
-pub(crate) fn decimal(
-    reads: &mut ReadCounter,
-    alloc: Global,
-    word: &str,
-) -> Result<Step, AllocError>
-    requires { class_in language word.now ≡ Some class.Decimal }
-    ensures reads { reads.new ≡ more_reads reads.old 2 }
-    ensures step { IfOk result (λ step. (s : grammar.Situation) (remainder : Text) → IsStep (grammar.word_step s class.Decimal word.now remainder) step) }
-    ensures word { IfOk result (IsOfWord (length word.now)) }
+/// The fault of a word: of tabs, at their start, of a reserved word, or of a 0 before more digits.
+pub(crate) fn fault_step(alloc: Global, class: Class, word: &str) -> Result<Step, AllocError>
+    requires known { class_in language word.now ≡ Some class }
+    requires some { 0 < length word.now }
+    requires fault { IsFaultWord class word.now }
+    ensures step { IfOk result (λ step. (s : grammar.Situation) (remainder : Text) → IsStep (grammar.word_step s class word.now remainder) step) }
+    ensures reads { IfOk result (λ step. (reads : ℕ) → AreWordReads (length word.now) 9 2 (next_line word.now 0) 8 step reads reads) }
+    ensures leaves { IfOk result (λ step. (reads : ℕ) → LeavesReads (5 * length word.now + 3) word.now step reads reads) }
 {
-    if starts_zero(reads.front(word.as_bytes(), 2)) {
-        return Ok(Step::Fault {
+    match class {
+        Class::Tabs => Ok(Step::Fault {
+            begin: 0,
+            fault: LexemeError::InvalidTab,
+            end: 0,
+        }),
+        Class::Decimal => Ok(Step::Fault {
             begin: 0,
             fault: LexemeError::StartsZero(String::from_str(alloc, word)?),
             end: word.len(),
-        });
+        }),
+        _ => Ok(Step::Fault {
+            begin: 0,
+            fault: LexemeError::ReservedKeyword(String::from_str(alloc, word)?),
+            end: word.len(),
+        }),
     }
-    number(alloc, Class::Decimal, word)
 }

@@ -1,5 +1,5 @@
 -- How much lookahead a lexer has spent, and how many reads that took.
-use Rattle.std.specs.Prelude.{◌≡◌, ◌≤◌, ◌+◌, ◌-◌, ◌*◌, Bool, true, false, ℕ, Option, None, Some, length, ⊤}
+use Rattle.std.specs.Prelude.{◌≡◌, ◌≤◌, ◌+◌, ◌-◌, ◌*◌, Bool, true, false, ℕ, Some, length, ⊤}
 use Rattle.starlark_grammar.specs.AfterFaults.{restart}
 use Rattle.starlark_grammar.specs.Reading.{outcome}
 use Rattle.starlark_grammar.specs.Tokens.{Fault, Spanned}
@@ -13,7 +13,6 @@ use Rattle.starlark_reader.specs.Inner.ReadBounds.{HasLooked, HasRead}
 use Rattle.starlark_reader.specs.declared.reader.Reader.{Reader}
 use Rattle.starlark_reader.specs.declared.reader.Stage.TheVariants as stage
 use Rattle.starlark_words.specs.Inner.Reads.{more_reads}
-use Rattle.starlark_words.specs.declared.scanner.word.Word.{Word}
 use Rattle.starlark_syntax.specs.declared.lexer_state.Lookahead.{Lookahead}
 use Rattle.starlark_syntax.specs.declared.lexer_state.Lookahead.TheVariants as lookahead
 
@@ -50,11 +49,6 @@ IsLooked text reader to lookahead.Nothing = IsAtCode text reader × (to ≤ read
 IsLooked text reader to (lookahead.Word word) = IsWordHere text reader word × HasReadHere text to word.len reader
 IsLooked text reader to lookahead.Wordless = IsAtCode text reader × HasReadHere text to 0 reader
 IsLooked text reader to lookahead.All = HasSpared text reader to
-
--- what was found where the first two bytes tell no word
-abbrev pub found_word : Option Word → Lookahead
-found_word None = lookahead.Wordless
-found_word (Some word) = lookahead.Word word
 
 -- the fast path goes on only while no error has ended the lexer
 abbrev pub GoesOn : Lookahead → (has_ended : Bool) → Type 0

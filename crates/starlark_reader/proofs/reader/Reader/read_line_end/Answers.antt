@@ -1,18 +1,18 @@
-use Rattle.std.proofs.Common.{◌≡◌, ◌≢◌, ℕ, ◌+◌, Some, refl, subst}
-use Rattle.starlark_reader.specs.Inner.Reader.{IsLineEndStep, Takes, newline_of}
-use Rattle.starlark_reader.specs.declared.reader.LineEnd.{LineEnd}
-use Rattle.starlark_reader.specs.declared.reader.LineEnd.TheVariants as line_end
-use Rattle.starlark_token.specs.declared.tokens.Token.TheVariants as token
+use Rattle.std.proofs.Common.{◌≡◌, ◌+◌, ◌-◌, ◌∙◌, ap, arith, subst, sym}
+use Rattle.starlark_grammar.specs.declared.class.Class.TheVariants as class
+use Rattle.starlark_reader.specs.Inner.Reader.{TakesNext, newline_of}
+use Rattle.starlark_reader.proofs.TakenPieces.PieceTaken.{word_within}
+use Rattle.starlark_reader.proofs.TakenPieces.ReaderReads.{newline_reads}
+use Rattle.starlark_reader.proofs.TakenPieces.SameTexts.{state_here}
 use Rattle.starlark_reader.proofs.reader.Reader.read_line_end.Goals as goal
 
--- a newline that counts, and whose margin has no fault, is a token
-newline_given : (found : LineEnd) (at len : ℕ) → found ≢ line_end.Fault → found ≢ line_end.Passed → newline_of found at len ≡ Some (at, token.Newline, at + len)
-newline_given line_end.Newline at len faultless counts = refl
-newline_given line_end.Pending at len faultless counts = refl
-newline_given line_end.Fault at len faultless counts = absurd (faultless refl)
-newline_given line_end.Passed at len faultless counts = absurd (counts refl)
+pub returns-clause-ahead : goal.returns-clause-ahead
+returns-clause-ahead c =
+    let len : c.args.self.now.at + c.args.len - c.args.self.now.at ≡ c.args.len = omega arith in
+    subst (λ given. TakesNext c.args.self.now given c.take_line_end.new.self) (ap (newline_of c.in_ok-line_end.line_end c.args.self.now.at) (sym len) ∙ sym c.newline_of.ensures) c.in_ok-line_end.ensures.ahead
 
-pub returns-in_default-clause-read : goal.returns-in_default-clause-read
-returns-in_default-clause-read c =
-    subst (λ given. Takes c.args.self.now (IsLineEndStep c.args.self.now c.args.len) given c.lay_line_end.new.self)
-    (newline_given c.in_ok-lay_line_end.field-0 c.args.self.now.at c.args.len c.in_default.not-Fault c.in_ok-lay_line_end.ensures.counts) c.in_ok-lay_line_end.ensures.read
+pub returns-clause-reads : goal.returns-clause-reads
+returns-clause-reads c = λ beside before has read.
+    let left = state_here c.args.self.now c.requires.sound c.requires.stands.stage in
+    let within = word_within c.args.self.now.text.now left.0 c.args.self.now class.LineEnd c.args.len left.1 c.requires.stands in
+    newline_reads c.args.self.now.text.now beside c.args.len before c.in_ok-line_end.line_end c.args.self.now c.take_line_end.new.self within.0 within.1 has read c.in_ok-line_end.ensures.taken c.in_ok-line_end.ensures.reads

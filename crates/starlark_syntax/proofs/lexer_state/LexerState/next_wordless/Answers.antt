@@ -1,4 +1,4 @@
-use Rattle.std.proofs.Common.{◌≡◌, ◌∙◌, ◌+◌, ◌≤◌, ◌^◌, ap, arith, Some, refl, rules, subst, sym}
+use Rattle.std.proofs.Common.{◌∙◌, ◌+◌, ◌≤◌, ◌^◌, ap, arith, Some, refl, rules, subst, sym}
 use Rattle.starlark_grammar.specs.Words.{Text}
 use Rattle.starlark_reader.proofs.TakenPieces.PieceTaken.{left_onward}
 use Rattle.starlark_reader.proofs.TakenPieces.ReaderReads.{here_reads, read_more}

@@ -1,5 +1,5 @@
 use Rattle.std.proofs.Common.{◌≡◌, ◌+◌, ap, refl, subst, sym, ◌∙◌, Ok, Err, Some}
-use Rattle.starlark_syntax.specs.Inner.RecoveryStates.{IsAdvanced, IsRecovering, IsStopped, last_comment, view_of}
+use Rattle.starlark_syntax.specs.Inner.RecoveryStates.{IsRecovering, IsStopped, last_comment, view_of}
 use Rattle.starlark_syntax.specs.RecoveringLexer.{IsNextOf}
 use Rattle.starlark_syntax.specs.declared.recovery_state.RecoveryState.{RecoveryState}
 use Rattle.starlark_syntax.proofs.RecoverySteps.{fault_on, lexeme_next, lexeme_recovering, memory_next, some_goes, stopped_here}

@@ -1,0 +1,63 @@
+use Rattle.std.proofs.Common.{◌≡◌, ◌+◌, ◌*◌, ap, drop, sym, take, ◌∙◌}
+use Rattle.starlark_grammar.proofs.Repairs.Faults.{opener_lost}
+use Rattle.starlark_grammar.specs.AfterFaults.{next_line}
+use Rattle.starlark_grammar.specs.Cuts.{is_outside}
+use Rattle.starlark_grammar.specs.Depths.{mode_after}
+use Rattle.starlark_grammar.specs.Front.{language_front}
+use Rattle.starlark_grammar.specs.Pieces as grammar
+use Rattle.starlark_grammar.specs.declared.class.Class.TheVariants as class
+use Rattle.starlark_words.specs.declared.scanner.word.Word.{Word}
+use Rattle.starlark_reader.proofs.TakenMargins.Waiting.{after_error}
+use Rattle.starlark_reader.proofs.TakenPieces.CodePlaces.{word_cut}
+use Rattle.starlark_reader.proofs.TakenPieces.NextLexeme.{onward_something}
+use Rattle.starlark_reader.proofs.TakenPieces.PieceReads.{opener_reads}
+use Rattle.starlark_reader.proofs.TakenPieces.ReaderReads.{state_reads}
+use Rattle.starlark_reader.proofs.TakenPieces.RepairReads.{no_repair}
+use Rattle.starlark_reader.proofs.TakenPieces.SameTexts.{state_here, taken_here}
+use Rattle.starlark_reader.proofs.TakenPieces.WordSteps.{literal_here, word_step_reads}
+use Rattle.starlark_reader.proofs.reader.Reader.read_literal.Goals as goal
+
+pub range_from-requires : goal.range_from-requires
+range_from-requires c = λ some.
+    word_cut c.range_from-rest.result.now (class.Opener c.args.kind c.args.is_raw c.args.quote) c.args.len c.range_from-rest.utf8 (ap language_front c.range_from-rest.ensures.value ∙ sym c.requires.stands.front)
+
+pub returns-in_err-step-clause-memory : goal.returns-in_err-step-clause-memory
+returns-in_err-step-clause-memory c = after_error c.from_residual.result _ (λ lexemes fault ahead. onward_something c.args.self.now.text.now c.args.self.now lexemes fault c.requires.stands.idle c.requires.stands.stage ahead)
+
+pub take-requires : goal.take-requires
+take-requires c =
+    let old = c.args.self.now in
+    let left = state_here old c.requires.sound c.requires.stands.stage in
+    let remainder : c.range_from.result.now ≡ drop c.args.len (drop old.at old.text.now) = c.range_from.ensures.value ∙ ap (drop c.args.len) c.range_from-rest.ensures.value in
+    record {
+      text = c.requires.sound.text;
+      stage = c.requires.stands.stage;
+      stands = (left.0, state_reads old.text.now left.0 old c.literal_piece.new.reads left.1, literal_here old.text.now left.0 old c.args.kind c.args.is_raw c.args.quote c.args.len c.mode.result c.is_outside-outside.result c.range_from.result.now c.in_ok-step.step left.1 c.requires.stands c.mode.ensures c.is_outside-outside.ensures remainder c.in_ok-step.ensures.step);
+      idle = c.requires.stands.idle;
+    }
+
+pub returns-clause-ahead : goal.returns-clause-ahead
+returns-clause-ahead c =
+    let old = c.args.self.now in
+    let remainder : c.range_from.result.now ≡ drop c.args.len (drop old.at old.text.now) = c.range_from.ensures.value ∙ ap (drop c.args.len) c.range_from-rest.ensures.value in
+    taken_here old c.take.result c.take.new.self c.requires.stands.stage c.requires.stands.idle (λ history kept.
+    c.take.ensures.read history (state_reads old.text.now history old c.literal_piece.new.reads kept)
+    (literal_here old.text.now history old c.args.kind c.args.is_raw c.args.quote c.args.len c.mode.result c.is_outside-outside.result c.range_from.result.now c.in_ok-step.step kept c.requires.stands c.mode.ensures c.is_outside-outside.ensures remainder c.in_ok-step.ensures.step))
+
+pub returns-clause-reads : goal.returns-clause-reads
+returns-clause-reads c = λ beside before has read.
+    let old = c.args.self.now in
+    let text = old.text.now in
+    let left = state_here old c.requires.sound c.requires.stands.stage in
+    let word : Word = record { class = class.Opener c.args.kind c.args.is_raw c.args.quote; len = c.args.len } in
+    let front = take c.args.len (drop old.at text) in
+    let step = c.in_ok-step.step in
+    let remainder : c.range_from.result.now ≡ drop c.args.len (drop old.at text) = c.range_from.ensures.value ∙ ap (drop c.args.len) c.range_from-rest.ensures.value in
+    let is = literal_here text left.0 old c.args.kind c.args.is_raw c.args.quote c.args.len c.mode.result c.is_outside-outside.result c.range_from.result.now step left.1 c.requires.stands c.mode.ensures c.is_outside-outside.ensures remainder c.in_ok-step.ensures.step in
+    let mode = mode_after left.0.tokens in
+    let opening = grammar.opening_of c.args.is_raw c.args.quote c.range_from.result.now in
+    let outside = ap is_outside (sym (c.mode.ensures left.0.tokens left.1.nesting)) ∙ sym c.is_outside-outside.ensures in
+    word_step_reads text beside before c.literal_piece.new.reads left.0 word step old c.take.new.self left.1 c.requires.stands is has read
+    (opener_reads c.args.len (next_line front 0) step old.reads c.literal_piece.new.reads c.in_ok-step.ensures.reads)
+    (no_repair (5 * c.args.len + 3) front (grammar.opener mode c.args.kind opening c.args.len c.range_from.result.now) step old.reads c.literal_piece.new.reads (c.in_ok-step.ensures.step mode outside) (opener_lost mode c.args.kind opening c.args.len c.range_from.result.now))
+    c.take.ensures.passed
