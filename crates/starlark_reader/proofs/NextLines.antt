@@ -7,15 +7,11 @@ use Rattle.std.specs.List.{list_all, prefix_len}
 use Rattle.starlark_grammar.specs.AfterFaults.{is_margin_tab, line_end_len, margin_line, next_line, restart, stopped_at}
 use Rattle.starlark_grammar.specs.Margins.{is_lf}
 use Rattle.starlark_grammar.specs.Tokens.{Fault, Spanned}
-use Rattle.starlark_grammar.specs.Front.{language_front}
 use Rattle.starlark_grammar.specs.Words.{Text, class_in, is_in_line, language}
 use Rattle.starlark_grammar.specs.declared.class.Class.TheVariants as class
-use Rattle.starlark_grammar.specs.declared.class.LiteralKind.{LiteralKind}
-use Rattle.starlark_grammar.specs.declared.class.Quote.{Quote}
 use Rattle.starlark_grammar.proofs.Found.FoundItems.{stopped_past}
 use Rattle.starlark_grammar.proofs.WordNewlines.{language_lines}
 use Rattle.starlark_grammar.proofs.Lists.{drop-sum, take_fits}
-use Rattle.starlark_grammar.proofs.Words.Fronts.{front_sound}
 
 abbrev pub in_line : ℕ → Bool
 in_line b = not (is_lf b)
@@ -107,13 +103,6 @@ tabs_line word known = first_line word (length word) (whole word (language_lines
         let parts = and_parts (is_in_line b) (list_all is_in_line bs) plain in
         let more = whole bs parts.1 in
         rw (plain_byte b parts.0) (omega (arith, more))
-
--- an opener is in the line of what follows it
-pub opener_line : (text : Text) (kind : LiteralKind) (is_raw : Bool) (quote : Quote) (n : ℕ) → Some (class.Opener kind is_raw quote, n) ≡ language_front text → (n ≤ length text) × (n + next_line (drop n text) 0 ≤ next_line text 0)
-unfolding language_front
-opener_line text kind is_raw quote n front =
-    let sound = front_sound (class_in language) text (class.Opener kind is_raw quote) n (sym front) in
-    (sound.1, line_after n text sound.1 (language_lines (take n text) (class.Opener kind is_raw quote) sound.2))
 
 -- Restarts
 

@@ -9,3 +9,4 @@ pub mod PieceViews
 pub mod ReadBounds
 pub mod MarginCuts
 pub mod Reader
+pub mod Lookaheads

@@ -11,6 +11,7 @@ mod comments;
 mod indent_stack;
 mod lf_search;
 mod literal;
+pub mod lookahead;
 mod margins;
 mod nesting;
 mod pending;

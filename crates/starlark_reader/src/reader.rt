@@ -6,7 +6,8 @@ ghost use Rattle.std.specs.Str.{IsCharBoundary};
 ghost use Rattle.starlark_words.specs.Inner.Reads.{AreReads, more_reads};
 ghost use Rattle.starlark_reader.specs.Inner.StepViews.{IsDigitAt, IsFaultWord, IsStep};
 ghost use Rattle.starlark_token.specs.Lexemes.{shown_lexeme};
-ghost use Rattle.starlark_words.specs.Inner.LiteralViews.{IsPlainBody};
+ghost use Rattle.starlark_words.specs.Inner.LiteralViews.{IsPlainBody, fstring_literal, single_literal};
+ghost use Rattle.starlark_words.specs.Inner.PlainRuns.{IsRun};
 ghost use Rattle.starlark_grammar.specs.Inner.Openings.{opening_view};
 ghost use Rattle.starlark_words.specs.Inner.ScannedWords.{is_number, word_len};
 ghost use Rattle.starlark_grammar.specs.Margins.{margin_of, open_widths};
@@ -15,12 +16,12 @@ ghost use Rattle.starlark_grammar.specs.Pieces as grammar;
 ghost use Rattle.starlark_grammar.specs.declared.class.Class.TheVariants as class;
 ghost use Rattle.starlark_grammar.specs.declared.class.LiteralKind.TheVariants as kind;
 ghost use Rattle.starlark_grammar.specs.declared.class.LiteralKind.TheVariants.{FString as OfFString};
-ghost use Rattle.starlark_reader.specs.Inner.Pending.{IsCommentIn, IsIdle, IsMark, IsPending, comment_lexeme, pending_lexemes};
+ghost use Rattle.starlark_reader.specs.Inner.Pending.{IsCommentIn, IsIdle, IsMark, IsPending, comment_lexeme, owed, pending_lexemes};
 ghost use Rattle.starlark_reader.specs.Inner.MarginCuts.{IsCutBefore};
 ghost use Rattle.starlark_reader.specs.Inner.ReadBounds.{HasStarted, HasLooked, HasLookedHere, HasRead, HasReadAt, HasReadLast, IsMarginRead, IsPassed, IsPassedBy, IsTaken};
 ghost use Rattle.starlark_reader.specs.Inner.Reader.{HasSomething, IsText, IsAtLineEnd, IsAtStep, IsLineEndStep, IsSound, KeepsAhead, PassesNext, Takes, TakesNext, CountsLineEnds, has_read_none, is_fault, IsAhead, IsAheadAfter, IsAheadPast, IsAtCode, IsBangHere, IsInCode, IsInFlatMargin, IsReached, IsStateAfter, IsStateAtFault, IsAtEnd, IsLast, IsPlainTextHere, IsRead, IsReady, IsSomething, IsTokenOf, IsWordHere, before_margin, before_view, begins_with_tab, fstring_text_lexeme, left_here, left_to_read, name_lexeme, newline_if, newline_of, step_here, text_lexeme};
 ghost use Rattle.starlark_reader.specs.Inner.PieceViews.{IsAfter, IsLineEnd};
-ghost use Rattle.starlark_grammar.specs.AfterFaults.{next_line};
+ghost use Rattle.starlark_reader.specs.Inner.Lookaheads.{IsFoundAt, HasPeeked, IsTextRun};
 ghost use Rattle.starlark_grammar.specs.Cuts.{is_layout, is_settled};
 ghost use Rattle.starlark_grammar.specs.Found.{passed_count};
 ghost use Rattle.starlark_grammar.specs.RepairLaws.{KeepsLine};
@@ -39,6 +40,7 @@ use crate::indent_stack::IndentStack;
 use crate::literal::{
     Opening, PlainText, Step, chunk_from, literal_piece, opening_of, plain_text, quotes_of,
 };
+use crate::lookahead::{Found, Lookahead};
 use crate::margins::{Margin, margin_of, plain_margin};
 use crate::nesting::{LexerMode, Nesting};
 use crate::pending::{AfterComments, Pending};
@@ -53,7 +55,7 @@ use starlark_token::tokens::Token;
 use starlark_words::plain_body_len;
 use starlark_words::reads::ReadCounter;
 use starlark_words::scanner::{
-    Class, LiteralKind, Quote, Terminal, Word, first_word, text_opener, unnamed_word, word_after,
+    Class, LiteralKind, Quote, Terminal, Word, first_word, unnamed_word, word_after,
 };
 use std::alloc::{AllocError, Global};
 use std::mem;
@@ -137,7 +139,7 @@ impl<'a> Reader<'a> {
     pub fn new(alloc: Global, text: &'a str) -> Self
         ensures text { result.text.now ≡ text.now }
         ensures ahead { (any : Text) → IsAhead any result result.stage (map shown_lexeme (outcome any).lexemes) (outcome any).fault }
-        ensures reads { (any : Text) → HasRead any 0 result }
+        ensures reads { (any : Text) → HasRead any result }
         ensures unread { result.reads ≡ 0 }
     {
         Reader {
@@ -234,7 +236,7 @@ impl<'a> Reader<'a> {
         ensures text { self.new.text ≡ self.old.text }
         ensures ahead { OnOk result ((lexemes : List (Spanned TokenView)) (fault : Option (Spanned Fault)) → IsAhead self.old.text.now self.old Stage.Begin lexemes fault → IsAhead self.old.text.now self.new self.new.stage lexemes fault) }
         ensures less { OnOk result (left_to_read self.old.text.now self.new self.new.stage < left_to_read self.old.text.now self.old Stage.Begin) }
-        ensures reads { OnOk result ((beside : ℕ) → HasReadAt self.old.text.now beside self.old Stage.Begin → HasRead self.old.text.now beside self.new) }
+        ensures reads { OnOk result (HasReadAt self.old.text.now self.old Stage.Begin → HasRead self.old.text.now self.new) }
     {
         let margin = margin_of(&mut self.reads, self.text);
         if take_margin(&mut self.levels, &mut self.pending, 0, margin)? {
@@ -469,10 +471,10 @@ impl<'a> Reader<'a> {
     pub fn count_others(&mut self, len: usize) -> bool
         requires { len < 2 ^ 32 }
         ensures ahead { (text : Text) (lexemes : List (Spanned TokenView)) (fault : Option (Spanned Fault)) → IsAhead text self.old self.old.stage lexemes fault → IsAhead text self.new self.new.stage lexemes fault }
-        ensures reads { (text : Text) (beside : ℕ) → HasRead text beside self.old → HasRead text beside self.new }
+        ensures reads { (text : Text) → HasRead text self.old → HasRead text self.new }
         ensures none { result ≡ false → self.new ≡ self.old }
         ensures onward { result ≡ true → self.new.stage ≡ Stage.Onward }
-        ensures few { result ≡ true → self.new.reads < 10 * self.new.at }
+        ensures few { result ≡ true → self.new.reads + 5 * owed self.new.pending < 10 * self.new.at }
         ensures counted { result ≡ true → self.old.reads + len < self.new.reads }
         ensures same { self.new ≡ record self.old { reads = self.new.reads } }
     {
@@ -558,7 +560,7 @@ impl<'a> Reader<'a> {
         ensures ahead { IfOk result (λ given. TakesNext self.old given self.new) }
         ensures memory { OnErr result (HasSomething self.old) }
         ensures less { OnOk result (left_to_read self.old.text.now self.new self.new.stage < left_to_read self.old.text.now self.old self.old.stage) }
-        ensures reads { OnOk result ((beside before : ℕ) → HasReadAt self.old.text.now beside (record self.old { reads = before }) Stage.Onward → AreReads len (5 * len + 3) before self.old.reads → HasRead self.old.text.now beside self.new) }
+        ensures reads { OnOk result ((before : ℕ) → HasReadAt self.old.text.now (record self.old { reads = before }) Stage.Onward → AreReads len (5 * len + 3) before self.old.reads → HasRead self.old.text.now self.new) }
     {
         let begin = self.at;
         let line_end = self.take_line_end(len)?;
@@ -582,7 +584,8 @@ impl<'a> Reader<'a> {
         Ok((begin, token, begin + len))
     }
 
-    /// Takes the string or bytes literal here, whose opener has `len` bytes, or stops at its fault.
+    /// Takes the string or bytes literal here, whose opener has `len` bytes, or stops at its fault. The
+    /// `run` bytes after the opener are known.
     #[inline(always)]
     fn read_literal(
         &mut self,
@@ -590,15 +593,17 @@ impl<'a> Reader<'a> {
         is_raw: bool,
         quote: Quote,
         len: usize,
+        run: usize,
     ) -> Result<Option<(usize, Token, usize)>, AllocError>
         requires kind { kind ≢ OfFString }
         requires sound { IsSound self.old }
         requires stands { IsWordHere self.old.text.now self.old (record { class = class.Opener kind is_raw quote; len = len }) }
+        requires run { IsRun (single_literal kind is_raw quote) (drop len (drop self.old.at self.old.text.now)) run }
         ensures text { self.new.text ≡ self.old.text }
         ensures ahead { IfOk result (λ given. TakesNext self.old given self.new) }
         ensures memory { OnErr result (HasSomething self.old) }
         ensures less { OnOk result (left_to_read self.old.text.now self.new self.new.stage < left_to_read self.old.text.now self.old self.old.stage) }
-        ensures reads { OnOk result ((beside before : ℕ) → HasReadAt self.old.text.now beside (record self.old { reads = before }) Stage.Onward → AreReads len (5 * len + 3) before self.old.reads → HasRead self.old.text.now beside self.new) }
+        ensures reads { OnOk result ((before : ℕ) → HasReadAt self.old.text.now (record self.old { reads = before }) Stage.Onward → AreReads (len + run) (5 * len + 8 * run + 3) before self.old.reads → HasRead self.old.text.now self.new) }
     {
         let outside = is_outside(self.nesting.mode());
         let rest = &self.text[self.at..];
@@ -610,6 +615,7 @@ impl<'a> Reader<'a> {
             is_raw,
             quote,
             len,
+            run,
             &rest[len..],
         )?;
         Ok(self.take(step))
@@ -624,7 +630,7 @@ impl<'a> Reader<'a> {
         ensures ahead { IfOk result (λ given. TakesNext self.old given self.new) }
         ensures memory { OnErr result (HasSomething self.old) }
         ensures less { OnOk result (left_to_read self.old.text.now self.new self.new.stage < left_to_read self.old.text.now self.old self.old.stage) }
-        ensures reads { OnOk result ((beside before : ℕ) → HasReadAt self.old.text.now beside (record self.old { reads = before }) Stage.Onward → AreReads word.len (5 * word.len + 3) before self.old.reads → HasRead self.old.text.now beside self.new) }
+        ensures reads { OnOk result ((before : ℕ) → HasReadAt self.old.text.now (record self.old { reads = before }) Stage.Onward → AreReads word.len (5 * word.len + 3) before self.old.reads → HasRead self.old.text.now self.new) }
     {
         let rest = &self.text[self.at..];
         let step = fault_step(self.alloc, word.class, &rest[..word.len])?;
@@ -640,7 +646,7 @@ impl<'a> Reader<'a> {
         ensures ahead { IfOk result (λ given. TakesNext self.old given self.new) }
         ensures memory { OnErr result (HasSomething self.old) }
         ensures less { OnOk result (left_to_read self.old.text.now self.new self.new.stage < left_to_read self.old.text.now self.old self.old.stage) }
-        ensures reads { OnOk result ((beside before : ℕ) → HasReadAt self.old.text.now beside (record self.old { reads = before }) Stage.Onward → AreReads word.len (5 * word.len + 3) before self.old.reads → HasRead self.old.text.now beside self.new) }
+        ensures reads { OnOk result ((before : ℕ) → HasReadAt self.old.text.now (record self.old { reads = before }) Stage.Onward → AreReads word.len (5 * word.len + 3) before self.old.reads → HasRead self.old.text.now self.new) }
     {
         if self.is_plain_number(word) {
             return Ok(Some(self.take_number(word)?));
@@ -663,7 +669,7 @@ impl<'a> Reader<'a> {
                 kind,
                 is_raw,
                 quote,
-            } => self.read_literal(kind, is_raw, quote, len),
+            } => self.read_literal(kind, is_raw, quote, len, 0),
             Class::Fixed(terminal) => Ok(Some(self.take_terminal(terminal, len))),
             _ => self.refuse_word(word),
         }
@@ -679,7 +685,7 @@ impl<'a> Reader<'a> {
         ensures ahead { IfOk result (λ given. TakesNext self.old given self.new) }
         ensures memory { OnErr result (HasSomething self.old) }
         ensures less { OnOk result (left_to_read self.old.text.now self.new self.new.stage < left_to_read self.old.text.now self.old self.old.stage) }
-        ensures reads { OnOk result ((beside before : ℕ) → HasReadAt self.old.text.now beside (record self.old { reads = before }) Stage.Onward → AreReads 0 (5 * 0 + 3) before self.old.reads → HasRead self.old.text.now beside self.new) }
+        ensures reads { OnOk result ((before : ℕ) → HasReadAt self.old.text.now (record self.old { reads = before }) Stage.Onward → AreReads 0 (5 * 0 + 3) before self.old.reads → HasRead self.old.text.now self.new) }
     {
         if self.bang_stands() {
             return Ok(Some(self.take_bang()));
@@ -688,21 +694,26 @@ impl<'a> Reader<'a> {
         Ok(self.take(step))
     }
 
-    /// Reads the f-string text at the offset, up to its first stop. Returns its first lexeme; `None`
-    /// if it is a fault.
-    fn read_chunk(&mut self, opening: Opening) -> Result<Option<(usize, Token, usize)>, AllocError>
+    /// Reads the f-string text at the offset, up to its first stop. Its first `run` bytes are known.
+    /// Returns its first lexeme; `None` if it is a fault.
+    fn read_chunk(
+        &mut self,
+        opening: Opening,
+        run: usize,
+    ) -> Result<Option<(usize, Token, usize)>, AllocError>
         requires text { IsText self.old.text.now }
         requires stage { self.old.stage ≡ Stage.Onward }
         requires ready { IsReady self.old.text.now self.old Stage.Onward }
         requires idle { IsIdle self.old.text.now self.old.pending }
         requires inside { (before : List grammar_tokens.Token) → Represents before self.old.nesting → mode_after before ≡ InText (opening_view opening) }
+        requires run { IsRun (fstring_literal (opening_view opening)) (drop self.old.at self.old.text.now) run }
         ensures text { self.new.text ≡ self.old.text }
         ensures ahead { IfOk result (λ given. TakesNext self.old given self.new) }
         ensures less { OnOk result (left_to_read self.old.text.now self.new self.new.stage < left_to_read self.old.text.now self.old Stage.Onward) }
-        ensures reads { OnOk result ((beside : ℕ) → HasReadAt self.old.text.now beside self.old Stage.Onward → HasRead self.old.text.now beside self.new) }
+        ensures reads { OnOk result ((before : ℕ) → HasReadAt self.old.text.now (record self.old { reads = before }) Stage.Onward → AreReads run (8 * run + 4) before self.old.reads → HasRead self.old.text.now self.new) }
     {
         let rest = &self.text[self.at..];
-        let step = chunk_from(&mut self.reads, self.alloc, opening, rest)?;
+        let step = chunk_from(&mut self.reads, self.alloc, opening, run, rest)?;
         Ok(self.take(step))
     }
 
@@ -716,10 +727,10 @@ impl<'a> Reader<'a> {
         ensures text { self.new.text ≡ self.old.text }
         ensures ahead { IfOk result (λ given. (lexemes : List (Spanned TokenView)) (fault : Option (Spanned Fault)) → IsAhead self.old.text.now self.old Stage.Onward lexemes fault → IsAheadAfter self.old.text.now given self.new lexemes fault) }
         ensures less { OnOk result (left_to_read self.old.text.now self.new self.new.stage < left_to_read self.old.text.now self.old Stage.Onward) }
-        ensures reads { OnOk result ((beside : ℕ) → HasReadAt self.old.text.now beside self.old Stage.Onward → HasRead self.old.text.now beside self.new) }
+        ensures reads { OnOk result (HasReadAt self.old.text.now self.old Stage.Onward → HasRead self.old.text.now self.new) }
     {
         if let LexerMode::InText(opening) = self.nesting.mode() {
-            return self.read_chunk(opening);
+            return self.read_chunk(opening, 0);
         }
         if self.at == self.text.len() {
             return Ok(Some(self.close()));
@@ -739,7 +750,7 @@ impl<'a> Reader<'a> {
     pub fn take_fault(&mut self) -> Option<(usize, LexemeError, usize)>
         ensures text { self.new.text ≡ self.old.text }
         ensures last { (text : Text) (lexemes : List (Spanned TokenView)) (fault : Option (Spanned Fault)) → IsAtEnd text self.old → IsAhead text self.old self.old.stage lexemes fault → IsLast text lexemes fault result self.new }
-        ensures reads { (text : Text) (beside : ℕ) → IsAtEnd text self.old → HasRead text beside self.old → HasReadLast text beside result self.new }
+        ensures reads { (text : Text) → IsAtEnd text self.old → HasRead text self.old → HasReadLast text result self.new }
     {
         match mem::replace(&mut self.stage, Stage::Closed) {
             Stage::Fault { begin, fault, end } => Some((begin, fault, end)),
@@ -756,7 +767,7 @@ impl<'a> Reader<'a> {
         requires fits { end < 2 ^ 64 - 1 }
         ensures ahead { (text : Text) (fault : Spanned Fault) → KeepsLine text fault → IsStateAtFault text self.old → end ≡ repair_end text fault → IsCharBoundary (repaired text fault) end →
             IsAhead (repaired text fault) self.new self.new.stage (map shown_lexeme (drop (passed_count text fault) (outcome (repaired text fault)).lexemes)) (outcome (repaired text fault)).fault }
-        ensures reads { (text : Text) (beside : ℕ) → more_reads 0 begin ≤ self.old.reads → self.old.reads + (end - begin) + 1 ≤ beside + 10 * end + 2 → HasRead text beside self.new }
+        ensures reads { (text : Text) → more_reads 0 begin ≤ self.old.reads → self.old.reads + (end - begin) + 1 ≤ 10 * end + 2 → HasRead text self.new }
     {
         self.reads.count_run(end - begin);
         self.at = end;
@@ -858,27 +869,10 @@ impl<'a> Reader<'a> {
         ensures ahead { KeepsAhead self.old self.new }
         ensures code { IsAtCode self.new.text.now self.new }
         ensures stands { IfSome result (IsWordHere self.new.text.now self.new) }
+        ensures none { result ≡ None → language_front (drop self.new.at self.new.text.now) ≡ None }
         ensures lookahead { HasLookedHere (word_len result - 2) (5 * word_len result + 1) self.old self.new }
     {
         unnamed_word(&mut self.reads, &self.text[self.at..])
-    }
-
-    /// The opener of the string literal that comes next; `None` if something else comes. For
-    /// offsets in code, after spaces.
-    #[tactic(auto, using(crate::proofs::TakenPieces::ReaderReads::reads_ahead, crate::proofs::TakenPieces::SameTexts::looked_sound))]
-    #[inline(always)]
-    pub fn text_opener(&mut self) -> Option<Word>
-        requires sound { IsSound self.old }
-        requires code { IsAtCode self.old.text.now self.old }
-        ensures text { self.new.text ≡ self.old.text }
-        ensures sound { IsSound self.new }
-        ensures ahead { KeepsAhead self.old self.new }
-        ensures onward { left_to_read self.old.text.now self.new self.new.stage ≤ left_to_read self.old.text.now self.old self.old.stage }
-        ensures code { IsAtCode self.new.text.now self.new }
-        ensures stands { IfSome result (IsWordHere self.new.text.now self.new) }
-        ensures lookahead { HasLookedHere 2 2 self.old self.new }
-    {
-        text_opener(&mut self.reads, &self.text[self.at..])
     }
 
     /// Whether the bang of an f-string expression comes next. For offsets in code.
@@ -1000,7 +994,7 @@ impl<'a> Reader<'a> {
 
     /// Length in bytes of the next literal's body, if it has no escapes and one quote closes it.
     /// Its opener has `len` bytes. For any other literal, the error is the length of the run
-    /// without escapes at its start, which is in the opener's line.
+    /// without escapes at its start.
     #[tactic(auto, using(crate::proofs::TakenPieces::ReaderReads::reads_ahead, crate::proofs::TakenPieces::SameTexts::looked_sound))]
     #[inline(always)]
     pub fn plain_body_len(
@@ -1018,7 +1012,7 @@ impl<'a> Reader<'a> {
         ensures stands { IsWordHere self.new.text.now self.new (record { class = class.Opener kind is_raw quote; len = len }) }
         ensures plain { IfOk result (λ body. IsPlainBody kind is_raw quote (drop len (drop self.new.at self.new.text.now)) body) }
         ensures lookahead { IfOk result (λ body. HasLookedHere (body + 1) (6 * body + 3) self.old self.new) }
-        ensures other { IfErr result (λ run. (self.new.at + len + run ≤ next_line self.new.text.now self.new.at) × HasLookedHere 0 (6 * run + 3) self.old self.new) }
+        ensures other { IfErr result (λ run. IsRun (single_literal kind is_raw quote) (drop len (drop self.new.at self.new.text.now)) run × HasLookedHere run (6 * run + 3) self.old self.new) }
     {
         let rest = &self.text[self.at..];
         plain_body_len(&mut self.reads, kind, is_raw, quote, &rest[len..])
@@ -1108,7 +1102,7 @@ impl<'a> Reader<'a> {
         ensures text { self.new.text ≡ self.old.text }
         ensures ahead { PassesNext self.old (comment_lexeme self.old.text.now result.0 result.1) self.new }
         ensures inside { IsCommentIn self.old.text.now result.0 result.1 }
-        ensures reads { (beside : ℕ) → HasReadAt self.old.text.now beside self.old self.old.stage → HasRead self.old.text.now beside self.new }
+        ensures reads { HasReadAt self.old.text.now self.old self.old.stage → HasRead self.old.text.now self.new }
     {
         self.pending.pass_comment(&mut self.reads, self.text)
     }
@@ -1121,37 +1115,32 @@ impl<'a> Reader<'a> {
         ensures ahead { (text : Text) (lexemes : List (Spanned TokenView)) (fault : Option (Spanned Fault)) → IsAhead text self.old self.old.stage lexemes fault → IsAheadAfter text result self.new lexemes fault }
         ensures stays { result ≡ None → self.new ≡ self.old }
         ensures mark { IfSome result (λ lexeme. IsMark (token_view lexeme.1)) }
-        ensures reads { (text : Text) (beside : ℕ) → HasReadAt text beside self.old self.old.stage → HasRead text beside self.new }
+        ensures reads { (text : Text) → HasReadAt text self.old self.old.stage → HasRead text self.new }
     {
         self.pending.next_mark()
     }
 
-    /// The f-string text that comes next, if it has no escapes and no LF. Else the error is the
-    /// length in bytes of the run without these at its start; 0 outside of f-string text.
+    /// The f-string text that comes next, if it has no escapes. Else the error is the
+    /// length in bytes of the run without these at its start. `None` outside of f-string text.
     #[tactic(auto, using(crate::proofs::TakenPieces::ReaderReads::reads_ahead, crate::proofs::TakenPieces::SameTexts::looked_sound))]
     #[inline(always)]
-    pub fn plain_text(&mut self) -> Result<PlainText, usize>
+    pub fn plain_text(&mut self) -> Option<Result<PlainText, usize>>
         requires sound { IsSound self.old }
+        requires stage { self.old.stage ≡ Stage.Onward }
+        requires idle { IsIdle self.old.text.now self.old.pending }
         ensures text { self.new.text ≡ self.old.text }
         ensures sound { IsSound self.new }
         ensures ahead { KeepsAhead self.old self.new }
-        ensures code { IsAtCode self.old.text.now self.old → IsAtCode self.new.text.now self.new }
-        ensures stands { IfOk result (λ found. IsPlainTextHere self.new.text.now self.new found) }
-        ensures some { IfOk result (λ found. (0 < found.stop_len) × (found.stop_len ≤ 3)) }
-        ensures lookahead { IfOk result (λ found. HasLookedHere (found.len + 3) (6 * found.len + 4) self.old self.new) }
-        ensures other { IfErr result (λ run. (self.new.at + run ≤ next_line self.new.text.now self.new.at) × HasLookedHere 0 (6 * run + 4) self.old self.new) }
+        ensures none { result ≡ None → self.new ≡ self.old }
+        ensures stands { IfSome result (λ found. IfOk found (λ plain. IsPlainTextHere self.new.text.now self.new plain)) }
+        ensures some { IfSome result (λ found. IfOk found (λ plain. (0 < plain.stop_len) × (plain.stop_len ≤ 3))) }
+        ensures lookahead { IfSome result (λ found. IfOk found (λ plain. HasLookedHere (plain.len + 3) (6 * plain.len + 4) self.old self.new)) }
+        ensures other { IfSome result (λ found. IfErr found (λ run. IsTextRun self.new.text.now run self.new × HasLookedHere run (6 * run + 4) self.old self.new)) }
     {
-        if !self.reads_on() {
-            return Err(0);
-        }
-        match self.nesting.mode() {
-            LexerMode::InText(opening) => plain_text(
-                &mut self.reads,
-                opening,
-                &self.text[self.at..],
-            ),
-            _ => Err(0),
-        }
+        let LexerMode::InText(opening) = self.nesting.mode() else {
+            return None;
+        };
+        Some(plain_text(&mut self.reads, opening, &self.text[self.at..]))
     }
 
     /// Passes the f-string text here, which has no escapes and isn't empty. What ends it becomes
@@ -1306,15 +1295,76 @@ impl<'a> Reader<'a> {
         (begin, token, begin + 1)
     }
 
-    /// The next lexeme of the text; `None` where none is left, but maybe its fault. Don't use the
-    /// reader after an `AllocError`.
-    pub fn next(&mut self) -> Result<Option<(usize, Token, usize)>, AllocError>
+    /// Reads the literal whose opener is here. The `run` bytes after the opener are known.
+    fn read_opened(
+        &mut self,
+        opener: Word,
+        run: usize,
+    ) -> Result<Option<(usize, Token, usize)>, AllocError>
+        requires sound { IsSound self.old }
+        requires found { IsFoundAt self.old.text.now self.old (record { found = Found.Literal; word = opener; run = run }) }
+        ensures text { self.new.text ≡ self.old.text }
+        ensures ahead { IfOk result (λ given. TakesNext self.old given self.new) }
+        ensures memory { OnErr result (HasSomething self.old) }
+        ensures reads { OnOk result (HasRead self.old.text.now self.new) }
+    {
+        match opener.class {
+            Class::Opener {
+                kind,
+                is_raw,
+                quote,
+            } => self.read_literal(kind, is_raw, quote, opener.len, run),
+            _ => unreachable!(),
+        }
+    }
+
+    /// Reads the f-string text here, of which `run` bytes are known.
+    fn read_text(&mut self, run: usize) -> Result<Option<(usize, Token, usize)>, AllocError>
+        requires sound { IsSound self.old }
+        requires here { IsTextRun self.old.text.now run self.old }
+        requires peeked { HasPeeked self.old.text.now run (8 * run + 4) self.old }
+        ensures text { self.new.text ≡ self.old.text }
+        ensures ahead { IfOk result (λ given. TakesNext self.old given self.new) }
+        ensures memory { OnErr result (HasSomething self.old) }
+        ensures reads { OnOk result (HasRead self.old.text.now self.new) }
+    {
+        match self.nesting.mode() {
+            LexerMode::InText(opening) => self.read_chunk(opening, run),
+            _ => unreachable!(),
+        }
+    }
+
+    /// Reads what lookahead has found. Returns its lexeme; `None` where it has none, or is a fault.
+    #[inline(always)]
+    fn read_found(
+        &mut self,
+        lookahead: Lookahead,
+    ) -> Result<Option<(usize, Token, usize)>, AllocError>
+        requires sound { IsSound self.old }
+        requires found { IsFoundAt self.old.text.now self.old lookahead }
+        ensures text { self.new.text ≡ self.old.text }
+        ensures ahead { IfOk result (λ given. TakesNext self.old given self.new) }
+        ensures memory { OnErr result (HasSomething self.old) }
+        ensures reads { OnOk result (HasRead self.old.text.now self.new) }
+    {
+        match lookahead.found {
+            Found::Named | Found::Unnamed => self.read_word(lookahead.word),
+            Found::Wordless if self.at == self.text.len() => Ok(Some(self.close())),
+            Found::Wordless => self.read_wordless(),
+            Found::Literal => self.read_opened(lookahead.word, lookahead.run),
+            Found::Text => self.read_text(lookahead.run),
+            Found::Nothing | Found::All => Ok(None),
+        }
+    }
+
+    /// The next lexeme of the text, where lookahead has found nothing.
+    fn next_unseen(&mut self) -> Result<Option<(usize, Token, usize)>, AllocError>
         requires { IsSound self.old }
         ensures text { self.new.text ≡ self.old.text }
         ensures next { IfOk result (λ given. TakesNext self.old given self.new) }
         ensures end { IfOk result (λ given. given ≡ None → IsAtEnd self.old.text.now self.new) }
         ensures memory { OnErr result (HasSomething self.old) }
-        ensures reads { OnOk result ((beside : ℕ) → HasReadAt self.old.text.now beside self.old self.old.stage → HasRead self.old.text.now beside self.new) }
+        ensures reads { OnOk result (HasReadAt self.old.text.now self.old self.old.stage → HasRead self.old.text.now self.new) }
     {
         loop {
             if let Some(lexeme) = self.pending.next(&mut self.reads, self.alloc, self.text)? {
@@ -1330,5 +1380,26 @@ impl<'a> Reader<'a> {
                 Stage::Fault { .. } | Stage::Closed => return Ok(None),
             }
         }
+    }
+
+    /// The next lexeme of the text, which begins with what lookahead has found; `None` where none is
+    /// left, but maybe the text's fault. Don't use the reader after an `AllocError`.
+    #[inline(always)]
+    pub fn next(
+        &mut self,
+        lookahead: Lookahead,
+    ) -> Result<Option<(usize, Token, usize)>, AllocError>
+        requires sound { IsSound self.old }
+        requires found { IsFoundAt self.old.text.now self.old lookahead }
+        ensures text { self.new.text ≡ self.old.text }
+        ensures next { IfOk result (λ given. TakesNext self.old given self.new) }
+        ensures end { IfOk result (λ given. given ≡ None → IsAtEnd self.old.text.now self.new) }
+        ensures memory { OnErr result (HasSomething self.old) }
+        ensures reads { OnOk result (HasRead self.old.text.now self.new) }
+    {
+        if let Some(lexeme) = self.read_found(lookahead)? {
+            return Ok(Some(lexeme));
+        }
+        self.next_unseen()
     }
 }

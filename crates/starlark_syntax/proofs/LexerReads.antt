@@ -1,31 +1,34 @@
--- What a lexer's quick ways read is paid for by the place up to which they have looked.
-use Rattle.std.proofs.Common.{◌≡◌, ◌≤◌, ◌<◌, ◌+◌, ◌-◌, ◌*◌, Bool, List, Option, Some, true, false, ℕ, drop, ap, length, leb, refl, subst, sym, take, arith}
-use Rattle.std.specs.Prelude.{Err, Ok, OnOk, Result}
-use Rattle.std.proofs.lemmas.Bool.{leb-true}
+-- What lookahead has found, and what it reads.
+use Rattle.std.proofs.Common.{◌≡◌, ◌≢◌, ◌≤◌, ◌<◌, ◌+◌, ◌-◌, ◌*◌, Bool, List, Option, Some, true, false, ℕ, drop, ap, length, refl, subst, sym, arith}
 use Rattle.std.proofs.lemmas.List.{length-drop, length-take}
 use Rattle.starlark_grammar.specs.Front.{language_front}
 use Rattle.starlark_grammar.specs.Tokens.{Fault, Spanned}
+use Rattle.starlark_grammar.specs.Words.{Text}
 use Rattle.starlark_grammar.specs.declared.class.Class.{Class}
-use Rattle.starlark_token.specs.TokenViews.{TokenView}
-use Rattle.starlark_words.specs.declared.scanner.word.Word.{Word}
-use Rattle.starlark_reader.specs.declared.reader.Stage.TheVariants as stages
-use Rattle.starlark_reader.proofs.TakenPieces.SameTexts.{over_code, over_reads}
-use Rattle.starlark_reader.proofs.TakenPieces.CodePlaces.{word_class, word_len, word_some}
-use Rattle.starlark_reader.proofs.TakenPieces.PieceTaken.{left_onward}
-use Rattle.starlark_grammar.specs.Words.{Text, class_in, language, line_ends, names, openers, symbols}
 use Rattle.starlark_grammar.specs.declared.class.Class.TheVariants as class
-use Rattle.starlark_grammar.specs.declared.class.LiteralKind.TheVariants as kind
+use Rattle.starlark_grammar.specs.declared.class.LiteralKind.{LiteralKind}
+use Rattle.starlark_grammar.specs.declared.class.LiteralKind.TheVariants.{FString as OfFString}
 use Rattle.starlark_grammar.specs.declared.class.Quote.{Quote}
-use Rattle.starlark_grammar.proofs.Words.Classes.{RowsFit, language_all_fit, patterns_all_fit}
-use Rattle.starlark_reader.specs.Inner.Pending.{IsPending}
-use Rattle.starlark_reader.specs.Inner.Reader.{IsAhead, IsAtCode, IsAtEnd, IsOver, IsWordHere}
-use Rattle.starlark_reader.specs.Inner.ReadBounds.{HasLooked, HasLookedHere, HasRead, HasReadAt, HasStarted, IsPassedBy, IsTaken}
+use Rattle.starlark_token.specs.TokenViews.{TokenView}
+use Rattle.starlark_words.specs.Inner.LiteralViews.{single_literal}
+use Rattle.starlark_words.specs.Inner.PlainRuns.{IsRun}
+use Rattle.starlark_words.specs.declared.scanner.word.Word.{Word}
+use Rattle.starlark_reader.specs.Inner.Lookaheads.{HasPeeked, IsFound, IsFoundAt, IsOpened, IsTextRun, is_nothing}
+use Rattle.starlark_reader.specs.Inner.Pending.{IsPending, owed}
+use Rattle.starlark_reader.specs.Inner.Reader.{IsAhead, IsAtCode, IsAtEnd, IsInCode, IsOver, IsWordHere}
+use Rattle.starlark_reader.specs.Inner.ReadBounds.{HasLooked, HasLookedHere, HasRead, HasReadAt, HasStarted, IsPassedBy}
+use Rattle.starlark_reader.specs.declared.lookahead.Found.{Found}
+use Rattle.starlark_reader.specs.declared.lookahead.Found.TheVariants as found
+use Rattle.starlark_reader.specs.declared.lookahead.Lookahead.{Lookahead}
 use Rattle.starlark_reader.specs.declared.reader.LineEnd.{LineEnd}
 use Rattle.starlark_reader.specs.declared.reader.LineEnd.TheVariants as line_end
 use Rattle.starlark_reader.specs.declared.reader.Reader.{Reader}
-use Rattle.starlark_syntax.specs.Inner.Looked.{GoesOn, HasReadHere, HasSpared, IsFoundFurther, IsFoundInCode, IsFoundOut, IsLooked, is_nothing}
-use Rattle.starlark_syntax.specs.declared.lexer_state.Lookahead.{Lookahead}
-use Rattle.starlark_syntax.specs.declared.lexer_state.Lookahead.TheVariants as lookahead
+use Rattle.starlark_reader.specs.declared.reader.Stage.TheVariants as stages
+use Rattle.starlark_reader.proofs.TakenPieces.CodePlaces.{word_len, word_some}
+use Rattle.starlark_reader.proofs.TakenPieces.PieceTaken.{left_onward}
+use Rattle.starlark_reader.proofs.TakenPieces.ReaderReads.{onward_reads}
+use Rattle.starlark_reader.proofs.TakenPieces.SameTexts.{over_code, over_reads}
+use Rattle.starlark_syntax.specs.Inner.Looked.{GoesOn, IsFoundInCode, IsFoundOut}
 
 -- a word where a reader is has a byte at least, and lies inside of the text
 pub word_inside : (text : Text) (reader : Reader) (lexemes : List (Spanned TokenView)) (fault : Option (Spanned Fault)) (class : Class) (len : ℕ) → reader.stage ≡ stages.Onward → IsAhead text reader reader.stage lexemes fault
@@ -36,105 +39,178 @@ word_inside text reader lexemes fault class len onward ahead front =
     let within = length-take len (drop reader.at text) in
     (word_some (drop reader.at text) class len front, omega (arith, inside, whole, within, length-drop reader.at text))
 
--- whatever is still to come, what was read is paid for
-pub spared : (text : Text) (reader : Reader) (to : ℕ) (it : Lookahead) (lexemes : List (Spanned TokenView)) (fault : Option (Spanned Fault)) → to ≤ length text + 1 → IsAhead text reader reader.stage lexemes fault → IsLooked text reader to it
-    → (far : ℕ) × (far ≤ length text + 1) × HasSpared text reader far
-spared text reader to lookahead.Nothing lexemes fault inside ahead is = (to, inside, is.2)
-spared text reader to (lookahead.Word word) lexemes fault inside ahead is =
-    let at = word_inside text reader lexemes fault word.class word.len is.0.stage ahead (sym is.0.front) in
-    (reader.at + word.len + 1, omega (arith, at.1), (is.1.2.0 + (5 * word.len + 3), omega (arith, is.1.0, is.1.2.1), is.1.2.2))
-spared text reader to lookahead.Wordless lexemes fault inside ahead is =
-    let at = (left_onward text reader lexemes fault is.0.stage ahead).is_left.1.inside in
-    (reader.at + 1, omega (arith, at), (is.1.2.0 + 3, omega (arith, is.1.0, is.1.2.1), is.1.2.2))
-spared text reader to lookahead.All lexemes fault inside ahead is = (to, inside, is)
+-- Reads of bytes after the offset
 
--- at the end of a text nothing is looked at
-pub end_spared : (text : Text) (reader : Reader) (to : ℕ) (it : Lookahead) → IsAtEnd text reader → IsLooked text reader to it → HasSpared text reader to
-end_spared text reader to lookahead.Nothing end is = is.2
-end_spared text reader to (lookahead.Word word) end is = absurd (subst IsOver is.0.stage end.1)
-end_spared text reader to lookahead.Wordless end is = absurd (subst IsOver is.0.stage end.1)
-end_spared text reader to lookahead.All end is = is
+-- those before it are few
+pub peeked_few : (text : Text) (least most : ℕ) (reader : Reader) → HasPeeked text least most reader → reader.reads ≤ 10 * reader.at + 2 + most
+peeked_few text least most reader peeked = omega (arith, peeked.1.1, peeked.2.1)
+
+-- more bytes are peeked at the same offset
+pub peeked_more : (text : Text) (least most more extra at_least at_most : ℕ) (old new : Reader) → HasPeeked text least most old → HasLookedHere more extra old new → at_least ≤ least + more → most + extra ≤ at_most → HasPeeked text at_least at_most new
+peeked_more text least most more extra at_least at_most old new peeked looked enough few =
+    (peeked.0, (omega (arith, peeked.1.0, looked.0), omega (arith, peeked.1.1, looked.0, looked.2)), (omega (arith, enough, peeked.2.0, looked.3.0), omega (arith, few, peeked.2.1, looked.3.1)))
+
+-- so it is where none were before
+pub peeked_first : (text : Text) (more extra at_least at_most : ℕ) (old new : Reader) → old.stage ≡ stages.Onward → HasRead text old → HasLookedHere more extra old new → at_least ≤ more → extra ≤ at_most → HasPeeked text at_least at_most new
+peeked_first text more extra at_least at_most old new onward has looked enough few =
+    let on : HasReadAt text old stages.Onward = subst (HasReadAt text old) onward has in
+    (old.reads, (omega (arith, on.0, looked.0), omega (arith, on.1, looked.0, looked.2)), (omega (arith, enough, looked.3.0), omega (arith, few, looked.3.1)))
+
+-- and after the spaces at the offset
+pub peeked_after : (text : Text) (least most at_most : ℕ) (old new : Reader) → old.stage ≡ stages.Onward → HasRead text old → HasLooked least most old new → most ≤ at_most → HasPeeked text least at_most new
+peeked_after text least most at_most old new onward has looked few =
+    let on : HasReadAt text old stages.Onward = subst (HasReadAt text old) onward has in
+    (old.reads + (new.at - old.at), (omega (arith, on.0, looked.0), omega (arith, on.1, looked.0, looked.2)), (omega (arith, looked.0, looked.3.0), omega (arith, few, looked.0, looked.3.1)))
+
+-- what was peeked is passed
+pub peeked_taken : (text : Text) (least most len : ℕ) (old new : Reader) → HasPeeked text least most old → len ≤ least → most ≤ 10 * len → IsPassedBy (old.at + len) old new × (new.stage ≡ stages.Onward) → HasRead text new
+peeked_taken text least most len old new peeked enough few passed = onward_reads text len peeked.0 old new peeked.1 (omega (arith, enough, peeked.2.0), omega (arith, few, peeked.2.1)) passed
+
+-- or begins an f-string
+pub peeked_begun : (text : Text) (len : ℕ) (old new : Reader) → 1 ≤ len → HasPeeked text len (5 * len - 2) old → HasStarted len old new → HasRead text new
+peeked_begun text len old new some peeked begun =
+    subst (HasReadAt text new) (sym begun.2) (omega (arith, peeked.1.0, peeked.2.0, begun.1, begun.4.0), omega (arith, some, peeked.1.1, peeked.2.1, begun.0, begun.3, begun.4.1))
+
+-- What is found
+
+-- a run lies inside of the text
+opened_inside : (it : Class) (rest : Text) (run : ℕ) → IsOpened it rest run → run ≤ length rest
+opened_inside (class.Opener kind is_raw quote) rest run is = is.1.boundary.0
+opened_inside class.Skipped rest run is = absurd is
+opened_inside class.LineEnd rest run is = absurd is
+opened_inside class.Comment rest run is = absurd is
+opened_inside class.Tabs rest run is = absurd is
+opened_inside class.Reserved rest run is = absurd is
+opened_inside class.Identifier rest run is = absurd is
+opened_inside class.Decimal rest run is = absurd is
+opened_inside class.Hexadecimal rest run is = absurd is
+opened_inside class.Octal rest run is = absurd is
+opened_inside class.Binary rest run is = absurd is
+opened_inside class.Float rest run is = absurd is
+opened_inside (class.Fixed terminal) rest run is = absurd is
+
+-- all reads are few
+pub found_few : (text : Text) (reader : Reader) (it : Lookahead) (lexemes : List (Spanned TokenView)) (fault : Option (Spanned Fault)) → IsAhead text reader reader.stage lexemes fault → IsFoundAt text reader it
+    → (HasRead text reader → reader.reads ≤ 16 * (length text + 1)) → reader.reads ≤ 16 * (length text + 1)
+found_few text reader it lexemes fault ahead is whole = go it.found is
+  where
+    go : (now : Found) → IsFound text reader it.word it.run now → reader.reads ≤ 16 * (length text + 1)
+    go found.Nothing is = whole is.1
+    go found.Named is =
+        let inside = word_inside text reader lexemes fault it.word.class it.word.len is.0.stage ahead (sym is.0.front) in
+        omega (arith, inside.1, peeked_few text it.word.len (5 * it.word.len - 2) reader is.1)
+    go found.Unnamed is =
+        let inside = word_inside text reader lexemes fault it.word.class it.word.len is.0.stage ahead (sym is.0.front) in
+        omega (arith, inside.1, peeked_few text it.word.len (5 * it.word.len + 3) reader is.1)
+    go found.Wordless is =
+        let inside = (left_onward text reader lexemes fault is.0.stage ahead).is_left.1.inside in
+        omega (arith, inside, peeked_few text 0 3 reader is.2)
+    go found.Literal is =
+        let inside = word_inside text reader lexemes fault it.word.class it.word.len is.0.stage ahead (sym is.0.front) in
+        let run = opened_inside it.word.class (drop it.word.len (drop reader.at text)) it.run is.1 in
+        omega (arith, inside.1, run, length-drop it.word.len (drop reader.at text), length-drop reader.at text, peeked_few text (it.word.len + it.run) (5 * it.word.len + 8 * it.run + 3) reader is.2)
+    go found.Text is =
+        let inside = (left_onward text reader lexemes fault is.0.stage ahead).is_left.1.inside in
+        omega (arith, inside, is.0.run.boundary.0, length-drop reader.at text, peeked_few text it.run (8 * it.run + 4) reader is.1)
+    go found.All is = whole is
+
+-- the opener of a literal that isn't plain, and the run after it
+pub opened_found : (old new : Reader) (it : LiteralKind) (is_raw : Bool) (quote : Quote) (len run : ℕ) → it ≢ OfFString → new.text ≡ old.text → HasPeeked old.text.now len (5 * len - 2) old
+    → IsWordHere new.text.now new (record { class = class.Opener it is_raw quote; len = len }) → IsRun (single_literal it is_raw quote) (drop len (drop new.at new.text.now)) run × HasLookedHere run (6 * run + 3) old new
+    → IsFound old.text.now new (record { class = class.Opener it is_raw quote; len = len }) run found.Literal
+opened_found old new it is_raw quote len run other same peeked here known =
+    let text : new.text.now ≡ old.text.now = ap (λ t. t.now) same in (
+      subst (λ (t : Text). IsWordHere t new (record { class = class.Opener it is_raw quote; len = len })) text here,
+      (other, subst (λ (t : Text). IsRun (single_literal it is_raw quote) (drop len (drop new.at t)) run) text known.0),
+      peeked_more old.text.now len (5 * len - 2) run (6 * run + 3) (len + run) (5 * len + 8 * run + 3) old new peeked known.1 (omega arith) (omega arith),
+    )
+
+-- at the end of a text nothing is found
+pub end_read : (text : Text) (reader : Reader) (it : Lookahead) → IsAtEnd text reader → IsFoundAt text reader it → HasRead text reader
+end_read text reader it end is = go it.found is
+  where
+    go : (now : Found) → IsFound text reader it.word it.run now → HasRead text reader
+    go found.Nothing is = is.1
+    go found.Named is = absurd (subst IsOver is.0.stage end.1)
+    go found.Unnamed is = absurd (subst IsOver is.0.stage end.1)
+    go found.Wordless is = absurd (subst IsOver is.0.stage end.1)
+    go found.Literal is = absurd (subst IsOver is.0.stage end.1)
+    go found.Text is = absurd (subst IsOver is.0.stage end.1)
+    go found.All is = is
 
 -- where the reader gives the lexeme
-pub all_spared : (text : Text) (reader : Reader) (to : ℕ) (it : Lookahead) → it ≡ lookahead.All → IsLooked text reader to it → HasSpared text reader to
-all_spared text reader to it all is = subst (IsLooked text reader to) all is
+pub all_read : (text : Text) (reader : Reader) (it : Lookahead) → it.found ≡ found.All → IsFoundAt text reader it → HasRead text reader
+all_read text reader it all is = subst (IsFound text reader it.word it.run) all is
 
-pub goes_on : (it : Lookahead) (has_ended : Bool) → has_ended ≡ false → GoesOn it has_ended
-goes_on lookahead.Nothing has_ended e = e
-goes_on (lookahead.Word word) has_ended e = e
-goes_on lookahead.Wordless has_ended e = e
-goes_on lookahead.All has_ended e = tt
+pub goes_on : (it : Found) (has_ended : Bool) → has_ended ≡ false → GoesOn it has_ended
+goes_on found.Nothing has_ended e = e
+goes_on found.Named has_ended e = e
+goes_on found.Unnamed has_ended e = e
+goes_on found.Wordless has_ended e = e
+goes_on found.Literal has_ended e = e
+goes_on found.Text has_ended e = e
+goes_on found.All has_ended e = tt
 
 -- the reader may borrow another text
-pub over_looked : (text : Text) (reader over : Reader) (to : ℕ) (it : Lookahead) → IsLooked text reader to it → IsLooked text (record reader { text = over.text }) to it
-over_looked text reader over to lookahead.Nothing is = (over_code text reader over is.0, is.1, (is.2.0, is.2.1, over_reads text reader over is.2.0 reader.stage is.2.2))
-over_looked text reader over to (lookahead.Word word) is =
-    let here = is.0 in
-    (record { stage = here.stage; idle = here.idle; code = here.code; front = here.front; bang = here.bang }, (is.1.0, is.1.1, (is.1.2.0, is.1.2.1, over_reads text reader over (is.1.2.0 + (5 * word.len + 3)) reader.stage is.1.2.2)))
-over_looked text reader over to lookahead.Wordless is = (over_code text reader over is.0, (is.1.0, is.1.1, (is.1.2.0, is.1.2.1, over_reads text reader over (is.1.2.0 + 3) reader.stage is.1.2.2)))
-over_looked text reader over to lookahead.All is = (is.0, is.1, over_reads text reader over is.0 reader.stage is.2)
+module _ (text : Text) (reader over : Reader) where
+  over_word : (word : Word) → IsWordHere text reader word → IsWordHere text (record reader { text = over.text }) word
+  over_word word here = record { stage = here.stage; idle = here.idle; code = here.code; front = here.front; bang = here.bang }
+
+  pub over_found : (it : Lookahead) → IsFoundAt text reader it → IsFoundAt text (record reader { text = over.text }) it
+  over_found it is = go it.found is
+    where
+      go : (now : Found) → IsFound text reader it.word it.run now → IsFound text (record reader { text = over.text }) it.word it.run now
+      go found.Nothing is = (over_code text reader over is.0, over_reads text reader over reader.stage is.1)
+      go found.Named is = (over_word it.word is.0, is.1)
+      go found.Unnamed is = (over_word it.word is.0, is.1)
+      go found.Wordless is = (over_code text reader over is.0, is.1, is.2)
+      go found.Literal is = (over_word it.word is.0, is.1, is.2)
+      go found.Text is = (record { opening = is.0.opening; stage = is.0.stage; idle = is.0.idle; inside = is.0.inside; run = is.0.run }, is.1)
+      go found.All is = over_reads text reader over reader.stage is
 
 -- what each test tells
-pub nothing_looked : (text : Text) (reader : Reader) (to : ℕ) (has_ended : Bool) (it : Lookahead) → is_nothing it ≡ true → GoesOn it has_ended → (has_ended ≡ false → IsLooked text reader to it)
-    → (has_ended ≡ false) × IsAtCode text reader × (to ≤ reader.at) × HasSpared text reader to
-nothing_looked text reader to has_ended lookahead.Nothing quick goes is = (goes, (is goes).0, (is goes).1, (is goes).2)
-nothing_looked text reader to has_ended (lookahead.Word word) quick goes is = cc
-nothing_looked text reader to has_ended lookahead.Wordless quick goes is = cc
-nothing_looked text reader to has_ended lookahead.All quick goes is = cc
+pub nothing_found : (text : Text) (reader : Reader) (has_ended : Bool) (it : Lookahead) → is_nothing it.found ≡ true → GoesOn it.found has_ended → (has_ended ≡ false → IsFoundAt text reader it) → (has_ended ≡ false) × IsAtCode text reader × HasRead text reader
+nothing_found text reader has_ended it = go it.found
+  where
+    go : (now : Found) → is_nothing now ≡ true → GoesOn now has_ended → (has_ended ≡ false → IsFound text reader it.word it.run now) → (has_ended ≡ false) × IsAtCode text reader × HasRead text reader
+    go found.Nothing quick goes is = (goes, (is goes).0, (is goes).1)
+    go found.Named quick goes is = cc
+    go found.Unnamed quick goes is = cc
+    go found.Wordless quick goes is = cc
+    go found.Literal quick goes is = cc
+    go found.Text quick goes is = cc
+    go found.All quick goes is = cc
 
-pub nothing_kept : (text : Text) (reader : Reader) (to beside : ℕ) (it : Lookahead) → is_nothing it ≡ true → IsAtCode text reader → to ≤ reader.at → beside ≤ 6 * to → HasRead text beside reader → IsLooked text reader to it
-nothing_kept text reader to beside lookahead.Nothing quick code remainder paid has = (code, remainder, (beside, omega (arith, paid), has))
-nothing_kept text reader to beside (lookahead.Word word) quick code remainder paid has = cc
-nothing_kept text reader to beside lookahead.Wordless quick code remainder paid has = cc
-nothing_kept text reader to beside lookahead.All quick code remainder paid has = cc
+pub nothing_is : (it : Found) → is_nothing it ≡ true → it ≡ found.Nothing
+nothing_is found.Nothing nothing = refl
+nothing_is found.Named nothing = cc
+nothing_is found.Unnamed nothing = cc
+nothing_is found.Wordless nothing = cc
+nothing_is found.Literal nothing = cc
+nothing_is found.Text nothing = cc
+nothing_is found.All nothing = cc
 
--- a word that was found is taken, …
-pub word_reads : (text : Text) (to len : ℕ) (old new : Reader) → old.stage ≡ stages.Onward → HasReadHere text to len old → IsTaken len old new → HasSpared text new to
-word_reads text to len old new onward read taken =
-    let on : HasReadAt text (read.2.0 + (5 * len + 3)) old stages.Onward = subst (HasReadAt text (read.2.0 + (5 * len + 3)) old) onward read.2.2 in
-    (read.2.0, read.2.1, subst (HasReadAt text read.2.0 new) (sym taken.2) (omega (arith, read.1, taken.1.0, taken.1.1), omega (arith, on.1, taken.0, taken.1.0, taken.1.1, taken.1.2)))
-
--- … or begins an f-string, …
-pub begun_reads : (text : Text) (to len : ℕ) (old new : Reader) → 1 ≤ len → old.stage ≡ stages.Onward → HasReadHere text to len old → HasStarted len old new → HasSpared text new to
-begun_reads text to len old new some onward read begun =
-    let on : HasReadAt text (read.2.0 + (5 * len + 3)) old stages.Onward = subst (HasReadAt text (read.2.0 + (5 * len + 3)) old) onward read.2.2 in
-    (read.2.0, read.2.1, subst (HasReadAt text read.2.0 new) (sym begun.2) (omega (arith, read.1, begun.1, begun.4.0), omega (arith, some, on.1, begun.0, begun.3, begun.4.1)))
-
--- … or opens a bytes literal
-pub bytes_reads : (text : Text) (to len body : ℕ) (old mid new : Reader) → 1 ≤ len → old.stage ≡ stages.Onward → HasReadHere text to len old → HasLookedHere (body + 1) (6 * body + 3) old mid → IsTaken (len + body + 1) mid new → HasSpared text new to
-bytes_reads text to len body old mid new some onward read body_read taken =
-    let on : HasReadAt text (read.2.0 + (5 * len + 3)) old stages.Onward = subst (HasReadAt text (read.2.0 + (5 * len + 3)) old) onward read.2.2 in
-    (read.2.0, read.2.1, subst (HasReadAt text read.2.0 new) (sym taken.2) (omega (arith, read.1, body_read.0, body_read.3.0, taken.1.0, taken.1.1), omega (arith, some, on.1, body_read.0, body_read.2, body_read.3.1, taken.1.0, taken.1.1, taken.1.2)))
-
--- the bang of an f-string's expression is taken, or isn't there
-pub bang_reads : (text : Text) (to : ℕ) (old mid new : Reader) → old.stage ≡ stages.Onward → HasReadHere text to 0 old → HasLookedHere 2 2 old mid → IsTaken 1 mid new → HasSpared text new to
-bang_reads text to old mid new onward read looked taken =
-    let on : HasReadAt text (read.2.0 + 3) old stages.Onward = subst (HasReadAt text (read.2.0 + 3) old) onward read.2.2 in
-    (read.2.0, read.2.1, subst (HasReadAt text read.2.0 new) (sym taken.2) (omega (arith, read.1, looked.0, looked.3.0, taken.1.0, taken.1.1), omega (arith, on.1, looked.0, looked.2, looked.3.1, taken.1.0, taken.1.1, taken.1.2)))
+pub nothing_kept : (text : Text) (reader : Reader) (it : Lookahead) → it.found ≡ found.Nothing → IsAtCode text reader → HasRead text reader → IsFoundAt text reader it
+nothing_kept text reader it nothing code has = subst (IsFound text reader it.word it.run) (sym nothing) (code, has)
 
 -- what is found out after a lexeme
-pub found_out : (text : Text) (reader : Reader) (to beside : ℕ) (it : Lookahead) → IsFoundOut reader to it → IsPending text reader.pending → beside ≤ 6 * to → HasRead text beside reader → IsLooked text reader to it
-found_out text reader to beside lookahead.Nothing is pending paid has = (is.1 text pending, is.0, (beside, omega (arith, paid), has))
-found_out text reader to beside (lookahead.Word word) is pending paid has = absurd is
-found_out text reader to beside lookahead.Wordless is pending paid has = absurd is
-found_out text reader to beside lookahead.All is pending paid has = (beside, omega (arith, paid), has)
+pub found_out : (text : Text) (reader : Reader) (word : Word) (run : ℕ) (it : Found) → IsFoundOut reader it → IsPending text reader.pending → HasRead text reader → IsFound text reader word run it
+found_out text reader word run found.Nothing is pending has = (is text pending, has)
+found_out text reader word run found.Named is pending has = absurd is
+found_out text reader word run found.Unnamed is pending has = absurd is
+found_out text reader word run found.Wordless is pending has = absurd is
+found_out text reader word run found.Literal is pending has = absurd is
+found_out text reader word run found.Text is pending has = absurd is
+found_out text reader word run found.All is pending has = has
 
-pub found_in_code : (text : Text) (reader : Reader) (to beside : ℕ) (it : Lookahead) → IsFoundInCode reader it → (is_in_code : IsFoundInCode reader lookahead.Nothing → IsAtCode text reader) → to ≤ reader.at → beside ≤ 6 * to → HasRead text beside reader → IsLooked text reader to it
-found_in_code text reader to beside lookahead.Nothing is code remainder paid has = (code is, remainder, (beside, omega (arith, paid), has))
-found_in_code text reader to beside (lookahead.Word word) is code remainder paid has = absurd is
-found_in_code text reader to beside lookahead.Wordless is code remainder paid has = absurd is
-found_in_code text reader to beside lookahead.All is code remainder paid has = (beside, omega (arith, paid), has)
-
-pub found_further : (text : Text) (reader : Reader) (to beside : ℕ) (it : Lookahead) → IsFoundFurther reader to it → IsAtCode text reader → beside ≤ 6 * to → HasRead text beside reader → IsLooked text reader to it
-found_further text reader to beside lookahead.Nothing is code paid has = (code, is, (beside, omega (arith, paid), has))
-found_further text reader to beside (lookahead.Word word) is code paid has = absurd is
-found_further text reader to beside lookahead.Wordless is code paid has = absurd is
-found_further text reader to beside lookahead.All is code paid has = (beside, omega (arith, paid), has)
-
--- where something was taken
-pub further_after : {A E : Type 0} (taken : Result A E) (text : Text) (reader : Reader) (to : ℕ) (it : Lookahead) → IsFoundFurther reader to it → OnOk taken (IsAtCode text reader) → OnOk taken (HasSpared text reader to) → OnOk taken (IsLooked text reader to it)
-further_after (Ok given) text reader to it is code paid = found_further text reader to paid.0 it is code (omega (arith, paid.1)) paid.2
-further_after (Err error) text reader to it is code paid = tt
+pub found_in_code : (text : Text) (reader : Reader) (word : Word) (run : ℕ) (it : Found) → IsFoundInCode reader it → (IsInCode reader → IsAtCode text reader) → HasRead text reader → IsFound text reader word run it
+found_in_code text reader word run found.Nothing is code has = (code is, has)
+found_in_code text reader word run found.Named is code has = absurd is
+found_in_code text reader word run found.Unnamed is code has = absurd is
+found_in_code text reader word run found.Wordless is code has = absurd is
+found_in_code text reader word run found.Literal is code has = absurd is
+found_in_code text reader word run found.Text is code has = absurd is
+found_in_code text reader word run found.All is code has = has
 
 -- a line end that counts isn't passed
 pub newline_counts : (it : LineEnd) → it ≡ line_end.Newline → it ≡ line_end.Passed → ⊥
@@ -146,55 +222,33 @@ pending_counts it pending passed = cc
 pub fault_counts : (it : LineEnd) → it ≡ line_end.Fault → it ≡ line_end.Passed → ⊥
 fault_counts it fault passed = cc
 
--- The opener of a text literal has at most two bytes.
-abbrev fits_two : Class → Text → Bool
-fits_two (class.Opener kind.Text is_raw quote) word = leb (length word) 2
-fits_two it word = true
-
-rows_fit : RowsFit fits_two
-unfolding openers line_ends symbols names
-rows_fit = (refl, refl, refl, refl)
-
-word_fits : (word : Text) (it : Class) → class_in language word ≡ Some it → fits_two it word ≡ true
-word_fits = language_all_fit fits_two rows_fit (λ word. patterns_all_fit fits_two word (λ h. refl) (λ h. refl) (λ h. refl) (λ h. refl) (λ h. refl) (λ h. refl) (λ h. refl) (λ h. refl) (λ h. refl) (λ h. refl))
-
-pub text_opener_len : (text : Text) (is_raw : Bool) (quote : Quote) (len : ℕ) → Some (class.Opener kind.Text is_raw quote, len) ≡ language_front text → (1 ≤ len) × (len ≤ 2)
-text_opener_len text is_raw quote len front =
-    let it = class.Opener kind.Text is_raw quote in
-    let known = word_class text it len (sym front) in
-    let fits : leb (length (take len text)) 2 ≡ true = word_fits (take len text) it known in
-    (word_some text it len (sym front), omega (arith, leb-true (length (take len text)) 2 fits, word_len text it len (sym front)))
-
--- a plain string literal, of which the opener and the body were looked at
-pub string_reads : (text : Text) (beside len body : ℕ) (first old mid after new : Reader) → first.stage ≡ stages.Onward → HasRead text beside first → HasLooked len ((5 * len - 4) + 2) first old → HasLookedHere 2 2 old mid
-    → HasLookedHere (body + 1) (6 * body + 3) mid after → (1 ≤ len) × (len ≤ 2) → IsPassedBy (after.at + (len + body + 1)) after new × (new.stage ≡ stages.Onward) → HasRead text beside new
-string_reads text beside len body first old mid after new onward has word opened lookahead short passed =
-    let on : HasReadAt text beside first stages.Onward = subst (HasReadAt text beside first) onward has in
-    subst (HasReadAt text beside new) (sym passed.1) (
-      omega (arith, short.1, word.0, word.3.0, opened.0, opened.3.0, lookahead.0, lookahead.3.0, on.0, passed.0.0, passed.0.1),
-      omega (arith, short.0, word.0, word.2, word.3.1, opened.0, opened.2, opened.3.1, lookahead.0, lookahead.2, lookahead.3.1, on.1, passed.0.0, passed.0.1, passed.0.2),
-    )
-
--- a count of other bytes adds reads, or leaves the reader as it was
-pub counted_reads : (counts : Bool) (len : ℕ) (old new : Reader) → (counts ≡ false → new ≡ old) → (counts ≡ true → old.reads + len < new.reads) → old.reads ≤ new.reads
-counted_reads true len old new none counted = omega (arith, counted refl)
-counted_reads false len old new none counted = omega (arith, ap (λ (reader : Reader). reader.reads) (none refl))
-
 -- more reads of other bytes, where they are within the bound
-pub looked_reads : (text : Text) (old new : Reader) (to : ℕ) (it : Lookahead) → new ≡ record old { reads = new.reads } → old.reads ≤ new.reads → ((beside : ℕ) → HasRead text beside old → HasRead text beside new) → IsLooked text old to it → IsLooked text new to it
-looked_reads text old new to it same least more = go it
+pub counted_found : (text : Text) (counts : Bool) (len : ℕ) (old new : Reader) (it : Lookahead) → new ≡ record old { reads = new.reads } → (counts ≡ false → new ≡ old) → (counts ≡ true → old.reads + len < new.reads) → (counts ≡ true → new.reads + 5 * owed new.pending < 10 * new.at)
+    → (HasRead text old → HasRead text new) → IsFoundAt text old it → IsFoundAt text new it
+counted_found text false len old new it same none counted few more is = subst (λ (reader : Reader). IsFoundAt text reader it) (sym (none refl)) is
+counted_found text true len old new it same none counted few more is = go it.found is
   where
-    code : IsAtCode text old → IsAtCode text new
-    code at = subst (IsAtCode text) (sym same) (record { stage = at.stage; idle = at.idle; code = at.code })
-
-    word : (it : Word) → IsWordHere text old it → IsWordHere text new it
-    word it here = subst (λ (reader : Reader). IsWordHere text reader it) (sym same) (record { stage = here.stage; idle = here.idle; code = here.code; front = here.front; bang = here.bang })
-
     at : new.at ≡ old.at
     at = ap (λ (reader : Reader). reader.at) same
 
-    go : (it : Lookahead) → IsLooked text old to it → IsLooked text new to it
-    go lookahead.Nothing is = (code is.0, omega (arith, is.1, at), (is.2.0, is.2.1, more is.2.0 is.2.2))
-    go (lookahead.Word found) is = (word found is.0, (omega (arith, is.1.0, at), omega (arith, is.1.1, at, least), (is.1.2.0, is.1.2.1, more (is.1.2.0 + (5 * found.len + 3)) is.1.2.2)))
-    go lookahead.Wordless is = (code is.0, (omega (arith, is.1.0, at), omega (arith, is.1.1, at, least), (is.1.2.0, is.1.2.1, more (is.1.2.0 + 3) is.1.2.2)))
-    go lookahead.All is = (is.0, is.1, more is.0 is.2)
+    code : IsAtCode text old → IsAtCode text new
+    code here = subst (IsAtCode text) (sym same) (record { stage = here.stage; idle = here.idle; code = here.code })
+
+    word : IsWordHere text old it.word → IsWordHere text new it.word
+    word here = subst (λ (reader : Reader). IsWordHere text reader it.word) (sym same) (record { stage = here.stage; idle = here.idle; code = here.code; front = here.front; bang = here.bang })
+
+    peeked : (least most : ℕ) → HasPeeked text least most old → HasPeeked text least most new
+    peeked least most was =
+        (new.reads - (old.reads - was.0), (omega (arith, at, counted refl, was.1.0, was.2.0), omega (arith, few refl)), (omega (arith, counted refl, few refl, was.2.0), omega (arith, counted refl, was.2.1)))
+
+    rest : drop old.at text ≡ drop new.at text
+    rest = ap (λ n. drop n text) (sym at)
+
+    go : (now : Found) → IsFound text old it.word it.run now → IsFound text new it.word it.run now
+    go found.Nothing is = (code is.0, more is.1)
+    go found.Named is = (word is.0, peeked it.word.len (5 * it.word.len - 2) is.1)
+    go found.Unnamed is = (word is.0, peeked it.word.len (5 * it.word.len + 3) is.1)
+    go found.Wordless is = (code is.0, rw rest at is.1, peeked 0 3 is.2)
+    go found.Literal is = (word is.0, rw rest at is.1, peeked (it.word.len + it.run) (5 * it.word.len + 8 * it.run + 3) is.2)
+    go found.Text is = (subst (λ (reader : Reader). IsTextRun text it.run reader) (sym same) (record { opening = is.0.opening; stage = is.0.stage; idle = is.0.idle; inside = is.0.inside; run = is.0.run }), peeked it.run (8 * it.run + 4) is.1)
+    go found.All is = more is

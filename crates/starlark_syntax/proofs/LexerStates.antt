@@ -1,5 +1,5 @@
 -- The state of a lexer while it passes line ends, and what its answers are as items of the text.
-use Rattle.std.proofs.Common.{◌≡◌, ◌<◌, ◌≤◌, ◌+◌, ◌*◌, ◌^◌, ◌||◌, arith, ℕ, IfSome, slice_get, subst, Option, None, Some, Result, Ok, Err, true, false, [], length, refl, ap, sym, ◌∙◌}
+use Rattle.std.proofs.Common.{◌≡◌, ◌<◌, ◌≤◌, ◌+◌, ◌^◌, ◌||◌, arith, ℕ, IfSome, slice_get, subst, Option, None, Some, Result, Ok, Err, true, false, [], length, refl, ap, sym, ◌∙◌}
 use Rattle.starlark_base.specs.Diagnostics.{Diagnosed}
 use Rattle.starlark_base.specs.Sources.{SourceFile}
 use Rattle.std.specs.Option.{is_some}
@@ -10,7 +10,8 @@ use Rattle.starlark_grammar.proofs.Order.Inside.{fault_within}
 use Rattle.starlark_grammar.specs.Reading.{outcome}
 use Rattle.starlark_reader.specs.Inner.Reader.{IsAhead}
 use Rattle.starlark_syntax.specs.Inner.LexerStates.{HasAnswered, HasGivenNext, HasThrown, IsLexing, IsLexingIn, StateView, has_fault, left_in, view_of}
-use Rattle.starlark_syntax.specs.Inner.Looked.{GoesOn, IsInReach, IsLooked}
+use Rattle.starlark_reader.specs.Inner.Lookaheads.{IsFoundAt}
+use Rattle.starlark_syntax.specs.Inner.Looked.{GoesOn}
 use Rattle.starlark_reader.specs.Inner.Reader.{IsAtEnd, IsLeft, IsOver, IsRaw, IsSomething, IsSound, is_fault}
 use Rattle.starlark_reader.proofs.TakenPieces.NextLexeme.{nothing_next}
 use Rattle.starlark_reader.proofs.NextLines.{restart_inside}
@@ -22,7 +23,7 @@ use Rattle.starlark_grammar.specs.Tokens.{Fault, Lexeme, Outcome, Spanned}
 use Rattle.starlark_token.specs.declared.lexeme_error.LexemeError.{LexemeError}
 use Rattle.std.proofs.lemmas.Bool.{and_parts, not-true}
 use Rattle.starlark_grammar.specs.Words.{Text}
-use Rattle.starlark_syntax.proofs.LexerReads.{end_spared, spared}
+use Rattle.starlark_syntax.proofs.LexerReads.{end_read, found_few}
 use Rattle.starlark_syntax.proofs.LexerItems.{fault_item, lexeme_item, lexeme_within, nothing_item, some_item}
 use Rattle.starlark_syntax.specs.Lexer.{AnswersNext, AnswersWithin, HasReadFor, is_ended_by, most_reads, yielded_by}
 use Rattle.starlark_syntax.specs.declared.error.kinds.ErrorKind.{ErrorKind}
@@ -46,12 +47,12 @@ abbrev pub IsGoingOn : LexerState → LexerState → Type 0
 IsGoingOn first now =
     (now.reader.text ≡ first.reader.text) × (now.yielded_count ≡ first.yielded_count) × (now.has_ended ≡ first.has_ended)
     × (now.has_ended ≡ false → IsAhead now.reader.text.now now.reader now.reader.stage (left_in now) (outcome now.reader.text.now).fault)
-    × GoesOn now.lookahead now.has_ended × (now.has_ended ≡ false → IsLooked now.reader.text.now now.reader now.looked_to now.lookahead) × IsInReach now.reader.text.now now.looked_to
+    × GoesOn now.lookahead.found now.has_ended × (now.has_ended ≡ false → IsFoundAt now.reader.text.now now.reader now.lookahead)
     × (now.has_ended ≡ true → now ≡ first)
 
 pub lexing_on : (first now : LexerState) → IsLexing first → IsGoingOn first now → IsLexing now
 lexing_on first now lexing on =
-    (rw on.0 lexing.0, (λ goes. (rw (on.0, on.1) (lexing.1 (sym on.2 ∙ goes)).0, on.3 goes)), on.4, on.5, on.6)
+    (rw on.0 lexing.0, (λ goes. (rw (on.0, on.1) (lexing.1 (sym on.2 ∙ goes)).0, on.3 goes)), on.4, on.5)
 
 -- the text and the number of yielded items are the same
 abbrev pub IsSameText : LexerState → LexerState → Type 0
@@ -136,17 +137,16 @@ pub fault_going : (state : LexerState) → has_fault state ≡ true → state.ha
 fault_going state has = not-true state.has_ended (and_parts (not state.has_ended) (is_fault state.reader.stage) has).0
 
 -- while no error has ended it, what was read is bounded
-read_at : (text : Text) (reader : Reader) (to beside : ℕ) (left : Outcome) → to ≤ length text + 1 → beside ≤ 6 * to → (stage : Stage) → IsLeft text reader stage left → HasReadAt text beside reader stage → reader.reads ≤ most_reads text
-read_at text reader to beside left near paid stages.Begin is has = omega (arith, near, paid, has.1)
-read_at text reader to beside left near paid stages.Onward is has = omega (arith, near, paid, has.1, is.1.inside)
-read_at text reader to beside left near paid (stages.Fault begin fault end) is has = let read = (has.1 is.0 is.1).0 in omega (arith, near, paid, read, restart_inside text (record { begin = begin; node = is.0; end = end }))
-read_at text reader to beside left near paid stages.Closed is has = omega (arith, near, paid, has.1)
+read_at : (text : Text) (reader : Reader) (left : Outcome) (stage : Stage) → IsLeft text reader stage left → HasReadAt text reader stage → reader.reads ≤ most_reads text
+read_at text reader left stages.Begin is has = omega (arith, has.1)
+read_at text reader left stages.Onward is has = omega (arith, has.1, is.1.inside)
+read_at text reader left (stages.Fault begin fault end) is has = let read = (has.1 is.0 is.1).0 in omega (arith, read, restart_inside text (record { begin = begin; node = is.0; end = end }))
+read_at text reader left stages.Closed is has = omega (arith, has.1)
 
 pub lexing_read_in : (text : Text) (state : LexerState) → IsLexingIn text state → state.has_ended ≡ false → state.reader.reads ≤ most_reads text
 lexing_read_in text state lexing going =
     let ahead = (lexing.1 going).1 in
-    let far = spared text state.reader state.looked_to state.lookahead _ _ lexing.4.inside ahead (lexing.3 going) in
-    read_at text state.reader far.0 far.2.0 ahead.left far.1 far.2.1 state.reader.stage ahead.is_left far.2.2
+    found_few text state.reader state.lookahead _ _ ahead (lexing.3 going) (read_at text state.reader ahead.left state.reader.stage ahead.is_left)
 
 pub lexing_read : (state : LexerState) → IsLexing state → state.has_ended ≡ false → state.reader.reads ≤ most_reads state.reader.text.now
 lexing_read state lexing going = lexing_read_in state.reader.text.now state lexing going
@@ -173,8 +173,7 @@ at_end state lexing going end none = by state.reader.stage refl end.1 (sym (ap (
     by (stages.Fault begin fault last) e over h = cc
     by stages.Closed e over h =
         let last = nothing_next state.reader.text.now state.reader state.reader (left_in state) (outcome state.reader.text.now).fault (record { at = refl; nesting = refl; levels = refl; before = refl }) end.0 refl e e (lexing.1 going).1 in
-        let paid = end_spared state.reader.text.now state.reader state.looked_to state.lookahead end (lexing.3 going) in
-        let read = subst (HasReadAt state.reader.text.now paid.0 state.reader) e paid.2 in
+        let read = subst (HasReadAt state.reader.text.now state.reader) e (end_read state.reader.text.now state.reader state.lookahead end (lexing.3 going)) in
         (last.0, last.1, omega (arith, read.0, lexing.0.fits))
 
 -- So nothing more is answered.

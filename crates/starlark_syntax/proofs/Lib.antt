@@ -1,6 +1,5 @@
 -- Where each proof is. What belongs to one function is in a folder that has its name.
 -- LexerReads: reads: of a piece, after each step, and of the lexer by its lookahead.
--- Reaches: lookahead: words are on a line; lookahead that failed stays before the line where lexing begins again.
 -- LexerItems, LexerStates: items: items by their number, inside of the text; what a call on the state returns is
 --   the next.
 -- FoundWords, PlainLexemes: the fast path: the state at a word that the scanner has found, and after a lexeme was
@@ -37,7 +36,6 @@ pub mod Held
 pub mod RecoveredItems
 pub mod RestartPlaces
 pub mod RestartReads
-pub mod Reaches
 pub mod NextItems
 pub mod RepairedParts
 pub mod RecoveryStates

@@ -84,7 +84,7 @@ pub taken_lexing : (mid : LexerState) (plain : PlainLexeme) (answer : Option (Re
 taken_lexing mid plain None new lexing taken = absurd taken
 taken_lexing mid plain (Some (Ok lexeme)) new lexing taken = subst IsLexing (sym taken.1) lexing
 taken_lexing mid plain (Some (Err (Error exception))) new lexing taken = absurd taken
-taken_lexing mid plain (Some (Err Memory)) new lexing taken = subst IsLexing (sym taken) (lexing.0, (λ on. cc), tt, (λ on. cc), lexing.4)
+taken_lexing mid plain (Some (Err Memory)) new lexing taken = subst IsLexing (sym taken) (lexing.0, (λ on. cc), tt, (λ on. cc))
 
 -- what the fast path tells of a state, it tells of one with the same text and number of items
 pub passed_same : (first now : LexerState) (found : FastPath) (new : LexerState) → IsSameText first now → HasPassed now found new → HasPassed first found new

@@ -36,7 +36,7 @@ use Rattle.starlark_reader.specs.Inner.Reader.{IsSomething}
 use Rattle.starlark_reader.proofs.TakenPieces.SameTexts.{over_ahead, over_state}
 use Rattle.starlark_reader.specs.Inner.Reader.{IsText, history_of}
 use Rattle.starlark_reader.specs.declared.reader.Reader.{Reader}
-use Rattle.starlark_syntax.proofs.LexerReads.{over_looked}
+use Rattle.starlark_syntax.proofs.LexerReads.{over_found}
 use Rattle.starlark_syntax.specs.Inner.LexerStates.{HasFound, IsAtFault, IsBegun, IsLexing, IsLexingIn, StateView}
 use Rattle.starlark_syntax.specs.Lexer.{HasReadToFault, most_reads}
 use Rattle.starlark_syntax.specs.declared.lexer_state.LexerState.{LexerState}
@@ -54,8 +54,7 @@ over_lexing part old over lexing = (
   lexing.0,
   (λ on. ((lexing.1 on).0, over_ahead part old.reader over old.reader.stage _ _ (lexing.1 on).1)),
   lexing.2,
-  (λ on. over_looked part old.reader over old.looked_to old.lookahead (lexing.3 on)),
-  lexing.4,
+  (λ on. over_found part old.reader over old.lookahead (lexing.3 on)),
 )
 
 pub lent_lexing : (part : Text) (old lent over : LexerState) → over ≡ record lent { reader = record lent.reader { text = over.reader.text } } → lent ≡ old → over.reader.text.now ≡ part → IsLexingIn part old → IsLexing over
@@ -70,9 +69,8 @@ at_fault_back : (text : Text) (fault : Spanned Fault) (state back : LexerState) 
 at_fault_back text fault state back same here =
     let stores = here.stores in
     let least = here.least in
-    let spared = here.spared in
-    let reach = here.reach in
-    subst (IsAtFault text fault) (sym same) (record { fits = here.fits; has = here.has; counted = here.counted; stores = λ untabbed. over_state text state.reader back.reader (history_of text) (stores untabbed); least = least; spared = spared; reach = reach })
+    let leaves = here.leaves in
+    subst (IsAtFault text fault) (sym same) (record { fits = here.fits; has = here.has; counted = here.counted; stores = λ untabbed. over_state text state.reader back.reader (history_of text) (stores untabbed); least = least; leaves = leaves })
 
 pub found_back : (text : Text) (old lent new back : LexerState) (item : Option (Result (ℕ × Token × ℕ) (OrMemory (ℕ × LexemeError × ℕ)))) → lent.yielded_count ≡ old.yielded_count → back ≡ record new { reader = record new.reader { text = back.reader.text } }
     → HasFound text lent item new → HasFound text old item back
@@ -265,13 +263,7 @@ module _ (old : RecoveryState) (fault : Spanned Fault) (stopped : IsStopped old 
 pub begun_lexing : (text any : Text) (state : LexerState) → IsText any → IsBegun text state → IsLexingIn any state
 begun_lexing text any state is begun =
     let none : state.yielded_count ≡ 0 = ap (λ (v : StateView). v.yielded_count) begun.view in
-    let place = begun.place in (
-      is,
-      (λ on. (omega (arith, none), rw none (begun.ahead any))),
-      rw begun.lookahead tt,
-      (λ on. rw begun.lookahead (0, omega arith, begun.reads any)),
-      record { inside = omega (arith, place); fault = λ fault has. omega (arith, place) },
-    )
+    (is, (λ on. (omega (arith, none), rw none (begun.ahead any))), rw begun.lookahead tt, (λ on. rw begun.lookahead (begun.reads any)))
 
 pub all_from_none : (lexemes : List Lexeme) → AllByRecursion (λ (lexeme : Lexeme). 0 ≤ lexeme.begin) lexemes
 all_from_none [] = tt

@@ -11,13 +11,12 @@ use Rattle.starlark_grammar.specs.Words.{Text}
 use Rattle.starlark_grammar.proofs.Found.JoinedTexts.{semicolon_count}
 use Rattle.starlark_grammar.proofs.Repairs.RepairedTexts.{repaired_len}
 use Rattle.starlark_grammar.proofs.Repairs.Readings.{repairs_keep}
-use Rattle.starlark_reader.proofs.TakenPieces.Repaired.{restart_repaired}
 use Rattle.starlark_reader.specs.Inner.Reader.{IsAhead}
 use Rattle.starlark_reader.specs.Inner.ReadBounds.{HasRead}
 use Rattle.starlark_reader.specs.declared.reader.Reader.{Reader}
 use Rattle.starlark_syntax.specs.Inner.LexerStates.{IsAtFault, IsLexingIn}
 use Rattle.starlark_syntax.specs.declared.lexer_state.LexerState.{LexerState}
-use Rattle.starlark_syntax.specs.declared.lexer_state.Lookahead.TheVariants as lookahead
+use Rattle.starlark_reader.specs.declared.lookahead.Found.TheVariants as found
 use Rattle.starlark_token.specs.Lexemes.{shown_lexeme}
 
 -- the lexemes before the end of a repair are among those of the repaired text
@@ -36,22 +35,15 @@ passed_few text fault keeps =
 -- what the reader has ahead is what the lexer has left
 pub lexing_repaired : (text : Text) (fault : Spanned Fault) (old : LexerState) (reader : Reader) (count : ℕ) (here : IsAtFault text fault old) → KeepsLine text fault → IsUtf8 (repaired text fault) → count ≡ passed_count text fault
     → IsAhead (repaired text fault) reader reader.stage (map shown_lexeme (drop (passed_count text fault) (outcome (repaired text fault)).lexemes)) (outcome (repaired text fault)).fault
-    → HasRead (repaired text fault) here.spared.0 reader → IsLexingIn (repaired text fault) (record old { yielded_count = count; has_ended = false; lookahead = lookahead.All; reader = reader })
+    → HasRead (repaired text fault) reader → IsLexingIn (repaired text fault) (record old { yielded_count = count; has_ended = false; lookahead = record old.lookahead { found = found.All }; reader = reader })
 lexing_repaired text fault old reader count here keeps utf8 is ahead read =
     let few = passed_few text fault keeps in
     let len = repaired_len text fault keeps in
     let fits = here.fits in
-    let reach = here.reach in
-    let inside = reach.inside in
-    let spared = here.spared in
     let left : map shown_lexeme (drop (passed_count text fault) (outcome (repaired text fault)).lexemes) ≡ drop count (map shown_lexeme (outcome (repaired text fault)).lexemes) =
     sym (drop-map shown_lexeme (passed_count text fault) (outcome (repaired text fault)).lexemes) ∙ ap (λ n. drop n (map shown_lexeme (outcome (repaired text fault)).lexemes)) (sym is) in (
       record { fits = omega (arith, len, fits); utf8 = utf8 },
       (λ on. (omega (arith, few, is), subst (λ l. IsAhead (repaired text fault) reader reader.stage l (outcome (repaired text fault)).fault) left ahead)),
       tt,
-      (λ on. (spared.0, omega (arith, spared.1), read)),
-      record {
-        inside = omega (arith, inside, len);
-        fault = λ later has. let first = reach.fault fault here.has in omega (arith, first, restart_repaired text fault keeps later has);
-      },
+      (λ on. read),
     )

@@ -21,7 +21,8 @@ ghost use Rattle.starlark_syntax.specs.PlainLexemes.{IsPlainIn};
 ghost use Rattle.starlark_token.specs.Lexemes.{IsWithin};
 ghost use Rattle.starlark_reader.specs.Inner.Pending.{IsMark};
 ghost use Rattle.starlark_token.specs.TokenViews.{token_view};
-ghost use Rattle.starlark_syntax.specs.Inner.Looked.{HasSpared, IsFoundFurther, IsFoundInCode, IsFoundOut, IsLooked, is_all, is_nothing, is_text_opener};
+ghost use Rattle.starlark_syntax.specs.Inner.Looked.{IsFoundInCode, IsFoundOut};
+ghost use Rattle.starlark_reader.specs.Inner.Lookaheads.{IsFoundAt};
 ghost use Rattle.starlark_grammar.specs.declared.class.LiteralKind.TheVariants as kind;
 
 use crate::eval_exception::EvalException;
@@ -29,6 +30,7 @@ use crate::fault_exception::exception;
 use crate::lexemes::Lexeme;
 use crate::plain_lexeme::{PlainKind, PlainLexeme, token_of};
 use starlark_base::codemap::{CodeMap, OrMemory};
+use starlark_reader::lookahead::{Found, Lookahead};
 use starlark_reader::reader::{LineEnd, Reader};
 use starlark_token::lexeme_error::LexemeError;
 use starlark_token::tokens::Token;
@@ -40,15 +42,12 @@ pub(crate) type Item = Result<(usize, Token, usize), OrMemory<(usize, LexemeErro
 
 /// The state of lexing a text, which all lexers and `LexedText` share.
 ///
-/// It yields the lexemes of the text one by one, and then its fault. Any error ends it. Up to offset
-/// `looked_to` lookahead found nothing plain, and the reader takes over: no byte is looked ahead at
-/// twice. `passed_begin` and `passed_end` are the offsets of the lexeme that `pass_waiting` passed
-/// last.
+/// It yields the lexemes of the text one by one, and then its fault. Any error ends it.
+/// `passed_begin` and `passed_end` are the offsets of the lexeme that `pass_waiting` passed last.
 // In this order for the reason that `Reader` has one.
 #[derive(Drop)]
 pub struct LexerState<'a> {
     yielded_count: usize,
-    looked_to: usize,
     lookahead: Lookahead,
     has_ended: bool,
     reader: Reader<'a>,
@@ -57,40 +56,15 @@ pub struct LexerState<'a> {
     alloc: Global,
 }
 
-/// What lookahead has found at the current offset.
-#[derive(Clone, Copy)]
-enum Lookahead {
-    /// Nothing yet. The lexer is in code, and no token is pending.
-    Nothing,
-    /// A word in code, which the fast path doesn't pass.
-    Word(Word),
-    /// That no word begins there, in code.
-    Wordless,
-    /// All that it can find, or the lexer isn't in code: the reader gives the lexeme.
-    All,
-}
-
 /// Lookahead state after a keyword or symbol: only the bracket depth can have changed it.
 #[inline(always)]
-fn looked_in_code(reader: &Reader<'_>) -> Lookahead
+fn looked_in_code(reader: &Reader<'_>) -> Found
     ensures { IsFoundInCode reader.now result }
 {
     if reader.is_in_code() {
-        Lookahead::Nothing
+        Found::Nothing
     } else {
-        Lookahead::All
-    }
-}
-
-/// Lookahead state after a lexeme that leaves the lexer in code.
-#[inline(always)]
-fn looked_further(reader: &Reader<'_>, looked_to: usize) -> Lookahead
-    ensures { IsFoundFurther reader.now looked_to result }
-{
-    if looked_to <= reader.at() {
-        Lookahead::Nothing
-    } else {
-        Lookahead::All
+        Found::All
     }
 }
 
@@ -164,47 +138,15 @@ impl FastPath {
     }
 }
 
-impl Lookahead {
-    /// Whether no lookahead was spent.
-    #[inline(always)]
-    fn is_nothing(self) -> bool
-        ensures { result ≡ is_nothing self }
-    {
-        matches!(self, Lookahead::Nothing)
-    }
-
-    /// Whether the reader gives the lexeme.
-    #[inline(always)]
-    fn is_all(self) -> bool
-        ensures { result ≡ is_all self }
-    {
-        matches!(self, Lookahead::All)
-    }
-}
-
-/// Whether a word of a class opens a text literal.
+/// Lookahead state after any lexeme.
 #[inline(always)]
-fn is_text_opener(class: Class) -> bool
-    ensures { result ≡ is_text_opener class }
+fn looked_after(reader: &Reader<'_>) -> Found
+    ensures { IsFoundOut reader.now result }
 {
-    matches!(
-        class,
-        Class::Opener {
-            kind: LiteralKind::Text,
-            ..
-        }
-    )
-}
-
-/// Lookahead state after any lexeme. Below `looked_to` it is spent.
-#[inline(always)]
-fn looked_after(reader: &Reader<'_>, looked_to: usize) -> Lookahead
-    ensures { IsFoundOut reader.now looked_to result }
-{
-    if reader.is_at_code() && looked_to <= reader.at() {
-        Lookahead::Nothing
+    if reader.is_at_code() {
+        Found::Nothing
     } else {
-        Lookahead::All
+        Found::All
     }
 }
 
@@ -220,75 +162,61 @@ impl<'a> LexerState<'a> {
             reader: Reader::new(alloc, text),
             yielded_count: 0,
             has_ended: false,
-            lookahead: Lookahead::All,
-            looked_to: 0,
+            lookahead: Lookahead::none(),
             passed_begin: 0,
             passed_end: 0,
         }
     }
 
-    /// Next lexeme by the slow path: the reader's.
-    #[inline(always)]
-    fn next_of_reader(&mut self) -> Option<Lexeme>
-        requires lexing { IsLexing self.old }
-        requires going { self.old.has_ended ≡ false }
-        requires spared { HasSpared self.old.reader.text.now self.old.reader self.old.looked_to }
-        ensures { HasGivenNext self.old result self.new }
-    {
-        match self.reader.next() {
-            Ok(Some(lexeme)) => {
-                self.yielded_count += 1;
-                self.lookahead = looked_after(&self.reader, self.looked_to);
-                Some(Ok(lexeme))
-            }
-            Ok(None) => {
-                self.lookahead = Lookahead::All;
-                None
-            }
-            Err(_) => {
-                self.has_ended = true;
-                self.lookahead = Lookahead::All;
-                Some(Err(OrMemory::Memory))
-            }
-        }
-    }
-
-    /// The item of what the reader took here, after which `lookahead` is spent. Out of memory ends
-    /// the lexer.
+    /// The item of what the reader took here, after which `found` is found. Out of memory ends the
+    /// lexer.
     #[inline(always)]
     fn item_of(
         &mut self,
         taken: Result<(usize, Token, usize), AllocError>,
-        lookahead: Lookahead,
+        found: Found,
     ) -> Option<Lexeme>
         requires taken { IsTakenNext self.old taken }
-        requires looked { OnOk taken (IsLooked self.old.reader.text.now self.old.reader self.old.looked_to lookahead) }
+        requires found { OnOk taken (IsFoundAt self.old.reader.text.now self.old.reader (record self.old.lookahead { found = found })) }
         ensures { HasGivenNext self.old result self.new }
     {
         match taken {
             Ok(lexeme) => {
                 self.yielded_count += 1;
-                self.lookahead = lookahead;
+                self.lookahead.found = found;
                 Some(Ok(lexeme))
             }
             Err(_) => {
                 self.has_ended = true;
-                self.lookahead = Lookahead::All;
+                self.lookahead.found = Found::All;
                 Some(Err(OrMemory::Memory))
             }
         }
     }
 
-    /// The item of what the reader took here, which leaves it in code. Out of memory ends the lexer.
+    /// Next lexeme: the reader's, which begins with what lookahead has found.
     #[inline(always)]
-    fn item_in_code(&mut self, taken: Result<(usize, Token, usize), AllocError>) -> Option<Lexeme>
-        requires taken { IsTakenNext self.old taken }
-        requires code { OnOk taken (IsAtCode self.old.reader.text.now self.old.reader) }
-        requires reads { OnOk taken (HasSpared self.old.reader.text.now self.old.reader self.old.looked_to) }
+    fn next_of_reader(&mut self) -> Option<Lexeme>
+        requires lexing { IsLexing self.old }
+        requires going { self.old.has_ended ≡ false }
         ensures { HasGivenNext self.old result self.new }
     {
-        let lookahead = looked_further(&self.reader, self.looked_to);
-        self.item_of(taken, lookahead)
+        match self.reader.next(self.lookahead) {
+            Ok(Some(lexeme)) => {
+                self.yielded_count += 1;
+                self.lookahead.found = looked_after(&self.reader);
+                Some(Ok(lexeme))
+            }
+            Ok(None) => {
+                self.lookahead.found = Found::All;
+                None
+            }
+            Err(_) => {
+                self.has_ended = true;
+                self.lookahead.found = Found::All;
+                Some(Err(OrMemory::Memory))
+            }
+        }
     }
 
     /// Next lexeme, a bytes literal whose opener has `len` bytes.
@@ -296,7 +224,8 @@ impl<'a> LexerState<'a> {
     fn next_bytes(&mut self, is_raw: bool, quote: Quote, len: usize) -> Option<Lexeme>
         requires lexing { IsLexing self.old }
         requires going { self.old.has_ended ≡ false }
-        requires found { self.old.lookahead ≡ Lookahead.Word (record { class = Class.Opener kind.Bytes is_raw quote; len = len }) }
+        requires found { self.old.lookahead.found ≡ Found.Named }
+        requires word { self.old.lookahead.word ≡ record { class = Class.Opener kind.Bytes is_raw quote; len = len } }
         ensures { HasGivenNext self.old result self.new }
     {
         match self
@@ -305,35 +234,26 @@ impl<'a> LexerState<'a> {
         {
             Ok(body) => {
                 let taken = self.reader.take_plain_bytes(is_raw, quote, len, body);
-                self.item_in_code(taken)
+                self.item_of(taken, Found::Nothing)
             }
             Err(run) => {
-                self.looked_to = self.reader.at() + len + run + 1;
-                self.lookahead = Lookahead::All;
+                self.lookahead.found = Found::Literal;
+                self.lookahead.run = run;
                 self.next_of_reader()
             }
         }
     }
 
-    /// Next lexeme, which begins with a word.
-    ///
-    /// These come fast: a number, the start of an f-string, a bytes literal without escapes, and a
-    /// comment. The slow path reads any other again.
+    /// Next lexeme, which begins with a word that its first two bytes tell. The start of an f-string and
+    /// a bytes literal without escapes come fast.
     #[inline(always)]
-    fn next_word(&mut self, word: Word) -> Option<Lexeme>
+    fn next_named(&mut self, word: Word) -> Option<Lexeme>
         requires lexing { IsLexing self.old }
         requires going { self.old.has_ended ≡ false }
-        requires found { self.old.lookahead ≡ Lookahead.Word word }
+        requires found { self.old.lookahead.found ≡ Found.Named }
+        requires word { self.old.lookahead.word ≡ word }
         ensures { HasGivenNext self.old result self.new }
     {
-        if let Some(digit) = self.reader.single_digit(word) {
-            let lexeme = self.reader.take_digit(digit);
-            return self.item_in_code(Ok(lexeme));
-        }
-        if self.reader.is_plain_number(word) {
-            let taken = self.reader.take_number(word);
-            return self.item_in_code(taken);
-        }
         match word.class {
             Class::Opener {
                 kind: LiteralKind::FString,
@@ -341,54 +261,55 @@ impl<'a> LexerState<'a> {
                 quote,
             } => {
                 let taken = self.reader.take_fstring(is_raw, quote, word.len);
-                self.item_of(taken, Lookahead::All)
+                self.item_of(taken, Found::All)
             }
             Class::Opener {
                 kind: LiteralKind::Bytes,
                 is_raw,
                 quote,
             } => self.next_bytes(is_raw, quote, word.len),
-            Class::Comment => {
-                let taken = self.reader.take_comment(word.len);
-                self.item_in_code(taken)
-            }
-            _ => {
-                self.looked_to = self.reader.at() + word.len + 1;
-                self.lookahead = Lookahead::All;
-                self.next_of_reader()
-            }
+            _ => self.next_of_reader(),
         }
     }
 
-    /// Next lexeme, which begins with no word: the `!` of an f-string's expression, or by the slow path.
+    /// Next lexeme, which begins with any word. A number and a comment come fast.
     #[inline(always)]
-    fn next_wordless(&mut self) -> Option<Lexeme>
+    fn next_unnamed(&mut self, word: Word) -> Option<Lexeme>
         requires lexing { IsLexing self.old }
         requires going { self.old.has_ended ≡ false }
-        requires found { self.old.lookahead ≡ Lookahead.Wordless }
+        requires found { self.old.lookahead.found ≡ Found.Unnamed }
+        requires word { self.old.lookahead.word ≡ word }
         ensures { HasGivenNext self.old result self.new }
     {
-        if self.reader.bang_stands() {
-            let lexeme = self.reader.take_bang();
-            return self.item_in_code(Ok(lexeme));
+        if let Some(digit) = self.reader.single_digit(word) {
+            let lexeme = self.reader.take_digit(digit);
+            return self.item_of(Ok(lexeme), Found::Nothing);
         }
-        self.looked_to = self.reader.at() + 1;
-        self.lookahead = Lookahead::All;
-        self.next_of_reader()
+        if self.reader.is_plain_number(word) {
+            let taken = self.reader.take_number(word);
+            return self.item_of(taken, Found::Nothing);
+        }
+        match word.class {
+            Class::Comment => {
+                let taken = self.reader.take_comment(word.len);
+                self.item_of(taken, Found::Nothing)
+            }
+            _ => self.next_of_reader(),
+        }
     }
 
     /// Next lexeme where the fast path doesn't pass it.
-    // A call. `next_of_reader` is inlined into it: as a call it costs 3 to 8 % of f-strings.
+    // A call: in line it costs each lexeme.
     #[inline(never)]
     fn next_of_all(&mut self) -> Option<Lexeme>
         requires lexing { IsLexing self.old }
         requires going { self.old.has_ended ≡ false }
         ensures { HasGivenNext self.old result self.new }
     {
-        match self.lookahead {
-            Lookahead::Word(word) => self.next_word(word),
-            Lookahead::Wordless => self.next_wordless(),
-            Lookahead::Nothing | Lookahead::All => self.next_of_reader(),
+        match self.lookahead.found {
+            Found::Named => self.next_named(self.lookahead.word),
+            Found::Unnamed => self.next_unnamed(self.lookahead.word),
+            _ => self.next_of_reader(),
         }
     }
 
@@ -398,27 +319,13 @@ impl<'a> LexerState<'a> {
     /// Lookahead is all spent before, and nothing is looked at after it is passed.
     // A result in a register: one in memory costs each lexeme (8 % of a mix).
     #[inline(never)]
-    fn pass_string(&mut self, len: usize) -> bool
-        requires opener { IsAtOpener (record self.old { lookahead = Lookahead.Nothing }) len }
-        requires all { self.old.lookahead ≡ Lookahead.All }
+    fn pass_string(&mut self, is_raw: bool, quote: Quote, len: usize) -> bool
+        requires opener { IsAtOpener (record self.old { lookahead = record self.old.lookahead { found = Found.Nothing } }) is_raw quote len }
+        requires all { self.old.lookahead.found ≡ Found.All }
         ensures passed { result ≡ true → HasPassedNext self.old (FastPath.Passed (plain_string self.old.reader.at len self.new.reader.at)) self.new }
         ensures closed { result ≡ true → self.old.reader.at + len < self.new.reader.at }
         ensures stays { result ≡ false → HasPassedNext self.old FastPath.Undecided self.new }
     {
-        let Some(
-            Word {
-                class: Class::Opener {
-                    kind: LiteralKind::Text,
-                    is_raw,
-                    quote,
-                },
-                ..
-            },
-        ) = self.reader.text_opener()
-        else {
-            self.looked_to = self.reader.at() + len + 1;
-            return false;
-        };
         match self
             .reader
             .plain_body_len(LiteralKind::Text, is_raw, quote, len)
@@ -426,11 +333,22 @@ impl<'a> LexerState<'a> {
             Ok(body) => {
                 self.reader.pass_plain_text(is_raw, quote, len, body);
                 self.yielded_count += 1;
-                self.lookahead = Lookahead::Nothing;
+                self.lookahead.found = Found::Nothing;
                 true
             }
             Err(run) => {
-                self.looked_to = self.reader.at() + len + 1 + run;
+                self.lookahead = Lookahead {
+                    found: Found::Literal,
+                    word: Word {
+                        class: Class::Opener {
+                            kind: LiteralKind::Text,
+                            is_raw,
+                            quote,
+                        },
+                        len,
+                    },
+                    run,
+                };
                 false
             }
         }
@@ -442,13 +360,13 @@ impl<'a> LexerState<'a> {
     fn pass_pending_comment(&mut self) -> (usize, usize)
         requires lexing { IsLexing self.old }
         requires going { self.old.has_ended ≡ false }
-        requires all { self.old.lookahead ≡ Lookahead.All }
+        requires all { self.old.lookahead.found ≡ Found.All }
         requires some { self.old.reader.pending.from < self.old.reader.pending.to }
         ensures { HasPassedNext self.old (FastPath.Passed (plain_comment result.0 result.1)) self.new }
     {
         let place = self.reader.pass_pending_comment();
         self.yielded_count += 1;
-        self.lookahead = looked_after(&self.reader, self.looked_to);
+        self.lookahead.found = looked_after(&self.reader);
         place
     }
 
@@ -457,7 +375,7 @@ impl<'a> LexerState<'a> {
     fn pass_mark(&mut self) -> Waiting
         requires lexing { IsLexing self.old }
         requires going { self.old.has_ended ≡ false }
-        requires all { self.old.lookahead ≡ Lookahead.All }
+        requires all { self.old.lookahead.found ≡ Found.All }
         requires none { self.old.reader.pending.to ≤ self.old.reader.pending.from }
         ensures passed { HasPassedNext self.old (passed_as result self.new.passed_begin self.new.passed_end) self.new }
         ensures stays { result ≡ Waiting.Nothing → self.new ≡ self.old }
@@ -468,7 +386,7 @@ impl<'a> LexerState<'a> {
         self.yielded_count += 1;
         self.passed_begin = begin;
         self.passed_end = end;
-        self.lookahead = looked_after(&self.reader, self.looked_to);
+        self.lookahead.found = looked_after(&self.reader);
         Waiting::of_mark(&token)
     }
 
@@ -478,32 +396,33 @@ impl<'a> LexerState<'a> {
     fn pass_fstring_text(&mut self) -> Waiting
         requires lexing { IsLexing self.old }
         requires going { self.old.has_ended ≡ false }
-        requires all { self.old.lookahead ≡ Lookahead.All }
+        requires all { self.old.lookahead.found ≡ Found.All }
         ensures { HasPassedNext self.old (passed_as result self.new.passed_begin self.new.passed_end) self.new }
     {
-        if self.reader.at() < self.looked_to || !self.reader.reads_on() {
+        if !self.reader.reads_on() {
             return Waiting::Nothing;
         }
         let found = match self.reader.plain_text() {
-            Ok(found) => found,
-            Err(run) => {
-                self.looked_to = self.reader.at() + run + 1;
-                self.lookahead = Lookahead::All;
+            Some(Ok(found)) => found,
+            Some(Err(run)) => {
+                self.lookahead.found = Found::Text;
+                self.lookahead.run = run;
                 return Waiting::Nothing;
             }
+            None => return Waiting::Nothing,
         };
         self.yielded_count += 1;
         if found.len == 0 {
             let (begin, token, end) = self.reader.pass_text_end(found);
             self.passed_begin = begin;
             self.passed_end = end;
-            self.lookahead = looked_after(&self.reader, self.looked_to);
+            self.lookahead.found = looked_after(&self.reader);
             return Waiting::of_mark(&token);
         }
         self.passed_begin = self.reader.at();
         self.passed_end = self.passed_begin + found.len;
         self.reader.pass_text(found);
-        self.lookahead = Lookahead::All;
+        self.lookahead.found = Found::All;
         Waiting::FStringText
     }
 
@@ -518,7 +437,7 @@ impl<'a> LexerState<'a> {
         requires none { self.old.reader.pending.to ≤ self.old.reader.pending.from }
         ensures { HasPassedNext self.old (passed_as result self.new.passed_begin self.new.passed_end) self.new }
     {
-        if !self.lookahead.is_all() {
+        if !self.lookahead.found.is_all() {
             return Waiting::Nothing;
         }
         let mark = self.pass_mark();
@@ -549,22 +468,21 @@ impl<'a> LexerState<'a> {
     {
         self.yielded_count += 1;
         let lexeme = self.reader.take_terminal(terminal, len);
-        self.lookahead = looked_in_code(&self.reader);
+        self.lookahead.found = looked_in_code(&self.reader);
         FastPath::Symbol(terminal, lexeme)
     }
 
     /// Passes the string literal whose opener of `len` bytes is here, if it has no escapes and one
     /// quote closes it.
-    // Not by the word's class: a copy of it costs 1 to 2 % of string literals. Lookahead is spent before
-    // the call: else each lexeme takes 15 instructions more.
+    // Lookahead is spent before the call: else each lexeme takes 15 instructions more.
     #[inline(always)]
-    fn pass_literal(&mut self, len: usize) -> FastPath
-        requires { IsAtOpener self.old len }
+    fn pass_literal(&mut self, is_raw: bool, quote: Quote, len: usize) -> FastPath
+        requires { IsAtOpener self.old is_raw quote len }
         ensures { HasPassedNext self.old result self.new }
     {
         let begin = self.reader.at();
-        self.lookahead = Lookahead::All;
-        if self.pass_string(len) {
+        self.lookahead.found = Found::All;
+        if self.pass_string(is_raw, quote, len) {
             FastPath::Passed(PlainLexeme::string(begin, len, self.reader.at()))
         } else {
             FastPath::Undecided
@@ -578,10 +496,13 @@ impl<'a> LexerState<'a> {
         requires { IsUnnamed self.old }
         ensures { HasPassedNext self.old FastPath.Undecided self.new }
     {
-        self.lookahead = match self.reader.unnamed_word() {
-            Some(word) => Lookahead::Word(word),
-            None => Lookahead::Wordless,
-        };
+        match self.reader.unnamed_word() {
+            Some(word) => {
+                self.lookahead.found = Found::Unnamed;
+                self.lookahead.word = word;
+            }
+            None => self.lookahead.found = Found::Wordless,
+        }
     }
 
     /// Passes the next lexeme if the fast path decides it: a name, a keyword, a symbol, a newline,
@@ -594,7 +515,7 @@ impl<'a> LexerState<'a> {
         ensures lexing { IsLexing self.new }
         ensures after { view_of self.new ≡ record (view_of self.old) { yielded_count = self.old.yielded_count + passed_count result; has_ended = self.old.has_ended || is_out_of_memory result; reads = self.new.reader.reads } }
     {
-        while self.lookahead.is_nothing() {
+        while self.lookahead.found.is_nothing() {
             let Some(Word { class, len }) = self.reader.common_word() else {
                 self.look_further();
                 return FastPath::Undecided;
@@ -606,27 +527,30 @@ impl<'a> LexerState<'a> {
                     let begin = self.reader.at();
                     let Ok(line_end) = self.reader.take_line_end(len) else {
                         self.has_ended = true;
-                        self.lookahead = Lookahead::All;
+                        self.lookahead.found = Found::All;
                         return FastPath::OutOfMemory;
                     };
                     match line_end {
                         LineEnd::Passed => continue,
                         LineEnd::Fault => {
-                            self.lookahead = Lookahead::All;
+                            self.lookahead.found = Found::All;
                             return FastPath::Undecided;
                         }
-                        LineEnd::Pending => self.lookahead = Lookahead::All,
+                        LineEnd::Pending => self.lookahead.found = Found::All,
                         LineEnd::Newline => {}
                     }
                     self.yielded_count += 1;
                     let newline = PlainLexeme::of_kind(PlainKind::Newline, begin, begin + len);
                     return FastPath::Passed(newline);
                 }
+                Class::Opener {
+                    kind: LiteralKind::Text,
+                    is_raw,
+                    quote,
+                } => return self.pass_literal(is_raw, quote, len),
                 _ => {
-                    if is_text_opener(class) {
-                        return self.pass_literal(len);
-                    }
-                    self.lookahead = Lookahead::Word(Word { class, len });
+                    self.lookahead.found = Found::Named;
+                    self.lookahead.word = Word { class, len };
                     return FastPath::Undecided;
                 }
             }
@@ -635,7 +559,7 @@ impl<'a> LexerState<'a> {
             return FastPath::Undecided;
         }
         if self.reader.has_comments() {
-            if !self.lookahead.is_all() {
+            if !self.lookahead.found.is_all() {
                 return FastPath::Undecided;
             }
             let (begin, end) = self.pass_pending_comment();
@@ -657,7 +581,7 @@ impl<'a> LexerState<'a> {
             Err(_) => {
                 self.yielded_count -= 1;
                 self.has_ended = true;
-                self.lookahead = Lookahead::All;
+                self.lookahead.found = Found::All;
                 Some(Err(OrMemory::Memory))
             }
         }
@@ -724,7 +648,6 @@ impl<'a> LexerState<'a> {
     {
         LexerState {
             yielded_count: self.yielded_count,
-            looked_to: self.looked_to,
             lookahead: self.lookahead,
             has_ended: self.has_ended,
             reader: self.reader.over(text),
@@ -747,7 +670,7 @@ impl<'a> LexerState<'a> {
     {
         self.yielded_count = self.yielded_count - 1 + (end - begin);
         self.has_ended = false;
-        self.lookahead = Lookahead::All;
+        self.lookahead.found = Found::All;
         self.reader.go_on(begin, end);
     }
 
@@ -780,7 +703,7 @@ impl<'a> LexerState<'a> {
         if self.has_ended {
             return None;
         }
-        self.lookahead = Lookahead::All;
+        self.lookahead.found = Found::All;
         let fault = self.reader.take_fault()?;
         self.yielded_count += 1;
         self.has_ended = true;

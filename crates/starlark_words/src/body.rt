@@ -1,9 +1,10 @@
 //! Reads a body up to its first stop, and decodes it.
 
-ghost use Rattle.std.specs.Prelude.{◌≡◌, ◌+◌, ◌*◌, ◌++◌, false, true, not, string_bytes, IfOk, OnOk};
+ghost use Rattle.std.specs.Prelude.{◌≡◌, ◌≤◌, ◌+◌, ◌-◌, ◌*◌, ◌++◌, false, true, not, string_bytes, take, IfOk, OnOk};
 ghost use Rattle.std.specs.Str.{IsCharBoundary};
 ghost use Rattle.starlark_grammar.specs.Items as grammar;
 ghost use Rattle.starlark_words.specs.Inner.LiteralViews.{IsBody, IsCharacters, holds_text, least_stop_reads, literal_view, stopped_len, value_view};
+ghost use Rattle.starlark_words.specs.Inner.PlainRuns.{IsRun};
 ghost use Rattle.starlark_words.specs.Inner.Reads.{AreReads};
 
 use super::escapes::simple_escape;
@@ -52,6 +53,30 @@ fn append_run(text: &mut String, run: &str, front: &[u8]) -> Result<(), AllocErr
     text.push_str(run)
 }
 
+/// The run of `run` bytes at the front of a text.
+#[inline(always)]
+fn text_of_run(alloc: Global, text: &str, run: usize) -> Result<String, AllocError>
+    requires { IsCharBoundary text.now run }
+    ensures { IfOk result (λ value. string_bytes value ≡ take run text.now) }
+{
+    let mut value = String::new(alloc);
+    if run > 0 {
+        let front = uncounted_front(text[run..].as_bytes(), FRONT_LEN);
+        append_run(&mut value, &text[..run], front)?;
+    }
+    Ok(value)
+}
+
+/// The run of `run` bytes at the front of a text, as bytes.
+fn bytes_of_run(alloc: Global, text: &str, run: usize) -> Result<Vec<u8>, AllocError>
+    requires { IsCharBoundary text.now run }
+    ensures { IfOk result (λ value. value.items ≡ take run text.now) }
+{
+    let mut value = Vec::new(alloc);
+    value.extend_from_slice(text[..run].as_bytes())?;
+    Ok(value)
+}
+
 /// Appends the value of an item to a text. The value must not be a lone byte.
 #[inline(always)]
 fn append_to_text(text: &mut String, value: Value<'_>) -> Result<(), AllocError>
@@ -91,21 +116,25 @@ pub struct Body {
 }
 
 /// Reads and decodes the body of a string literal or of an f-string's text, at the start of a text.
+/// Its first `run` bytes were read, and are in a run.
 #[inline(always)]
 fn read_text_body(
     reads: &mut ReadCounter,
     alloc: Global,
     literal: Literal,
+    run: usize,
     text: &str,
 ) -> Result<Body, AllocError>
-    requires { grammar.is_of_bytes literal.kind ≡ false }
+    requires kind { grammar.is_of_bytes literal.kind ≡ false }
+    requires run { IsRun (literal_view literal) text.now run }
     ensures body { IfOk result (IsBody (grammar.body_at (literal_view literal) text.now)) }
     ensures kind { IfOk result (λ body. holds_text body.value ≡ true) }
     ensures boundary { IfOk result (λ body. IsCharBoundary text.now body.len) }
-    ensures reads { IfOk result (λ body. AreReads (body.len + least_stop_reads body.stop) (8 * body.len + stopped_len body.stop + 6) reads.old reads.new) }
+    ensures more { IfOk result (λ body. run ≤ body.len) }
+    ensures reads { IfOk result (λ body. AreReads (body.len - run + least_stop_reads body.stop) (8 * (body.len - run) + stopped_len body.stop + 6) reads.old reads.new) }
 {
-    let mut value = String::new(alloc);
-    let mut len = 0;
+    let mut value = text_of_run(alloc, text, run)?;
+    let mut len = run;
     loop {
         let run = first_run(reads, FRONT_LEN, literal, &text[len..]);
         len += run.len();
@@ -130,21 +159,25 @@ fn read_text_body(
     }
 }
 
-/// Reads and decodes the body of a bytes literal at the start of a text.
+/// Reads and decodes the body of a bytes literal at the start of a text. Its first `run` bytes were
+/// read, and are in a run.
 #[inline(never)]
 fn read_bytes_body(
     reads: &mut ReadCounter,
     alloc: Global,
     literal: Literal,
+    run: usize,
     text: &str,
 ) -> Result<Body, AllocError>
+    requires run { IsRun (literal_view literal) text.now run }
     ensures body { IfOk result (IsBody (grammar.body_at (literal_view literal) text.now)) }
     ensures kind { IfOk result (λ body. holds_text body.value ≡ false) }
     ensures boundary { IfOk result (λ body. IsCharBoundary text.now body.len) }
-    ensures reads { IfOk result (λ body. AreReads (body.len + least_stop_reads body.stop) (8 * body.len + stopped_len body.stop + 6) reads.old reads.new) }
+    ensures more { IfOk result (λ body. run ≤ body.len) }
+    ensures reads { IfOk result (λ body. AreReads (body.len - run + least_stop_reads body.stop) (8 * (body.len - run) + stopped_len body.stop + 6) reads.old reads.new) }
 {
-    let mut value = Vec::new(alloc);
-    let mut len = 0;
+    let mut value = bytes_of_run(alloc, text, run)?;
+    let mut len = run;
     loop {
         let run = first_run(reads, FRONT_LEN, literal, &text[len..]);
         value.extend_from_slice(run.as_bytes())?;
@@ -168,22 +201,26 @@ fn read_bytes_body(
     }
 }
 
-/// Reads and decodes the body at the start of a text, which begins just after the literal's opener.
+/// Reads and decodes the body at the start of a text, which begins just after the literal's opener. Its
+/// first `run` bytes were read, and are in a run.
 ///
 /// `AllocError` where memory for the value runs out.
 pub fn read_body(
     reads: &mut ReadCounter,
     alloc: Global,
     literal: Literal,
+    run: usize,
     text: &str,
 ) -> Result<Body, AllocError>
+    requires run { IsRun (literal_view literal) text.now run }
     ensures body { IfOk result (IsBody (grammar.body_at (literal_view literal) text.now)) }
     ensures kind { IfOk result (λ body. holds_text body.value ≡ not (grammar.is_of_bytes literal.kind)) }
     ensures boundary { IfOk result (λ body. IsCharBoundary text.now body.len) }
-    ensures reads { IfOk result (λ body. AreReads (body.len + least_stop_reads body.stop) (8 * body.len + stopped_len body.stop + 6) reads.old reads.new) }
+    ensures more { IfOk result (λ body. run ≤ body.len) }
+    ensures reads { IfOk result (λ body. AreReads (body.len - run + least_stop_reads body.stop) (8 * (body.len - run) + stopped_len body.stop + 6) reads.old reads.new) }
 {
     match literal.kind {
-        LiteralKind::Bytes => read_bytes_body(reads, alloc, literal, text),
-        _ => read_text_body(reads, alloc, literal, text),
+        LiteralKind::Bytes => read_bytes_body(reads, alloc, literal, run, text),
+        _ => read_text_body(reads, alloc, literal, run, text),
     }
 }

@@ -1,11 +1,11 @@
 //! Fast path for bodies of literals without escapes.
 
-ghost use Rattle.std.specs.Prelude.{◌≡◌, ◌≤◌, ◌==◌, ◌+◌, ◌*◌, get_or, length, take, IfErr, IfOk, IfSome};
-ghost use Rattle.starlark_grammar.specs.AfterFaults.{next_line};
+ghost use Rattle.std.specs.Prelude.{◌≡◌, ◌==◌, ◌+◌, ◌*◌, get_or, length, take, IfErr, IfOk, IfSome};
 ghost use Rattle.starlark_grammar.specs.Items.{Stops, found_at, quote_byte};
 ghost use Rattle.starlark_grammar.specs.Words.{Text};
 ghost use Rattle.starlark_words.specs.Inner.Reads.{AreReads, more_reads};
-ghost use Rattle.starlark_words.specs.Inner.LiteralViews.{IsPlainBody, IsPlainChunk, fstring_literal, stop_view};
+ghost use Rattle.starlark_words.specs.Inner.LiteralViews.{IsPlainBody, IsPlainChunk, fstring_literal, single_literal, stop_view};
+ghost use Rattle.starlark_words.specs.Inner.PlainRuns.{IsRun};
 ghost use Rattle.starlark_grammar.specs.Inner.Openings.{opening_view};
 
 use super::items::{Literal, Stop, closes, is_quote};
@@ -42,7 +42,7 @@ fn closes_run(quote: Quote, text: &[u8], run: usize) -> bool
 /// Length in bytes of the body of a literal without escapes that one quote closes.
 ///
 /// `text` begins after the opener. The error is the length of the first run, for any other literal:
-/// one with escapes or three quotes, or one that isn't closed. The run is in the first line.
+/// one with escapes or three quotes, or one that isn't closed.
 // Inlined into `pass_string`: a call costs 7 % of short strings.
 #[inline(always)]
 pub fn plain_body_len(
@@ -54,7 +54,7 @@ pub fn plain_body_len(
 ) -> Result<usize, usize>
     ensures plain { IfOk result (λ len. IsPlainBody kind is_raw quote text.now len) }
     ensures reads { IfOk result (λ len. AreReads (len + 1) (6 * len + 3) reads.old reads.new) }
-    ensures other { IfErr result (λ run. (run ≤ next_line text.now 0) × AreReads 0 (6 * run + 3) reads.old reads.new) }
+    ensures other { IfErr result (λ run. IsRun (single_literal kind is_raw quote) text.now run × AreReads run (6 * run + 3) reads.old reads.new) }
 {
     let opening = Opening {
         is_raw,
@@ -93,10 +93,10 @@ fn stop_by(opening: Opening, front: &[u8]) -> Option<Stop>
     }
 }
 
-/// Length in bytes and stop of an f-string's text that has no escapes and no LF.
+/// Length in bytes and stop of an f-string's text that has no escapes.
 ///
-/// The error is the length of the first run without an LF, for any other text: one with escapes,
-/// doubled braces, an LF, or a fault.
+/// The error is the length of the first run, for any other text: one with escapes, doubled braces, or
+/// a fault.
 #[inline(always)]
 pub fn plain_chunk_len(
     reads: &mut ReadCounter,
@@ -104,19 +104,15 @@ pub fn plain_chunk_len(
     text: &str,
 ) -> Result<(usize, Stop), usize>
     ensures plain { IfOk result (λ found. IsPlainChunk (opening_view opening) text.now found.0 (stop_view found.1)) }
-    ensures line { IfOk result (λ found. found.0 ≤ next_line text.now 0) }
+    ensures run { IfOk result (λ found. IsRun (fstring_literal (opening_view opening)) text.now found.0) }
     ensures reads { IfOk result (λ found. AreReads (found.0 + 3) (6 * found.0 + 4) reads.old reads.new) }
-    ensures other { IfErr result (λ run. (run ≤ next_line text.now 0) × AreReads 0 (6 * run + 4) reads.old reads.new) }
+    ensures other { IfErr result (λ run. IsRun (fstring_literal (opening_view opening)) text.now run × AreReads run (6 * run + 4) reads.old reads.new) }
 {
-    let of_one_line = Literal {
+    let literal = Literal {
         kind: LiteralKind::FString,
-        opening: Opening {
-            is_raw: opening.is_raw,
-            quote: opening.quote,
-            is_triple: false,
-        },
+        opening,
     };
-    let len = first_run(reads, STOP_LEN, of_one_line, text).len();
+    let len = first_run(reads, STOP_LEN, literal, text).len();
     let rest = &text.as_bytes()[len..];
     let Some(stop) = stop_by(opening, uncounted_front(rest, STOP_LEN)) else {
         return Err(len);

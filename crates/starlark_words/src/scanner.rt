@@ -160,17 +160,6 @@ pub fn word_after(reads: &mut ReadCounter, gap: usize, text: &str) -> Option<Wor
     word_by_front(reads, gap + 2, text)
 }
 
-/// The longest word at the front of a text if its first two bytes open a text literal.
-#[inline(always)]
-pub fn text_opener(reads: &mut ReadCounter, text: &str) -> Option<Word>
-    ensures word { IfSome result (λ word. Some (word_view word) ≡ language_front text.now) }
-    ensures bang { IfSome result (λ word. is_bang text.now ≡ false) }
-    ensures reads { reads.new ≡ more_reads reads.old 2 }
-{
-    let front = reads.front(text.as_bytes(), 2);
-    openers::text_opener(front)
-}
-
 /// Whether a text begins with `!`, and not with `!=`.
 #[inline(always)]
 pub fn is_bang(text: &[u8]) -> bool

@@ -7,7 +7,7 @@ use Rattle.std.proofs.lemmas.List.{length-set, reverse-append, take_all, take_mo
 use Rattle.starlark_grammar.specs.declared.class.Terminal.TheVariants as terminal
 use Rattle.starlark_grammar.specs.Tokens.{Token, Opening, FStringStart, FStringEnd, FStringExprStart, FStringExprEnd, Word}
 use Rattle.starlark_grammar.specs.Depths.{Mode, Outside, is_any_opening, is_any_closing, inside, open_fstring, mode_by, mode_after}
-use Rattle.starlark_reader.specs.Inner.Nesting.{IsUnchanged, Represents, brackets_of, change_by, closes, fstring_of, fstring_view, is_fstring_start, opens}
+use Rattle.starlark_reader.specs.Inner.Nesting.{Represents, brackets_of, change_by, closes, fstring_of, fstring_view, is_fstring_start, opens}
 use Rattle.starlark_token.specs.TokenViews.{Whole}
 use Rattle.starlark_reader.specs.declared.changes.NestingChange.{NestingChange}
 use Rattle.starlark_reader.specs.declared.changes.NestingChange.TheVariants as change
@@ -202,14 +202,6 @@ pub counted : (change : NestingChange) (node : Token) (tokens : List Token) (bef
 counted change node tokens before after e h opened closed = record {
   opened = ap (λ (brackets : Brackets). brackets.opened) h ∙ rw (e, opened) (sym (opened_onward node tokens));
   closed = ap (λ (brackets : Brackets). brackets.closed) h ∙ rw (e, closed) (sym (closed_onward node tokens));
-}
-
--- an unchanged nesting represents the same tokens
-pub still_represents : (tokens : List Token) (old new : Nesting) → IsUnchanged old new → Represents tokens old → Represents tokens new
-still_represents tokens old new same h = record {
-  fstrings = subst (λ (fstrings : List OpenFString). AreOpen (reverse fstrings) tokens) (sym same.0) h.fstrings;
-  opened = ap (λ (brackets : Brackets). brackets.opened) same.1 ∙ h.opened;
-  closed = ap (λ (brackets : Brackets). brackets.closed) same.1 ∙ h.closed;
 }
 
 -- A token that changes nothing leaves f-strings and brackets as they are.

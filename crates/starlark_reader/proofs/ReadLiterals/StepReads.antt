@@ -1,5 +1,5 @@
 -- Reads of a literal's bytes.
-use Rattle.std.proofs.Common.{◌≡◌, ◌≤◌, ◌+◌, ◌-◌, ◌*◌, ℕ, Bool, true, false, length, refl, arith}
+use Rattle.std.proofs.Common.{◌≡◌, ◌≤◌, ◌+◌, ◌-◌, ◌*◌, ℕ, Bool, true, false, length, max, refl, arith}
 use Rattle.starlark_grammar.specs.Items.{closing_quotes}
 use Rattle.starlark_grammar.specs.Tokens.{Opening}
 use Rattle.starlark_words.specs.Inner.Reads.{AreReads, more_reads}
@@ -19,6 +19,19 @@ pub fault_reads : (passed factor more line extra begin end : ℕ) (step : Step) 
 fault_reads passed factor more line extra begin end (step.Fault from fault to) before after is later reads = rw (is.2, is.0, is.1) (reads, later)
 fault_reads passed factor more line extra begin end (step.Token token len) before after is later reads = absurd is
 fault_reads passed factor more line extra begin end (step.Text text text_len stop len) before after is later reads = absurd is
+
+-- the reads of a body, with those of its first `run` bytes, which were known
+pub body_reads : (run len least stopped extra spare before between after : ℕ) → run ≤ len → AreReads run (8 * run + spare) before between → AreReads (len - run + least) (8 * (len - run) + stopped + extra) between after
+    → AreReads (len + least) (8 * len + stopped + extra + spare) before after
+body_reads run len least stopped extra spare before between after inside known reads = (omega (arith, inside, known.0, reads.0), omega (arith, inside, known.1, reads.1))
+
+-- those two bytes are read after the run that is known
+pub later_reads : (least most before after : ℕ) → AreReads least most before after → AreReads least most (more_reads before 2) (more_reads after 2)
+later_reads least most before after reads = (omega (arith, reads.0), omega (arith, reads.1))
+
+-- what was read of an opener and a run, one after the other
+pub split_reads : (len run before after : ℕ) → AreReads (len + run) (5 * len + 8 * run + 3) before after → (between : ℕ) × AreReads len (5 * len + 3) before between × AreReads run (8 * run) between after
+split_reads len run before after reads = (max (after - 8 * run) (more_reads before len), (omega (arith, reads.0), omega (arith, reads.1)), (omega (arith, reads.0), omega (arith, reads.1)))
 
 -- the reads after an opener of one quote, with the two bytes that determine that
 pub single_reads : (passed : ℕ) (step : Step) (before between after : ℕ) → between ≡ more_reads before 2 → AreWordReads passed 9 0 0 6 step between after → AreWordReads passed 9 2 0 8 step before after

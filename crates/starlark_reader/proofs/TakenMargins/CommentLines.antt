@@ -1,6 +1,6 @@
 -- The comment of a comment-only line, byte by byte.
-use Rattle.std.proofs.Common.{◌≡◌, ℕ, suc, ◌+◌, ◌-◌, ◌≤◌, ◌<◌, Bool, true, false, cond, List, [], ◌∷◌, length, take, drop, get_or, refl, ap, ◌∙◌, sym, arith, one-add}
-use Rattle.std.specs.Prelude.{◌==◌, if◌then◌else◌, take_while}
+use Rattle.std.proofs.Common.{◌≡◌, ℕ, suc, ◌+◌, ◌-◌, ◌≤◌, ◌<◌, Bool, true, false, cond, [], ◌∷◌, length, take, drop, get_or, refl, ap, ◌∙◌, sym, arith}
+use Rattle.std.specs.Prelude.{◌==◌, if◌then◌else◌}
 use Rattle.std.specs.List.{prefix_len}
 use Rattle.std.specs.Str.{IsUtf8, IsCharBoundary}
 use Rattle.std.proofs.lemmas.Bool.{eqb-true}
@@ -8,7 +8,7 @@ use Rattle.std.proofs.lemmas.List.{drop-take, get_or-drop, get_or-take, length-t
 use Rattle.std.proofs.lemmas.List.Sums.{prefix_len-le-length}
 use Rattle.std.proofs.lemmas.Str.{IsCharBoundary-after_ascii}
 use Rattle.starlark_grammar.specs.Words.{Text}
-use Rattle.starlark_grammar.specs.Margins.{begins_comment, blanks_len, comment_lines, comment_of, comment_part, comments_from, is_comment_only, lines, margin_of, without_return}
+use Rattle.starlark_grammar.specs.Margins.{begins_comment, blanks_len, comment_lines, comment_of, comment_part, comments_from, is_comment_only, margin_of, without_return}
 use Rattle.starlark_grammar.specs.Tokens.{Comment}
 use Rattle.starlark_token.specs.TokenViews.{Whole}
 use Rattle.starlark_token.specs.Lexemes.{shown_lexeme}
@@ -114,15 +114,3 @@ comment_found text at k n line e f h =
 pub margin_comments : (text : Text) → (margin_of text).comments ≡ comments_from 0 (comment_lines text)
 unfolding margin_of
 margin_comments text = refl
-
--- each is of a comment-only line
-pub first_passes : (text line : Text) (more : List Text) → comment_lines text ≡ line ∷ more → is_comment_only line ≡ true
-first_passes text line more e = go (lines text) e
-  where
-    go : (ls : List Text) → take_while is_comment_only ls ≡ line ∷ more → is_comment_only line ≡ true
-    go [] h = cc
-    go (l ∷ ls) h = by (is_comment_only l) refl h
-      where
-        by : (passes : Bool) → is_comment_only l ≡ passes → take (cond passes (1 + prefix_len is_comment_only ls) 0) (l ∷ ls) ≡ line ∷ more → is_comment_only line ≡ true
-        by false k h = cc
-        by true k h = let h' = rw one-add at h in cc

@@ -14,7 +14,6 @@ use Rattle.starlark_reader.specs.Inner.Reader.{IsStateAfter, before_view, histor
 use Rattle.starlark_reader.specs.declared.reader.Before as code
 use Rattle.starlark_reader.specs.declared.reader.Before.TheVariants as sort
 use Rattle.starlark_reader.specs.declared.reader.Stage.TheVariants as stage
-use Rattle.starlark_token.specs.declared.lexeme_error.LexemeError.{LexemeError}
 use Rattle.starlark_reader.specs.declared.reader.Reader.{Reader}
 use Rattle.starlark_grammar.proofs.Reading.Steps.{is_nothing, least_len}
 use Rattle.starlark_grammar.proofs.Reading.Readings.{piece_fits, fault_fits}
@@ -88,7 +87,3 @@ shown_here at end token node view own =
 -- less is left to read after a piece
 pub less_onward : (text : Text) (old new : Reader) (len : ℕ) → new.stage ≡ stage.Onward → new.at ≡ old.at + len → 1 ≤ len → old.at + len ≤ length text → left_to_read text new new.stage < left_to_read text old stage.Onward
 less_onward text old new len onward at some inside = rw onward (omega (arith, at, some, inside))
-
--- less is left to read at a fault
-pub less_fault : (text : Text) (old new : Reader) (begin end : ℕ) (error : LexemeError) → new.stage ≡ stage.Fault begin error end → left_to_read text new new.stage < left_to_read text old stage.Onward
-less_fault text old new begin end error fault = rw fault (omega arith)

@@ -191,14 +191,14 @@ refused_reads text len end margin fault old new there inside is found stops read
     )
 
 -- the reads at the fault of a text's first margin
-pub first_refused_reads : (text : Text) (beside end : ℕ) (margin : Margin) (fault : LexemeError) (old new : Reader) → margin.at + margin.blanks.len ≤ length text
+pub first_refused_reads : (text : Text) (end : ℕ) (margin : Margin) (fault : LexemeError) (old new : Reader) → margin.at + margin.blanks.len ≤ length text
     → IsMargin (margin_of text) margin → IsFaultFound (margin_fault 0 (margin_of text)) (fault, end) → new.stage ≡ stages.Fault (old.at + 0) fault (old.at + end)
-    → new.reads ≤ old.reads + (5 * margin.at + margin.blanks.len + 2) → owed new.pending ≤ margin.at → HasReadAt text beside old stages.Begin → HasRead text beside new
-first_refused_reads text beside end margin fault old new inside is found stops read owes has =
+    → new.reads ≤ old.reads + (5 * margin.at + margin.blanks.len + 2) → owed new.pending ≤ margin.at → HasReadAt text old stages.Begin → HasRead text new
+first_refused_reads text end margin fault old new inside is found stops read owes has =
     let begin : old.at + 0 ≡ 0 = omega (arith, has.0) in
     let last : old.at + end ≡ 0 + end = omega (arith, has.0) in
     let stage : new.stage ≡ stages.Fault 0 fault (0 + end) = stops ∙ ap (λ at. stages.Fault at fault (old.at + end)) begin ∙ ap (stages.Fault 0 fault) last in
-    subst (HasReadAt text beside new) (sym stage) (
+    subst (HasReadAt text new) (sym stage) (
       omega arith,
       λ node view.
           let search = margin_search text 0 0 end margin fault (inl (refl, refl)) (omega (arith, inside)) is found node view in

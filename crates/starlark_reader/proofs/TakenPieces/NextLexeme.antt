@@ -32,16 +32,6 @@ same_left text old new stage.Onward left here h = (h.0, kept_here text h.0 old n
 same_left text old new (stage.Fault begin fault end) left here h = (h.0, h.1, h.2, rw (here.at, here.before) h.3, rw here.at h.4, λ untabbed. kept_here text (history_of text) old new here (h.5 untabbed))
 same_left text old new stage.Closed left here h = (h.0, kept_here text (history_of text) old new here h.1)
 
--- at each stage the reader's offset is in its text
-left_inside : (text : Text) (reader : Reader) (stage : Stage) (left : Outcome) → IsLeft text reader stage left → reader.at ≤ length text
-left_inside text reader stage.Begin left is = omega (arith, is.1)
-left_inside text reader stage.Onward left is = is.1.inside
-left_inside text reader (stage.Fault begin fault end) left is = is.4
-left_inside text reader stage.Closed left is = is.1.inside
-
-pub ready_inside : (text : Text) (reader : Reader) → IsReady text reader reader.stage → reader.at ≤ length text
-ready_inside text reader ready = left_inside text reader reader.stage ready.2.left ready.2.is_left
-
 flat_here : (old new : Reader) (now later : Stage) → IsHere old new → new.pending ≡ old.pending → later ≡ now → IsInFlatMargin old now → IsInFlatMargin new later
 flat_here old new now later here pending same is = (same ∙ is.0, here.before ∙ is.1, ap (λ (p : Pending). p.is_flat) pending ∙ is.2)
 

@@ -33,17 +33,17 @@ opener_reads len line (steps.Fault begin fault end) before after reads = by_faul
 
 -- a step with its word, whose first line has `line` bytes
 pub whole_reads : (passed line : ℕ) (text : Text) (step : Step) (before between after : ℕ) → 0 < passed → line ≤ next_line text 0 → AreReads passed (5 * passed + 3) before between
-    → AreWordReads passed 9 2 line 8 step between after → AreStepReads 0 10 (next_line text 0) 6 step before after
+    → AreWordReads passed 9 2 line 8 step between after → AreStepReads 0 10 (next_line text 0) 10 step before after
 whole_reads passed line text (steps.Token token len) before between after some whole word reads = ((omega (arith, word.0, reads.0.0, reads.1), omega (arith, some, word.1, reads.0.1, reads.1)), omega (arith, some, reads.1))
 whole_reads passed line text (steps.Text text' text_len stop len) before between after some whole word reads = absurd reads
 whole_reads passed line text (steps.Fault begin fault end) before between after some whole word reads = by_fault (is_tab_error fault) reads
   where
-    by_fault : (tab : Bool) → AreFaultReads tab passed line begin end (9 * (end - passed) + 8) between after → AreReads begin (if tab then 5 * next_line text 0 + 3 else 10 * end + 6) before after
+    by_fault : (tab : Bool) → AreFaultReads tab passed line begin end (9 * (end - passed) + 8) between after → AreReads begin (if tab then 5 * next_line text 0 + 3 else 10 * end + 10) before after
     by_fault true reads = (omega (arith, word.0, reads.0.0, reads.1), omega (arith, whole, word.1, reads.0.1, reads.3))
     by_fault false reads = (omega (arith, word.0, reads.0.0), omega (arith, some, word.1, reads.0.1, reads.1))
 
 -- a fault where no word is
-pub none_reads : (text : Text) (step : Step) (before between after : ℕ) → 0 < length text → AreReads 0 3 before between → AreStepReads 0 3 0 2 step between after → AreStepReads 0 10 (next_line text 0) 6 step before after
+pub none_reads : (text : Text) (step : Step) (before between after : ℕ) → 0 < length text → AreReads 0 3 before between → AreStepReads 0 3 0 2 step between after → AreStepReads 0 10 (next_line text 0) 10 step before after
 none_reads text (steps.Token token len) before between after some none reads = ((omega (arith, none.0, reads.0.0), omega (arith, none.1, reads.0.1, reads.1)), reads.1)
 none_reads text (steps.Text text' text_len stop len) before between after some none reads = ((omega (arith, none.0, reads.0.0), omega (arith, none.1, reads.0.1, reads.1)), reads.1)
 none_reads text (steps.Fault begin fault end) before between after some none reads = by_fault (is_tab_error fault) reads
@@ -51,7 +51,7 @@ none_reads text (steps.Fault begin fault end) before between after some none rea
     line : 1 ≤ next_line text 0
     line = let least = next_line_least text 0 some in omega (arith, least)
 
-    by_fault : (tab : Bool) → AreReads begin (if tab then 5 * 0 + 3 else 3 * end + 2) between after → AreReads begin (if tab then 5 * next_line text 0 + 3 else 10 * end + 6) before after
+    by_fault : (tab : Bool) → AreReads begin (if tab then 5 * 0 + 3 else 3 * end + 2) between after → AreReads begin (if tab then 5 * next_line text 0 + 3 else 10 * end + 10) before after
     by_fault true reads = (omega (arith, none.0, reads.0), omega (arith, line, none.1, reads.1))
     by_fault false reads = (omega (arith, none.0, reads.0), omega (arith, none.1, reads.1))
 
@@ -66,11 +66,11 @@ wordless_reads from to (steps.Fault begin fault end) before between after bang i
     by_fault false other reads = (omega (arith, bang.0, reads.0), omega (arith, bang.1, reads.1))
 
 -- an f-string text
-pub chunk_reads : (line : ℕ) (step : Step) (before after : ℕ) → AreStepReads 0 8 0 6 step before after → AreStepReads 0 10 line 6 step before after
-chunk_reads line (steps.Token token len) before after reads = ((reads.0.0, omega (arith, reads.0.1)), reads.1)
-chunk_reads line (steps.Text text text_len stop len) before after reads = ((reads.0.0, omega (arith, reads.0.1)), reads.1)
+pub chunk_reads : (line : ℕ) (step : Step) (before after : ℕ) → AreStepReads 0 10 0 10 step before after → AreStepReads 0 10 line 10 step before after
+chunk_reads line (steps.Token token len) before after reads = reads
+chunk_reads line (steps.Text text text_len stop len) before after reads = reads
 chunk_reads line (steps.Fault begin fault end) before after reads = by_fault (is_tab_error fault) reads
   where
-    by_fault : (tab : Bool) → AreReads begin (if tab then 5 * 0 + 3 else 8 * end + 6) before after → AreReads begin (if tab then 5 * line + 3 else 10 * end + 6) before after
+    by_fault : (tab : Bool) → AreReads begin (if tab then 5 * 0 + 3 else 10 * end + 10) before after → AreReads begin (if tab then 5 * line + 3 else 10 * end + 10) before after
     by_fault true reads = (reads.0, omega (arith, reads.1))
-    by_fault false reads = (reads.0, omega (arith, reads.1))
+    by_fault false reads = reads

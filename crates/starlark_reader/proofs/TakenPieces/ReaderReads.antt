@@ -1,19 +1,29 @@
 -- The reads of a reader after each of its steps.
-use Rattle.std.proofs.Common.{◌≡◌, ◌≢◌, ◌≤◌, ◌<◌, ◌+◌, ◌-◌, ◌*◌, ◌∙◌, ℕ, List, Option, drop, length, refl, subst, sym, arith}
+use Rattle.std.proofs.Common.{◌≡◌, ◌≢◌, ◌≤◌, ◌<◌, ◌+◌, ◌*◌, ℕ, Bool, List, Option, drop, length, refl, subst, sym, arith}
 use Rattle.std.specs.Prelude.{IfErr, Result, Ok, Err}
 use Rattle.starlark_grammar.specs.AfterFaults.{next_line}
+use Rattle.starlark_grammar.specs.Depths.{InText, mode_after}
+use Rattle.starlark_grammar.specs.Inner.Openings.{opening_view}
 use Rattle.starlark_grammar.specs.Reading.{History}
 use Rattle.starlark_grammar.specs.Words.{Text}
-use Rattle.starlark_grammar.specs.Tokens.{Fault, Spanned}
+use Rattle.starlark_grammar.specs.Tokens.{Fault, Spanned, Token}
+use Rattle.starlark_grammar.specs.declared.class.LiteralKind.{LiteralKind}
+use Rattle.starlark_grammar.specs.declared.class.Opening as code
+use Rattle.starlark_grammar.specs.declared.class.Quote.{Quote}
 use Rattle.starlark_token.specs.TokenViews.{TokenView}
 use Rattle.starlark_reader.specs.Inner.Reader.{IsAhead, IsLeft, IsStateAfter, history_of, step_here}
+use Rattle.starlark_words.specs.Inner.LiteralViews.{fstring_literal, single_literal}
+use Rattle.starlark_words.specs.Inner.PlainRuns.{IsRun}
 use Rattle.starlark_words.specs.Inner.Reads.{AreReads, more_reads}
-use Rattle.starlark_reader.specs.Inner.Pending.{owed}
+use Rattle.starlark_reader.specs.Inner.Lookaheads.{IsTextRun}
+use Rattle.starlark_reader.specs.Inner.Nesting.{Represents}
+use Rattle.starlark_reader.specs.Inner.Pending.{IsIdle, owed}
 use Rattle.starlark_reader.specs.Inner.StepViews.{IsStep}
-use Rattle.starlark_reader.specs.Inner.ReadBounds.{AreStepReads, HasStarted, HasLooked, HasLookedHere, HasRead, HasReadAt, IsMarginRead, IsPassed, IsPassedBy, IsTaken, LeavesReads}
+use Rattle.starlark_reader.specs.Inner.ReadBounds.{AreStepReads, HasStarted, HasLookedHere, HasRead, HasReadAt, IsMarginRead, IsPassed, IsPassedBy, IsTaken, LeavesReads}
 use Rattle.starlark_reader.proofs.TakenPieces.Here.{fault_here}
 use Rattle.starlark_reader.proofs.TakenPieces.RepairReads.{moved_repair}
 use Rattle.starlark_reader.proofs.TakenPieces.SearchReads.{fault_restart, step_search}
+use Rattle.starlark_reader.specs.declared.literal.chunks.PlainText.{PlainText}
 use Rattle.starlark_reader.specs.declared.literal.pieces.Step.{Step}
 use Rattle.starlark_reader.specs.declared.literal.pieces.Step.TheVariants as steps
 use Rattle.starlark_reader.specs.declared.reader.LineEnd.{LineEnd}
@@ -23,23 +33,23 @@ use Rattle.starlark_reader.specs.declared.reader.Stage.{Stage}
 use Rattle.starlark_reader.specs.declared.reader.Stage.TheVariants as stages
 
 -- the reads of a reader before byte `at`, as numbers
-abbrev pub IsReadBefore : (beside before at owes : ℕ) → Type 0
-IsReadBefore beside before at owes = (more_reads 0 at ≤ before) × (before + 5 * owes ≤ beside + 10 * at + 2)
+abbrev pub IsReadBefore : (before at owes : ℕ) → Type 0
+IsReadBefore before at owes = (more_reads 0 at ≤ before) × (before + 5 * owes ≤ 10 * at + 2)
 
 -- the reads after a piece of `len` bytes
-pub onward_reads : (text : Text) (beside len before : ℕ) (old new : Reader) → IsReadBefore beside before old.at (owed old.pending) → AreReads len (10 * len) before old.reads
-    → IsPassedBy (old.at + len) old new × (new.stage ≡ stages.Onward) → HasRead text beside new
-onward_reads text beside len before old new has read passed =
-    subst (HasReadAt text beside new) (sym passed.1) (omega (arith, has.0, read.0, passed.0.0, passed.0.1), omega (arith, has.1, read.1, passed.0.0, passed.0.1, passed.0.2))
+pub onward_reads : (text : Text) (len before : ℕ) (old new : Reader) → IsReadBefore before old.at (owed old.pending) → AreReads len (10 * len) before old.reads
+    → IsPassedBy (old.at + len) old new × (new.stage ≡ stages.Onward) → HasRead text new
+onward_reads text len before old new has read passed =
+    subst (HasReadAt text new) (sym passed.1) (omega (arith, has.0, read.0, passed.0.0, passed.0.1), omega (arith, has.1, read.1, passed.0.0, passed.0.1, passed.0.2))
 
 -- the reads after a token or an f-string text, or at a fault
-pub step_reads : (text : Text) (beside before : ℕ) (history : History) (step : Step) (old new : Reader) → IsStateAfter text history old → IsStep (step_here text history old) step
-    → IsReadBefore beside before old.at (owed old.pending) → AreStepReads 0 10 (next_line (drop old.at text) 0) 6 step before old.reads → LeavesReads 0 (drop old.at text) step before old.reads → IsPassed old step new → HasRead text beside new
-step_reads text beside before history (steps.Token token len) old new kept stands has read leaves passed = onward_reads text beside len before old new has (omega (arith, read.0.0), omega (arith, read.0.1)) passed
-step_reads text beside before history (steps.Text chunk chunk_len stop len) old new kept stands has read leaves passed = onward_reads text beside (chunk_len + len) before old new has (omega (arith, read.0.0), omega (arith, read.0.1)) passed
-step_reads text beside before history (steps.Fault begin fault end) old new kept stands has read leaves passed =
+pub step_reads : (text : Text) (before : ℕ) (history : History) (step : Step) (old new : Reader) → IsStateAfter text history old → IsStep (step_here text history old) step
+    → IsReadBefore before old.at (owed old.pending) → AreStepReads 0 10 (next_line (drop old.at text) 0) 10 step before old.reads → LeavesReads 0 (drop old.at text) step before old.reads → IsPassed old step new → HasRead text new
+step_reads text before history (steps.Token token len) old new kept stands has read leaves passed = onward_reads text len before old new has (omega (arith, read.0.0), omega (arith, read.0.1)) passed
+step_reads text before history (steps.Text chunk chunk_len stop len) old new kept stands has read leaves passed = onward_reads text (chunk_len + len) before old new has (omega (arith, read.0.0), omega (arith, read.0.1)) passed
+step_reads text before history (steps.Fault begin fault end) old new kept stands has read leaves passed =
     let here = fault_here text history old (record { begin = begin; node = stands.0; end = end }) kept stands.2 in
-    subst (HasReadAt text beside new) (sym passed.1) (
+    subst (HasReadAt text new) (sym passed.1) (
       omega (arith, has.0, read.0, passed.0.1),
       λ node is.
           let after = fault_restart text old.at begin end node kept.inside here.1 in
@@ -49,94 +59,55 @@ step_reads text beside before history (steps.Fault begin fault end) old new kept
     )
 
 -- a word that was taken as it is
-pub word_taken : (text : Text) (beside len before : ℕ) (old new : Reader) → IsReadBefore beside before old.at (owed old.pending) → AreReads len (5 * len + 3) before old.reads → IsTaken len old new → HasRead text beside new
-word_taken text beside len before old new has read taken = onward_reads text beside len before old new has (read.0, omega (arith, read.1, taken.0)) (taken.1, taken.2)
+pub word_taken : (text : Text) (len before : ℕ) (old new : Reader) → IsReadBefore before old.at (owed old.pending) → AreReads len (5 * len + 3) before old.reads → IsTaken len old new → HasRead text new
+word_taken text len before old new has read taken = onward_reads text len before old new has (read.0, omega (arith, read.1, taken.0)) (taken.1, taken.2)
 
 -- an f-string that begins
-pub word_begun : (text : Text) (beside len before : ℕ) (old new : Reader) → 1 ≤ len → IsReadBefore beside before old.at (owed old.pending) → AreReads len (5 * len + 3) before old.reads → HasStarted len old new → HasRead text beside new
-word_begun text beside len before old new some has read begun =
-    subst (HasReadAt text beside new) (sym begun.2) (omega (arith, has.0, read.0, begun.1, begun.4.0), omega (arith, some, has.1, read.0, read.1, begun.0, begun.3, begun.4.1))
+pub word_begun : (text : Text) (len before : ℕ) (old new : Reader) → 1 ≤ len → IsReadBefore before old.at (owed old.pending) → AreReads len (5 * len + 3) before old.reads → HasStarted len old new → HasRead text new
+word_begun text len before old new some has read begun =
+    subst (HasReadAt text new) (sym begun.2) (omega (arith, has.0, read.0, begun.1, begun.4.0), omega (arith, some, has.1, read.0, read.1, begun.0, begun.3, begun.4.1))
 
 -- the reads after a newline and its margin
-pub line_reads : (text : Text) (beside len before : ℕ) (old new : Reader) → old.at + len ≤ length text → IsReadBefore beside before old.at (owed old.pending) → AreReads len (5 * len + 3) before old.reads → 0 < len
-    → IsMarginRead text len old new new.stage → HasRead text beside new
-line_reads text beside len before old new inside has read some margin = go new.stage margin
+pub line_reads : (text : Text) (len before : ℕ) (old new : Reader) → old.at + len ≤ length text → IsReadBefore before old.at (owed old.pending) → AreReads len (5 * len + 3) before old.reads → 0 < len
+    → IsMarginRead text len old new new.stage → HasRead text new
+line_reads text len before old new inside has read some margin = go new.stage margin
   where
-    go : (stage : Stage) → IsMarginRead text len old new stage → HasReadAt text beside new stage
+    go : (stage : Stage) → IsMarginRead text len old new stage → HasReadAt text new stage
     go stages.Begin margin = absurd margin
     go stages.Onward margin = (omega (arith, has.0, read.0, margin.0.0, margin.1), omega (arith, has.1, read.1, some, margin.0.1, margin.1))
     go (stages.Fault begin fault end) margin = (omega (arith, has.0, read.0, margin.0, margin.1), λ node is. let there = margin.2 node is in (omega (arith, has.1, read.1, there.0, there.1, there.2), λ keeps inside. let tab = there.3 keeps in cc))
     go stages.Closed margin = absurd margin
 
 -- the reads after a newline, which counts or is passed
-pub newline_reads : (text : Text) (beside len before : ℕ) (it : LineEnd) (old new : Reader) → 1 ≤ len → old.at + len ≤ length text → IsReadBefore beside before old.at (owed old.pending) → AreReads len (5 * len + 3) before old.reads
-    → (it ≡ line_end.Passed → IsTaken len old new) → (it ≢ line_end.Passed → IsMarginRead text len old new new.stage) → HasRead text beside new
-newline_reads text beside len before line_end.Passed old new some inside has read taken margin = word_taken text beside len before old new has read (taken refl)
-newline_reads text beside len before line_end.Newline old new some inside has read taken margin = line_reads text beside len before old new inside has read some (margin (λ e. cc))
-newline_reads text beside len before line_end.Pending old new some inside has read taken margin = line_reads text beside len before old new inside has read some (margin (λ e. cc))
-newline_reads text beside len before line_end.Fault old new some inside has read taken margin = line_reads text beside len before old new inside has read some (margin (λ e. cc))
+pub newline_reads : (text : Text) (len before : ℕ) (it : LineEnd) (old new : Reader) → 1 ≤ len → old.at + len ≤ length text → IsReadBefore before old.at (owed old.pending) → AreReads len (5 * len + 3) before old.reads
+    → (it ≡ line_end.Passed → IsTaken len old new) → (it ≢ line_end.Passed → IsMarginRead text len old new new.stage) → HasRead text new
+newline_reads text len before line_end.Passed old new some inside has read taken margin = word_taken text len before old new has read (taken refl)
+newline_reads text len before line_end.Newline old new some inside has read taken margin = line_reads text len before old new inside has read some (margin (λ e. cc))
+newline_reads text len before line_end.Pending old new some inside has read taken margin = line_reads text len before old new inside has read some (margin (λ e. cc))
+newline_reads text len before line_end.Fault old new some inside has read taken margin = line_reads text len before old new inside has read some (margin (λ e. cc))
 
 -- the reads after a pending lexeme was yielded
-pub pending_reads : (text : Text) (beside : ℕ) (old new : Reader) → new.at ≡ old.at → more_reads old.reads 0 ≤ new.reads → new.reads + 5 * owed new.pending ≤ old.reads + 5 * owed old.pending
-    → (stage : Stage) → HasReadAt text beside old stage → HasReadAt text beside new stage
-pending_reads text beside old new same least most stages.Begin has = (omega (arith, same, has.0), omega (arith, has.1, most))
-pending_reads text beside old new same least most stages.Onward has = (omega (arith, same, has.0, least), omega (arith, same, has.1, most))
-pending_reads text beside old new same least most (stages.Fault begin fault end) has = (omega (arith, has.0, least), λ node is. let there = has.1 node is in (omega (arith, there.0, most), λ keeps inside. omega (arith, there.1 keeps inside, most)))
-pending_reads text beside old new same least most stages.Closed has = (omega (arith, has.0, least), omega (arith, has.1, most))
+pub pending_reads : (text : Text) (old new : Reader) → new.at ≡ old.at → more_reads old.reads 0 ≤ new.reads → new.reads + 5 * owed new.pending ≤ old.reads + 5 * owed old.pending
+    → (stage : Stage) → HasReadAt text old stage → HasReadAt text new stage
+pending_reads text old new same least most stages.Begin has = (omega (arith, same, has.0), omega (arith, has.1, most))
+pending_reads text old new same least most stages.Onward has = (omega (arith, same, has.0, least), omega (arith, same, has.1, most))
+pending_reads text old new same least most (stages.Fault begin fault end) has = (omega (arith, has.0, least), λ node is. let there = has.1 node is in (omega (arith, there.0, most), λ keeps inside. omega (arith, there.1 keeps inside, most)))
+pending_reads text old new same least most stages.Closed has = (omega (arith, has.0, least), omega (arith, has.1, most))
 
--- the bound holds with more reads beside those of the pieces
-pub read_more : (text : Text) (beside more : ℕ) (reader : Reader) → beside ≤ more → (stage : Stage) → HasReadAt text beside reader stage → HasReadAt text more reader stage
-read_more text beside more reader less stages.Begin has = has
-read_more text beside more reader less stages.Onward has = (has.0, omega (arith, less, has.1))
-read_more text beside more reader less (stages.Fault begin fault end) has = (has.0, λ node is. let there = has.1 node is in (omega (arith, less, there.0), λ keeps inside. omega (arith, less, there.1 keeps inside)))
-read_more text beside more reader less stages.Closed has = (has.0, omega (arith, less, has.1))
+-- the run that was peeked after an opener, …
+pub opened_run : (rest : Text) (reads : ℕ) (reader : Reader) (kind : LiteralKind) (is_raw : Bool) (quote : Quote) (len : ℕ) (found : Result ℕ ℕ) → rest ≡ drop len (drop reader.at reader.text.now)
+    → IfErr found (λ run. IsRun (single_literal kind is_raw quote) rest run × AreReads run (6 * run + 3) reader.reads reads)
+    → IfErr found (λ run. IsRun (single_literal kind is_raw quote) (drop len (drop reader.at reader.text.now)) run × HasLookedHere run (6 * run + 3) reader (record reader { reads = reads }))
+opened_run rest reads reader kind is_raw quote len (Ok value) e other = tt
+opened_run rest reads reader kind is_raw quote len (Err run) e other = (subst (λ (t : Text). IsRun (single_literal kind is_raw quote) t run) e other.0, (refl, refl, omega arith, other.1))
 
--- lookahead that takes nothing counts beside the reads of the pieces
-pub looked_reads : (text : Text) (beside least most : ℕ) (old new : Reader) → old.stage ≡ stages.Onward → HasRead text beside old → HasLooked least most old new → HasRead text (beside + most) new
-looked_reads text beside least most old new onward has lookahead =
-    let on : HasReadAt text beside old stages.Onward = subst (HasReadAt text beside old) onward has in
-    subst (HasReadAt text (beside + most) new) (sym (lookahead.1 ∙ onward)) (omega (arith, lookahead.0, lookahead.3.0, on.0), omega (arith, lookahead.0, lookahead.2, lookahead.3.1, on.1))
-
-here_looked : (least most : ℕ) (old new : Reader) → HasLookedHere least most old new → HasLooked least most old new
-here_looked least most old new here = (omega (arith, here.0), here.1, here.2, (omega (arith, here.0, here.3.0), omega (arith, here.0, here.3.1)))
-
-pub here_reads : (text : Text) (beside least most : ℕ) (old new : Reader) → old.stage ≡ stages.Onward → HasRead text beside old → HasLookedHere least most old new → HasRead text (beside + most) new
-here_reads text beside least most old new onward has lookahead = looked_reads text beside least most old new onward has (here_looked least most old new lookahead)
-
--- the run that was peeked is in the reader's line, where something else follows
-pub other_reads : {A : Type 0} (text rest : Text) (from extra reads : ℕ) (reader : Reader) (found : Result A ℕ) → from + next_line rest 0 ≤ next_line text reader.at
-    → IfErr found (λ run. (run ≤ next_line rest 0) × AreReads 0 (6 * run + extra) reader.reads reads)
-    → IfErr found (λ run. (from + run ≤ next_line text reader.at) × HasLookedHere 0 (6 * run + extra) reader (record reader { reads = reads }))
-other_reads text rest from extra reads reader (Ok value) line other = tt
-other_reads text rest from extra reads reader (Err run) line other = (omega (arith, line, other.0), (refl, refl, omega arith, other.1))
-
--- lookahead that is then taken is part of the reads of its piece
-pub taken_reads : (text : Text) (beside least most len : ℕ) (old mid new : Reader) → old.stage ≡ stages.Onward → HasRead text beside old → HasLooked least most old mid → len ≤ least → most ≤ 10 * len
-    → IsPassedBy (mid.at + len) mid new × (new.stage ≡ stages.Onward) → HasRead text beside new
-taken_reads text beside least most len old mid new onward has lookahead enough few passed =
-    let on : HasReadAt text beside old stages.Onward = subst (HasReadAt text beside old) onward has in
-    subst (HasReadAt text beside new) (sym passed.1)
-    (omega (arith, enough, lookahead.0, lookahead.3.0, on.0, passed.0.0, passed.0.1), omega (arith, few, lookahead.0, lookahead.2, lookahead.3.1, on.1, passed.0.0, passed.0.1, passed.0.2))
-
-pub here_taken_reads : (text : Text) (beside least most len : ℕ) (old mid new : Reader) → old.stage ≡ stages.Onward → HasRead text beside old → HasLookedHere least most old mid → len ≤ least → most ≤ 10 * len
-    → IsPassedBy (mid.at + len) mid new × (new.stage ≡ stages.Onward) → HasRead text beside new
-here_taken_reads text beside least most len old mid new onward has lookahead = taken_reads text beside least most len old mid new onward has (here_looked least most old mid lookahead)
-
--- lookahead at an f-string's opener is part of the reads of its start
-pub begun_reads : (text : Text) (beside len : ℕ) (old mid new : Reader) → 1 ≤ len → old.stage ≡ stages.Onward → HasRead text beside old → HasLooked len (5 * len + 3) old mid → HasStarted len mid new → HasRead text beside new
-begun_reads text beside len old mid new some onward has lookahead begun =
-    let on : HasReadAt text beside old stages.Onward = subst (HasReadAt text beside old) onward has in
-    subst (HasReadAt text beside new) (sym begun.2)
-    (omega (arith, lookahead.0, lookahead.3.0, on.0, begun.1, begun.4.0), omega (arith, some, lookahead.0, lookahead.2, lookahead.3.1, on.1, begun.0, begun.3, begun.4.1))
-
--- lookahead at a newline is part of the reads of it and its margin
-pub margin_reads : (text : Text) (beside len : ℕ) (old mid new : Reader) → mid.at + len ≤ length text → 1 ≤ len → old.stage ≡ stages.Onward → HasRead text beside old → HasLooked len ((5 * len - 4) + 2) old mid
-    → IsMarginRead text len mid new new.stage → HasRead text beside new
-margin_reads text beside len old mid new inside some onward has lookahead margin =
-    let on : HasReadAt text beside old stages.Onward = subst (HasReadAt text beside old) onward has in
-    let before : IsReadBefore beside (old.reads + (mid.at - old.at)) mid.at (owed mid.pending) = (omega (arith, lookahead.0, on.0), omega (arith, lookahead.0, lookahead.2, on.1)) in
-    let read : AreReads len (5 * len + 3) (old.reads + (mid.at - old.at)) mid.reads = (omega (arith, lookahead.0, lookahead.3.0), omega (arith, some, lookahead.0, lookahead.3.1)) in
-    line_reads text beside len (old.reads + (mid.at - old.at)) mid new inside before read some margin
+-- … and in the text of an f-string
+pub text_run : (text rest : Text) (reads : ℕ) (reader : Reader) (opening : code.Opening) (found : Result PlainText ℕ) → rest ≡ drop reader.at text → reader.stage ≡ stages.Onward → IsIdle text reader.pending
+    → ((tokens : List Token) → Represents tokens reader.nesting → mode_after tokens ≡ InText (opening_view opening)) → IfErr found (λ run. IsRun (fstring_literal (opening_view opening)) rest run × AreReads run (6 * run + 4) reader.reads reads)
+    → IfErr found (λ run. IsTextRun text run (record reader { reads = reads }) × HasLookedHere run (6 * run + 4) reader (record reader { reads = reads }))
+text_run text rest reads reader opening (Ok value) e onward idle inside other = tt
+text_run text rest reads reader opening (Err run) e onward idle inside other =
+    (record { opening = opening; stage = onward; idle = idle; inside = inside; run = subst (λ (t : Text). IsRun (fstring_literal (opening_view opening)) t run) e other.0 }, (refl, refl, omega arith, other.1))
 
 -- a state doesn't depend on the number of reads
 pub state_reads : (text : Text) (history : History) (reader : Reader) (reads : ℕ) → IsStateAfter text history reader → IsStateAfter text history (record reader { reads = reads })

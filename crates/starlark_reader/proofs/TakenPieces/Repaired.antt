@@ -1,13 +1,8 @@
 -- A reader that goes on after a repair, in the repaired text.
-use Rattle.std.proofs.Common.{◌≡◌, ℕ, zero, suc, ◌+◌, ◌-◌, ◌≤◌, Bool, true, false, Option, None, Some, List, [], ◌++◌, map, length, drop, replicate, refl, ap, ◌∙◌, sym, subst, arith}
-use Rattle.std.specs.List.{prefix_len}
-use Rattle.std.specs.Prelude.{IfSome}
+use Rattle.std.proofs.Common.{◌≡◌, ℕ, zero, suc, ◌-◌, ◌≤◌, true, false, None, Some, List, [], ◌++◌, map, length, drop, replicate, refl, ap, ◌∙◌, sym, subst, arith}
 use Rattle.std.proofs.lemmas.Bool.{and_parts, false_from_ne_true}
-use Rattle.starlark_grammar.specs.AfterFaults.{is_margin_tab, is_tab, next_line, restart, stopped_at}
+use Rattle.starlark_grammar.specs.AfterFaults.{is_margin_tab}
 use Rattle.starlark_grammar.specs.Margins.{has_tab, is_content, margin_of}
-use Rattle.starlark_grammar.proofs.Recovery.RestartLines.{tab_empty}
-use Rattle.starlark_grammar.proofs.Found.FoundItems.{stopped_past}
-use Rattle.starlark_reader.proofs.NextLines.{in_line, next_line_later, restart_at}
 use Rattle.starlark_reader.proofs.TakenPieces.Onward.{first_fails, onward_ends}
 use Rattle.std.specs.Str.{IsCharBoundary}
 use Rattle.std.proofs.lemmas.List.{drop_all, length-map}
@@ -28,7 +23,7 @@ use Rattle.starlark_grammar.proofs.Joining.CleanCuts.{longest_both, past_both, p
 use Rattle.starlark_grammar.proofs.Reading.Readings.{one_longest, read_from_is, read_is}
 use Rattle.starlark_grammar.proofs.Reading.Steps.{is_nothing}
 use Rattle.starlark_grammar.proofs.Repairs.RepairedTexts.{repaired_left, repaired_len}
-use Rattle.starlark_grammar.proofs.Repairs.Readings.{IsRepaired, closes, is_repaired, kept as kept_fault, outcome_from, repairs_have_bytes, repairs_leave_later}
+use Rattle.starlark_grammar.proofs.Repairs.Readings.{IsRepaired, closes, is_repaired, kept as kept_fault, outcome_from}
 use Rattle.starlark_grammar.proofs.Repairs.Semicolons.{is_in_text, semicolon, semicolons_len}
 use Rattle.starlark_reader.specs.Inner.Nesting.{Represents, bracket_count, change_by}
 use Rattle.starlark_reader.specs.Inner.Pending.{IsIdle}
@@ -155,25 +150,6 @@ untabbed text fault keeps = false_from_ne_true (begins_with_tab text) (λ e.
     let tab : is_margin_tab text fault ≡ true = subst (λ (f : Spanned Fault). is_margin_tab text f ≡ true) same refl in
     let is = kept_fault text (outcome text).lexemes fault keeps.1 in
     let none = is.no_margin in cc)
-
--- Lexing begins again after a later fault no earlier than after this one.
-pub restart_repaired : (text : Text) (fault : Spanned Fault) → KeepsLine text fault → (later : Spanned Fault) → (outcome (repaired text fault)).fault ≡ Some later → restart text fault ≤ restart (repaired text fault) later
-unfolding restart stopped_at next_line
-restart_repaired text fault keeps later has =
-    let bytes = repairs_have_bytes text fault keeps in
-    let is = kept_fault text (outcome text).lexemes fault keeps.1 in
-    let none = is.no_margin in
-    let after : repair_end text fault ≤ later.begin = subst (λ (found : Option (Spanned Fault)). IfSome found (λ later. repair_end text fault ≤ later.begin)) has (repairs_leave_later text fault keeps) in
-    let stopped : stopped_at text fault ≤ repair_end text fault = rw none (omega (arith, bytes.0, last (is_tab fault.node) refl)) in
-    let line = next_line_later text (stopped_at text fault) (repair_end text fault) stopped in
-    let left = ap (prefix_len in_line) (repaired_left text fault keeps) in
-    let same : next_line text (repair_end text fault) ≡ next_line (repaired text fault) (repair_end text fault) = omega (arith, left, repaired_len text fault keeps) in
-    let on = restart_at (repaired text fault) later (repair_end text fault) (omega (arith, after, stopped_past (repaired text fault) later)) in
-    omega (arith, line, same, on)
-  where
-    last : (tab : Bool) → is_tab fault.node ≡ tab → fault.end ≤ repair_end text fault + 1
-    last true e = let bytes = repairs_have_bytes text fault keeps in omega (arith, bytes.0, tab_empty text fault keeps.0 e)
-    last false e = rw e (omega arith)
 
 -- code ends where a text does
 code_ends : (s : Situation) → is_nothing s.before ≡ false → is_in_text s.mode ≡ false → step_at language s [] ≡ Ends

@@ -1,6 +1,6 @@
 -- One call after another on a reader, whose text stays the same.
 use Rattle.std.proofs.Common.{◌≡◌, ◌∷◌, [], ap, refl, subst, sym, ℕ}
-use Rattle.std.specs.Prelude.{List, Option}
+use Rattle.std.specs.Prelude.{List, None, Option, Some}
 use Rattle.starlark_grammar.specs.Pieces.{Step}
 use Rattle.starlark_grammar.specs.Reading.{History}
 use Rattle.starlark_grammar.specs.Tokens.{Fault, Outcome, Spanned}
@@ -67,12 +67,17 @@ pub keeps_something : (old mid : Reader) → mid.text ≡ old.text → KeepsAhea
 keeps_something old mid same first second = λ lexemes fault ahead.
     subst (λ (t : Text). (lexemes : List (Spanned TokenView)) (fault : Option (Spanned Fault)) → IsAhead t mid mid.stage lexemes fault → IsSomething lexemes fault) (ap (λ t. t.now) same) second lexemes fault (first lexemes fault ahead)
 
+-- where no lexeme was given, all is still ahead
+pub none_given : (given : Option (ℕ × Token × ℕ)) (old new : Reader) → ((lexeme : ℕ × Token × ℕ) → given ≡ Some lexeme → ⊥) → TakesNext old given new → KeepsAhead old new
+none_given None old new none takes = takes
+none_given (Some lexeme) old new none takes = absurd (none lexeme refl)
+
 pub code_after : (old new : Reader) → new.text ≡ old.text → IsAtCode old.text.now new → IsAtCode new.text.now new
 code_after old new same = subst (λ (t : Text). IsAtCode t new) (sym (ap (λ t. t.now) same))
 
 -- what a call reads is paid for
-pub same_reads : (old mid new : Reader) → mid.text ≡ old.text → ((beside : ℕ) → HasReadAt mid.text.now beside mid mid.stage → HasRead mid.text.now beside new) → (beside : ℕ) → HasReadAt old.text.now beside mid mid.stage → HasRead old.text.now beside new
-same_reads old mid new same = subst (λ (t : Text). (beside : ℕ) → HasReadAt t beside mid mid.stage → HasRead t beside new) (ap (λ t. t.now) same)
+pub same_reads : (old mid new : Reader) → mid.text ≡ old.text → (HasReadAt mid.text.now mid mid.stage → HasRead mid.text.now new) → HasReadAt old.text.now mid mid.stage → HasRead old.text.now new
+same_reads old mid new same = subst (λ (t : Text). HasReadAt t mid mid.stage → HasRead t new) (ap (λ t. t.now) same)
 
 -- What is ahead in a text doesn't depend on the text that the reader borrows
 
@@ -91,11 +96,11 @@ module _ (text : Text) (reader over : Reader) where
   over_ahead stage lexemes fault ahead =
       record { left = ahead.left; is_left = over_left stage ahead.left ahead.is_left; is_pending = ahead.is_pending; ahead = ahead.ahead; those_after = ahead.those_after; cut = ahead.cut; cuts = ahead.cuts }
 
-  pub over_reads : (beside : ℕ) (stage : Stage) → HasReadAt text beside reader stage → HasReadAt text beside (record reader { text = over.text }) stage
-  over_reads beside stages.Begin has = has
-  over_reads beside stages.Onward has = has
-  over_reads beside (stages.Fault begin fault end) has = has
-  over_reads beside stages.Closed has = has
+  pub over_reads : (stage : Stage) → HasReadAt text reader stage → HasReadAt text (record reader { text = over.text }) stage
+  over_reads stages.Begin has = has
+  over_reads stages.Onward has = has
+  over_reads (stages.Fault begin fault end) has = has
+  over_reads stages.Closed has = has
 
   pub over_code : IsAtCode text reader → IsAtCode text (record reader { text = over.text })
   over_code code = record { stage = code.stage; idle = code.idle; code = code.code }

@@ -29,14 +29,14 @@ fault_restart text at begin end node here inside =
 
 -- the reads of a piece that is a fault, with those of the search after it
 pub step_search : (text : Text) (at begin end : ℕ) (error : LexemeError) (node : Fault) → fault_view error ≡ Some node → at ≤ length text → at + end ≤ length text
-    → (if is_tab_error error then 5 * next_line (drop at text) 0 + 3 else 10 * end + 6) + search_reads text (record { begin = at + begin; node = node; end = at + end })
-    ≤ 10 * (restart text (record { begin = at + begin; node = node; end = at + end }) - at) + 8
+    → (if is_tab_error error then 5 * next_line (drop at text) 0 + 3 else 10 * end + 10) + search_reads text (record { begin = at + begin; node = node; end = at + end })
+    ≤ 10 * (restart text (record { begin = at + begin; node = node; end = at + end }) - at) + 12
 step_search text at begin end error node view here inside = by (is_tab_error error) (ap is_tab_view view)
   where
     fault : Spanned Fault
     fault = record { begin = at + begin; node = node; end = at + end }
 
-    by : (tab : Bool) → tab ≡ is_tab node → (if tab then 5 * next_line (drop at text) 0 + 3 else 10 * end + 6) + search_reads text fault ≤ 10 * (restart text fault - at) + 8
+    by : (tab : Bool) → tab ≡ is_tab node → (if tab then 5 * next_line (drop at text) 0 + 3 else 10 * end + 10) + search_reads text fault ≤ 10 * (restart text fault - at) + 12
     by true is =
         let search = tab_search text fault (sym is) in
         let after = fault_restart text at begin end node here inside in

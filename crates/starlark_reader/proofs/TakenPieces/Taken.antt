@@ -400,16 +400,6 @@ less_taken text history old new piece kept stands is is_at =
     let onward : left_to_read text new stage.Onward < left_to_read text old stage.Onward = omega (arith, inside.0, inside.1, is_at) in
     subst (λ now. left_to_read text new now < left_to_read text old stage.Onward) (sym is) onward
 
-pub less_failed : (text : Text) (old new : Reader) (begin : ℕ) (error : LexemeError) (end : ℕ) → new.stage ≡ stage.Fault begin error end → left_to_read text new new.stage < left_to_read text old stage.Onward
-less_failed text old new begin error end is =
-    let one : left_to_read text new (stage.Fault begin error end) < left_to_read text old stage.Onward = omega arith in
-    subst (λ now. left_to_read text new now < left_to_read text old stage.Onward) (sym is) one
-
-pub less_closed : (text : Text) (old new : Reader) → new.stage ≡ stage.Closed → left_to_read text new new.stage < left_to_read text old stage.Onward
-less_closed text old new is =
-    let none : left_to_read text new stage.Closed < left_to_read text old stage.Onward = omega arith in
-    subst (λ now. left_to_read text new now < left_to_read text old stage.Onward) (sym is) none
-
 -- Margins, as they were read
 
 none_open : (levels : List ℕ) → (length levels == 0) ≡ true → levels ≡ []

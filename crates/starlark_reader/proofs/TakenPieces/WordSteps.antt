@@ -1,10 +1,13 @@
 -- A word that is read as a step, and what it reads.
 use Rattle.std.proofs.Common.{◌≡◌, ◌≤◌, ◌<◌, ◌+◌, ◌*◌, ◌∙◌, ◌&&◌, ◌∷◌, [], ℕ, Bool, List, None, false, true, ap, arith, drop, length, refl, subst, sym, take}
 use Rattle.std.proofs.lemmas.List.{length-drop}
+use Rattle.std.proofs.lemmas.Str.{IsUtf8-drop}
 use Rattle.starlark_grammar.specs.AfterFaults.{next_line}
 use Rattle.starlark_grammar.specs.Cuts.{is_outside}
 use Rattle.starlark_grammar.specs.Depths.{InText, Mode, mode_after}
 use Rattle.starlark_grammar.specs.Front.{language_front}
+use Rattle.starlark_grammar.specs.Inner.Openings.{opening_view}
+use Rattle.starlark_grammar.specs.Items.{Literal}
 use Rattle.starlark_grammar.specs.FrontCharacter.{first_character}
 use Rattle.starlark_grammar.specs.Pieces.{Ends, Situation, chunk, fault, in_code, is_bang, opener, opening_of, takes_bang, word_step}
 use Rattle.starlark_grammar.specs.Tokens.{InvalidInput, Opening, Token}
@@ -15,7 +18,10 @@ use Rattle.starlark_grammar.specs.declared.class.LiteralKind.{LiteralKind}
 use Rattle.starlark_grammar.specs.declared.class.Quote.{Quote}
 use Rattle.starlark_grammar.specs.Reading.{History, next_step, situation}
 use Rattle.starlark_grammar.specs.Words.{Text, language}
+use Rattle.starlark_words.proofs.LiteralBodies.PlainBodies.{empty_run}
+use Rattle.starlark_words.specs.Inner.PlainRuns.{IsRun}
 use Rattle.starlark_words.specs.Inner.Reads.{AreReads}
+use Rattle.starlark_reader.specs.Inner.Lookaheads.{IsTextRun}
 use Rattle.starlark_words.specs.Inner.ScannedWords.{is_number}
 use Rattle.starlark_words.specs.declared.scanner.word.Word.{Word}
 use Rattle.starlark_reader.specs.Inner.Nesting.{Represents, mode_view}
@@ -32,7 +38,7 @@ use Rattle.starlark_reader.specs.declared.reader.Reader.{Reader}
 use Rattle.starlark_reader.specs.declared.reader.Stage.TheVariants as stages
 use Rattle.starlark_reader.proofs.TakenPieces.SameTexts.{looked_sound, state_here}
 use Rattle.starlark_reader.proofs.NextLines.{front_line}
-use Rattle.starlark_reader.proofs.TakenPieces.CodePlaces.{code_at, in_code_none, in_text, word_len}
+use Rattle.starlark_reader.proofs.TakenPieces.CodePlaces.{code_at, in_code_none, in_text, word_cut, word_len}
 use Rattle.starlark_reader.proofs.TakenPieces.PieceReads.{whole_reads}
 use Rattle.starlark_reader.proofs.TakenPieces.PieceTaken.{after_sort, is_gap_sort, word_read, word_within}
 use Rattle.starlark_reader.proofs.TakenPieces.ReaderReads.{IsReadBefore, state_reads, step_reads}
@@ -46,15 +52,15 @@ step_of_word text history reader word front step kept here e is =
     subst (λ stands. IsStep stands step) (ap (λ (t : Text). word_step (situation history) word.class t (drop word.len (drop reader.at text))) e ∙ sym whole) (is (situation history) (drop word.len (drop reader.at text)))
 
 -- its reads are within the bound
-pub word_step_reads : (text : Text) (beside before after : ℕ) (history : History) (word : Word) (step : Step) (old new : Reader) → IsStateAfter text history old → IsWordHere text old word → IsStep (step_here text history old) step
-    → IsReadBefore beside before old.at (owed old.pending) → AreReads word.len (5 * word.len + 3) before old.reads → AreWordReads word.len 9 2 (next_line (take word.len (drop old.at text)) 0) 8 step old.reads after
-    → LeavesReads (5 * word.len + 3) (take word.len (drop old.at text)) step old.reads after → IsPassed (record old { reads = after }) step new → HasRead text beside new
-word_step_reads text beside before after history word step old new kept here is has read more leaves passed =
+pub word_step_reads : (text : Text) (before between after : ℕ) (history : History) (word : Word) (step : Step) (old new : Reader) → IsStateAfter text history old → IsWordHere text old word → IsStep (step_here text history old) step
+    → IsReadBefore before old.at (owed old.pending) → AreReads word.len (5 * word.len + 3) before between → AreWordReads word.len 9 2 (next_line (take word.len (drop old.at text)) 0) 8 step between after
+    → LeavesReads (5 * word.len + 3) (take word.len (drop old.at text)) step between after → IsPassed (record old { reads = after }) step new → HasRead text new
+word_step_reads text before between after history word step old new kept here is has read more leaves passed =
     let rest = drop old.at text in
     let within = word_within text history old word.class word.len kept here in
-    step_reads text beside before history step (record old { reads = after }) new (state_reads text history old after kept) is has
-    (whole_reads word.len (next_line (take word.len rest) 0) rest step before old.reads after (omega (arith, within.0)) (front_line rest word.len) read more)
-    (front_leaves word.len (5 * word.len + 3) rest step before old.reads after (omega (arith, read.1)) leaves) passed
+    step_reads text before history step (record old { reads = after }) new (state_reads text history old after kept) is has
+    (whole_reads word.len (next_line (take word.len rest) 0) rest step before between after (omega (arith, within.0)) (front_line rest word.len) read more)
+    (front_leaves word.len (5 * word.len + 3) rest step before between after (omega (arith, read.1)) leaves) passed
 
 -- a string or bytes literal is the step at its opener
 pub literal_here : (text : Text) (history : History) (reader : Reader) (kind : LiteralKind) (is_raw : Bool) (quote : Quote) (len : ℕ) (mode : LexerMode) (outside : Bool) (remainder : Text) (step : Step) → IsStateAfter text history reader
@@ -135,3 +141,21 @@ code_here reader mode here other = λ tokens stored. ap is_code (sym (here token
 pub sound_here : (reader : Reader) (reads : ℕ) → IsText reader.text.now → reader.stage ≡ stages.Onward → IsReady reader.text.now reader stages.Onward → IsSound (record reader { reads = reads })
 sound_here reader reads text onward ready =
     looked_sound reader reads (record { text = text; ready = (ready.0, ready.1, subst (λ s. IsAhead reader.text.now reader s ready.0 ready.1) (sym onward) ready.2) })
+
+-- no byte after an opener is known yet
+pub none_known : (reader : Reader) (kind : LiteralKind) (is_raw : Bool) (quote : Quote) (len : ℕ) (literal : Literal) → IsSound reader → IsWordHere reader.text.now reader (record { class = class.Opener kind is_raw quote; len = len })
+    → IsRun literal (drop len (drop reader.at reader.text.now)) 0
+none_known reader kind is_raw quote len literal sound here =
+    let left = state_here reader sound here.stage in
+    let rest = IsUtf8-drop reader.text.now reader.at sound.text.utf8 left.1.boundary in
+    empty_run literal _ (IsUtf8-drop (drop reader.at reader.text.now) len rest (word_cut (drop reader.at reader.text.now) (class.Opener kind is_raw quote) len rest (sym here.front)))
+
+-- the opening of a text is that of the innermost f-string
+pub same_opening : (text : Text) (count : ℕ) (reader : Reader) (mode : LexerMode) (opening : code.Opening) (here : IsTextRun text count reader) → IsSound reader → ((tokens : List Token) → Represents tokens reader.nesting → mode_view mode ≡ mode_after tokens) → mode ≡ modes.InText opening
+    → opening_view opening ≡ opening_view here.opening
+same_opening text count reader mode opening here sound shown is =
+    let left = state_here reader sound here.stage in
+    text_of (sym (ap mode_view is) ∙ shown left.0.tokens left.1.nesting ∙ here.inside left.0.tokens left.1.nesting)
+  where
+    text_of : {a b : Opening} → InText a ≡ InText b → a ≡ b
+    text_of e = cc

@@ -1,5 +1,5 @@
 -- Numbers of reads of bytes, by what was read.
-use Rattle.std.specs.Prelude.{◌≡◌, ◌≤◌, ◌<◌, ◌+◌, ◌-◌, ◌*◌, if◌then◌else◌, Bool, true, false, ℕ, Option, None, Some, length, max, ⊤}
+use Rattle.std.specs.Prelude.{◌≡◌, ◌≤◌, ◌<◌, ◌+◌, ◌-◌, ◌*◌, if◌then◌else◌, Bool, true, false, ℕ, Option, None, Some, length, ⊤}
 use Rattle.starlark_grammar.specs.AfterFaults.{is_margin_tab, is_tab, restart}
 use Rattle.starlark_grammar.specs.Inner.KeptFaults.{may_keep}
 use Rattle.starlark_grammar.specs.Repairs.{repair_end}
@@ -99,16 +99,15 @@ IsPassed old (step.Token token len) new = IsPassedBy (old.at + len) old new × (
 IsPassed old (step.Text text text_len stop len) new = IsPassedBy (old.at + (text_len + len)) old new × (new.stage ≡ stage.Onward)
 IsPassed old (step.Fault begin fault end) new = IsPassedBy old.at old new × (new.stage ≡ stage.Fault (old.at + begin) fault (old.at + end))
 
--- reads at a fault and in the search after it, at most: ten for each byte up to where lexing begins
--- again and ten more, beside `beside` others; or sixteen and sixteen more with no others, as in a
--- text's first margin
-abbrev pub most_reads_to : Text → (beside : ℕ) → Spanned Fault → ℕ
-most_reads_to text beside fault = max (beside + 10 * (restart text fault + 1)) (16 * (restart text fault + 1))
+-- reads at a fault and in the search after it, at most: sixteen for each byte up to where lexing begins
+-- again, and sixteen more
+abbrev pub most_reads_to : Text → Spanned Fault → ℕ
+most_reads_to text fault = 16 * (restart text fault + 1)
 
 -- reads at a fault that keeps its line leave one for each byte of its repair and one more: all are
--- at most ten for each byte up to the repair's end and two more, beside `beside` others
-abbrev pub LeavesRepair : (text : Text) (beside : ℕ) → Spanned Fault → (reads : ℕ) → Type 0
-LeavesRepair text beside fault reads = may_keep fault.node ≡ true → is_margin_tab text fault ≡ false → reads + (repair_end text fault - fault.begin) + 1 ≤ beside + 10 * repair_end text fault + 2
+-- at most ten for each byte up to the repair's end and two more
+abbrev pub LeavesRepair : (text : Text) → Spanned Fault → (reads : ℕ) → Type 0
+LeavesRepair text fault reads = may_keep fault.node ≡ true → is_margin_tab text fault ≡ false → reads + (repair_end text fault - fault.begin) + 1 ≤ 10 * repair_end text fault + 2
 
 -- the margin after a newline of `len` bytes was read; at its fault, the bound includes the search
 abbrev pub IsMarginRead : Text → ℕ → Reader → Reader → Stage → Type 0
@@ -119,19 +118,19 @@ IsMarginRead text len old new (stage.Fault begin fault end) =
     × AtFault begin fault end (λ spanned. (new.reads + search_reads text spanned + 5 * len ≤ old.reads + 10 * (restart text spanned - old.at) + 5) × (owed new.pending ≡ 0) × (old.at ≤ restart text spanned) × (may_keep spanned.node ≡ true → is_margin_tab text spanned ≡ true))
 IsMarginRead text len old new stage = ⊥
 
--- the reads at a stage: one to ten for each byte passed, and `beside` others; at a fault one or more
+-- the reads at a stage: one to ten for each byte passed; at a fault one or more
 -- for each byte before it; the upper bound includes five for each byte of pending comments, and at a
 -- fault the search after it, or its repair
-abbrev pub HasReadAt : (text : Text) (beside : ℕ) → Reader → Stage → Type 0
-HasReadAt text beside reader stage.Begin = (reader.at ≡ 0) × (reader.reads + 5 * owed reader.pending ≡ 0)
-HasReadAt text beside reader stage.Onward = (more_reads 0 reader.at ≤ reader.reads) × (reader.reads + 5 * owed reader.pending ≤ beside + 10 * reader.at + 2)
-HasReadAt text beside reader (stage.Fault begin fault end) = (more_reads 0 begin ≤ reader.reads) × AtFault begin fault end (λ spanned. (reader.reads + search_reads text spanned + 5 * owed reader.pending ≤ most_reads_to text beside spanned) × LeavesRepair text beside spanned (reader.reads + 5 * owed reader.pending))
-HasReadAt text beside reader stage.Closed = (more_reads 0 (length text) ≤ reader.reads) × (reader.reads + 5 * owed reader.pending ≤ beside + 10 * length text + 9)
+abbrev pub HasReadAt : (text : Text) → Reader → Stage → Type 0
+HasReadAt text reader stage.Begin = (reader.at ≡ 0) × (reader.reads + 5 * owed reader.pending ≡ 0)
+HasReadAt text reader stage.Onward = (more_reads 0 reader.at ≤ reader.reads) × (reader.reads + 5 * owed reader.pending ≤ 10 * reader.at + 2)
+HasReadAt text reader (stage.Fault begin fault end) = (more_reads 0 begin ≤ reader.reads) × AtFault begin fault end (λ spanned. (reader.reads + search_reads text spanned + 5 * owed reader.pending ≤ most_reads_to text spanned) × LeavesRepair text spanned (reader.reads + 5 * owed reader.pending))
+HasReadAt text reader stage.Closed = (more_reads 0 (length text) ≤ reader.reads) × (reader.reads + 5 * owed reader.pending ≤ 10 * length text + 9)
 
-abbrev pub HasRead : (text : Text) (beside : ℕ) → Reader → Type 0
-HasRead text beside reader = HasReadAt text beside reader reader.stage
+abbrev pub HasRead : (text : Text) → Reader → Type 0
+HasRead text reader = HasReadAt text reader reader.stage
 
 -- the reads after the last lexeme, when the fault was taken or there is none
-abbrev pub HasReadLast : (text : Text) (beside : ℕ) → Option (ℕ × LexemeError × ℕ) → Reader → Type 0
-HasReadLast text beside (Some found) reader = (more_reads 0 found.0 ≤ reader.reads) × AtFault found.0 found.1 found.2 (λ spanned. (reader.reads + search_reads text spanned ≤ most_reads_to text beside spanned) × LeavesRepair text beside spanned reader.reads)
-HasReadLast text beside None reader = HasRead text beside reader × (more_reads 0 (length text) ≤ reader.reads) × (reader.reads < beside + 10 * (length text + 1))
+abbrev pub HasReadLast : (text : Text) → Option (ℕ × LexemeError × ℕ) → Reader → Type 0
+HasReadLast text (Some found) reader = (more_reads 0 found.0 ≤ reader.reads) × AtFault found.0 found.1 found.2 (λ spanned. (reader.reads + search_reads text spanned ≤ most_reads_to text spanned) × LeavesRepair text spanned reader.reads)
+HasReadLast text None reader = HasRead text reader × (more_reads 0 (length text) ≤ reader.reads) × (reader.reads < 10 * (length text + 1))

@@ -1,7 +1,8 @@
 //! F-string texts, up to an expression or the closing quotes.
 
-ghost use Rattle.std.specs.Prelude.{◌<◌, ◌≤◌, ◌+◌, ◌*◌, IfErr, IfOk};
-ghost use Rattle.starlark_grammar.specs.AfterFaults.{next_line};
+ghost use Rattle.std.specs.Prelude.{◌<◌, ◌≤◌, ◌+◌, ◌*◌, ℕ, IfErr, IfOk};
+ghost use Rattle.starlark_words.specs.Inner.LiteralViews.{fstring_literal};
+ghost use Rattle.starlark_words.specs.Inner.PlainRuns.{IsRun};
 ghost use Rattle.starlark_words.specs.Inner.Reads.{AreReads};
 ghost use Rattle.starlark_reader.specs.Inner.ReadBounds.{AreStepReads};
 ghost use Rattle.starlark_reader.specs.Inner.StepViews.{IsPlainText, IsStep};
@@ -17,15 +18,18 @@ use starlark_words::scanner::LiteralKind;
 use starlark_words::{Body, Literal, LiteralValue, Stop, closing_len, plain_chunk_len, read_body};
 use std::alloc::{AllocError, Global};
 
-/// The f-string text up to its first stop: an expression, the closing quotes, or a fault.
+/// The f-string text up to its first stop: an expression, the closing quotes, or a fault. Its first `run`
+/// bytes are known.
 pub(crate) fn chunk_from(
     reads: &mut ReadCounter,
     alloc: Global,
     opening: Opening,
+    run: usize,
     text: &str,
 ) -> Result<Step, AllocError>
+    requires run { IsRun (fstring_literal (opening_view opening)) text.now run }
     ensures step { IfOk result (IsStep (grammar.chunk (opening_view opening) text.now)) }
-    ensures reads { IfOk result (λ step. AreStepReads 0 8 0 6 step reads.old reads.new) }
+    ensures reads { IfOk result (λ step. (before : ℕ) → AreReads run (8 * run + 4) before reads.old → AreStepReads 0 10 0 10 step before reads.new) }
 {
     let literal = Literal {
         kind: LiteralKind::FString,
@@ -35,7 +39,7 @@ pub(crate) fn chunk_from(
         len: text_len,
         value,
         stop,
-    } = read_body(reads, alloc, literal, text)?;
+    } = read_body(reads, alloc, literal, run, text)?;
     let LiteralValue::Text(value) = value else {
         unreachable!()
     };
@@ -75,7 +79,7 @@ pub(crate) fn chunk_from(
     }
 }
 
-/// An f-string text without escapes and LF: its length, what ends it, and the length of that, in bytes.
+/// An f-string text without escapes: its length, what ends it, and the length of that, in bytes.
 #[derive(Clone, Copy)]
 pub struct PlainText {
     pub len: usize,
@@ -83,7 +87,7 @@ pub struct PlainText {
     pub stop_len: usize,
 }
 
-/// The f-string text up to its first stop, if it has no escapes and no LF. For any other text, or a
+/// The f-string text up to its first stop, if it has no escapes. For any other text, or a
 /// fault, the error is the length in bytes of the run without these at its start.
 #[inline(always)]
 pub(crate) fn plain_text(
@@ -94,7 +98,7 @@ pub(crate) fn plain_text(
     ensures plain { IfOk result (IsPlainText opening text.now) }
     ensures some { IfOk result (λ found. (0 < found.stop_len) × (found.stop_len ≤ 3)) }
     ensures reads { IfOk result (λ found. AreReads (found.len + 3) (6 * found.len + 4) reads.old reads.new) }
-    ensures other { IfErr result (λ run. (run ≤ next_line text.now 0) × AreReads 0 (6 * run + 4) reads.old reads.new) }
+    ensures other { IfErr result (λ run. IsRun (fstring_literal (opening_view opening)) text.now run × AreReads run (6 * run + 4) reads.old reads.new) }
 {
     let (len, stop) = plain_chunk_len(reads, opening, text)?;
     match stop {

@@ -1,6 +1,6 @@
 //! String and bytes literals as lexemes.
 
-ghost use Rattle.std.specs.Prelude.{◌≡◌, ◌≢◌, ◌+◌, ◌<◌, ◌^◌, Some, false, length, not, IfOk};
+ghost use Rattle.std.specs.Prelude.{◌≡◌, ◌≢◌, ◌+◌, ◌*◌, ◌<◌, ◌^◌, ℕ, Some, false, length, not, IfOk};
 ghost use Rattle.starlark_grammar.specs.Depths.{Mode};
 ghost use Rattle.starlark_grammar.specs.Items as items;
 ghost use Rattle.starlark_reader.specs.Inner.StepViews.{IsStep};
@@ -9,7 +9,8 @@ ghost use Rattle.starlark_reader.specs.Inner.ReadBounds.{AreWordReads, IsFaultAt
 ghost use Rattle.starlark_words.specs.Inner.Reads.{AreReads, more_reads};
 ghost use Rattle.starlark_token.specs.Lexemes.{fault_view};
 ghost use Rattle.starlark_grammar.specs.Cuts.{is_outside};
-ghost use Rattle.starlark_words.specs.Inner.LiteralViews.{bytes_of, holds_text};
+ghost use Rattle.starlark_words.specs.Inner.LiteralViews.{bytes_of, holds_text, literal_view, single_literal};
+ghost use Rattle.starlark_words.specs.Inner.PlainRuns.{IsRun};
 ghost use Rattle.starlark_grammar.specs.Inner.Openings.{opening_view};
 ghost use Rattle.starlark_grammar.specs.Pieces as grammar;
 ghost use Rattle.starlark_token.specs.TokenViews.{Whole, fstring_quote_view, token_view};
@@ -113,7 +114,8 @@ fn escape_fault(alloc: Global, begin: usize, read: &str) -> Result<Step, AllocEr
     })
 }
 
-/// A string or bytes literal. Its opening has `len` bytes, and `remainder` is the text after it.
+/// A string or bytes literal. Its opening has `len` bytes, and `remainder` is the text after it, of which
+/// `run` bytes are known.
 // Inlined twice: as a call, its step is copied from memory (2 % of escapes).
 #[inline(always)]
 fn literal_from(
@@ -122,13 +124,15 @@ fn literal_from(
     outside: bool,
     literal: Literal,
     len: usize,
+    run: usize,
     remainder: &str,
 ) -> Result<Step, AllocError>
-    requires { len + length remainder.now < 2 ^ 64 }
+    requires fits { len + length remainder.now < 2 ^ 64 }
+    requires run { IsRun (literal_view literal) remainder.now run }
     ensures step { IfOk result (λ step. (mode : Mode) → is_outside mode ≡ outside → IsStep (grammar.literal mode literal.kind (opening_view literal.opening) len remainder.now) step) }
-    ensures reads { IfOk result (λ step. AreWordReads len 9 0 0 6 step reads.old reads.new) }
+    ensures reads { IfOk result (λ step. (before : ℕ) → AreReads run (8 * run) before reads.old → AreWordReads len 9 0 0 6 step before reads.new) }
 {
-    let body = read_body(reads, alloc, literal, remainder)?;
+    let body = read_body(reads, alloc, literal, run, remainder)?;
     match body.stop {
         Stop::Closing => Ok(Step::Token {
             token: literal_token(body.value),
@@ -197,7 +201,8 @@ pub(crate) fn opening_of(
     }
 }
 
-/// A string or bytes literal. Its opener has `len` bytes, and `remainder` is the text after it.
+/// A string or bytes literal. Its opener has `len` bytes, and `remainder` is the text after it, of which
+/// `run` bytes are known.
 pub(crate) fn literal_piece(
     reads: &mut ReadCounter,
     alloc: Global,
@@ -206,11 +211,13 @@ pub(crate) fn literal_piece(
     is_raw: bool,
     quote: Quote,
     len: usize,
+    run: usize,
     remainder: &str,
 ) -> Result<Step, AllocError>
     requires kind { kind ≢ OfFString }
     requires fits { len + length remainder.now < 2 ^ 64 }
-    ensures reads { IfOk result (λ step. AreWordReads len 9 2 0 8 step reads.old reads.new) }
+    requires run { IsRun (single_literal kind is_raw quote) remainder.now run }
+    ensures reads { IfOk result (λ step. (before : ℕ) → AreReads run (8 * run) before reads.old → AreWordReads len 9 2 0 8 step before reads.new) }
     ensures step { IfOk result (λ step. (mode : Mode) → is_outside mode ≡ outside →
         IsStep (grammar.opener mode kind (grammar.opening_of is_raw quote remainder.now) len remainder.now) step) }
 {
@@ -221,8 +228,8 @@ pub(crate) fn literal_piece(
     };
     let literal = Literal { kind, opening };
     if opening.is_triple {
-        literal_from(reads, alloc, outside, literal, len + 2, &remainder[2..])
+        literal_from(reads, alloc, outside, literal, len + 2, 0, &remainder[2..])
     } else {
-        literal_from(reads, alloc, outside, literal, len, remainder)
+        literal_from(reads, alloc, outside, literal, len, run, remainder)
     }
 }

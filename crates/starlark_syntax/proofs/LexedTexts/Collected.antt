@@ -142,10 +142,6 @@ before_last text (cut ∷ cuts) count last each few is more = (less (nat_lt cut.
         let same : cut.at ≡ last.at = omega (arith, beyond, order) in
         absurd (omega (arith, few.0, more, each.0.lexemes, is.lexemes, ap (lexemes_before text) same))
 
-pub some_weaker : {A : Type 0} (x : Option A) (P Q : A → Type 0) → ((a : A) → P a → Q a) → IfSome x P → IfSome x Q
-some_weaker None P Q more h = tt
-some_weaker (Some a) P Q more h = more a h
-
 -- after one lexeme more, where there may be a cut
 pub cuts_more : (text : Text) (count : ℕ) (rest : List (Spanned TokenView)) (cuts : List Cut) (place : Option ℕ) → AreCutsSoFar text count cuts → (count + 1) + length rest ≡ length (outcome text).lexemes → IfSome place (λ at. IsCutBefore text at (length rest))
     → ((at : ℕ) → IsCutBefore text at (length rest) → place ≡ Some at) → AreCutsSoFar text (count + 1) (cuts ++ cuts_at place (count + 1))

@@ -19,14 +19,15 @@ use Rattle.starlark_reader.specs.declared.reader.Reader.{Reader}
 use Rattle.starlark_reader.specs.declared.reader.Stage.{Stage}
 use Rattle.starlark_reader.specs.declared.reader.Stage.TheVariants as stages
 use Rattle.starlark_syntax.specs.Exceptions.{IsException}
-use Rattle.starlark_syntax.specs.Inner.Looked.{GoesOn, HasReadWord, HasSpent, IsInReach, IsLooked}
+use Rattle.starlark_reader.specs.Inner.Lookaheads.{HasPeeked, IsFoundAt}
+use Rattle.starlark_reader.specs.declared.lookahead.Found.TheVariants as found
+use Rattle.starlark_syntax.specs.Inner.Looked.{GoesOn}
 use Rattle.starlark_syntax.specs.Lexer.{HasReadToFault, LexerView, is_ended_by, most_reads, yielded_by}
 use Rattle.starlark_syntax.specs.declared.error.kinds.ErrorKind.{ErrorKind}
 use Rattle.starlark_syntax.specs.PlainLexemes.{IsPlainIn, plain_view}
 use Rattle.starlark_syntax.specs.declared.lexer_state.FastPath.{FastPath}
 use Rattle.starlark_syntax.specs.declared.lexer_state.FastPath.TheVariants as fast
 use Rattle.starlark_syntax.specs.declared.lexer_state.LexerState.{LexerState}
-use Rattle.starlark_syntax.specs.declared.lexer_state.Lookahead.TheVariants as lookahead
 use Rattle.starlark_syntax.specs.declared.lexer_state.Waiting.{Waiting}
 use Rattle.starlark_syntax.specs.declared.lexer_state.Waiting.TheVariants as waiting
 use Rattle.starlark_text.specs.declared.or_memory.OrMemory.{OrMemory}
@@ -70,9 +71,8 @@ IsLexingIn text state =
     IsText text
     × (state.has_ended ≡ false → (state.yielded_count ≤ length (outcome text).lexemes)
     × IsAhead text state.reader state.reader.stage (drop state.yielded_count (map shown_lexeme (outcome text).lexemes)) (outcome text).fault)
-    × GoesOn state.lookahead state.has_ended
-    × (state.has_ended ≡ false → IsLooked text state.reader state.looked_to state.lookahead)
-    × IsInReach text state.looked_to
+    × GoesOn state.lookahead.found state.has_ended
+    × (state.has_ended ≡ false → IsFoundAt text state.reader state.lookahead)
 
 -- So it is of the state's own text.
 abbrev pub IsLexing : LexerState → Type 0
@@ -82,9 +82,8 @@ IsLexing state = IsLexingIn state.reader.text.now state
 pub record IsBegun (text : Text) (state : LexerState) : Type 0 where
   pub view : view_of state ≡ record { text = text; yielded_count = 0; has_ended = false; reads = 0 }
   pub ahead : (any : Text) → IsAhead any state.reader state.reader.stage (map shown_lexeme (outcome any).lexemes) (outcome any).fault
-  pub reads : (any : Text) → HasRead any 0 state.reader
-  pub lookahead : state.lookahead ≡ lookahead.All
-  pub place : state.looked_to ≡ 0
+  pub reads : (any : Text) → HasRead any state.reader
+  pub lookahead : state.lookahead.found ≡ found.All
 
 -- What a call answers: the first lexeme that is left, or nothing where none is; or out of memory in the place of a lexeme or
 -- the fault.
@@ -106,8 +105,7 @@ pub record IsAtFault (text : Text) (fault : Spanned Fault) (state : LexerState) 
   pub counted : state.yielded_count ≡ length (outcome text).lexemes + 1
   pub stores : IsStateAtFault text state.reader
   pub least : more_reads 0 fault.begin ≤ state.reader.reads
-  pub spared : (beside : ℕ) × (beside ≤ 6 * state.looked_to) × LeavesRepair text beside fault state.reader.reads
-  pub reach : IsInReach text state.looked_to
+  pub leaves : LeavesRepair text fault state.reader.reads
 
 -- What was read up to the fault of a text, which is all that is left of it.
 pub record HasReachedFault (old : LexerState) (fault : Spanned Fault) (new : LexerState) : Type 0 where
@@ -163,7 +161,6 @@ pub record IsTakenNext {E : Type 0} (state : LexerState) (taken : Result (ℕ ×
   pub few : state.yielded_count ≤ length (outcome state.reader.text.now).lexemes
   pub ahead : IfOk taken (λ lexeme. IsAheadAfter state.reader.text.now (Some lexeme) state.reader (left_in state) (outcome state.reader.text.now).fault)
   pub memory : OnErr taken (IsSomething (left_in state) (outcome state.reader.text.now).fault)
-  pub reach : IsInReach state.reader.text.now state.looked_to
 
 -- What the fast path tells: the first lexeme that is left, which it passed; or out of memory in the place of an item.
 abbrev pub HasPassed : LexerState → FastPath → LexerState → Type 0
@@ -196,13 +193,12 @@ pub record IsAtWord (state : LexerState) (word : Word) : Type 0 where
   pub few : state.yielded_count ≤ length (outcome state.reader.text.now).lexemes
   pub ahead : IsAhead state.reader.text.now state.reader state.reader.stage (left_in state) (outcome state.reader.text.now).fault
   pub stands : IsWordHere state.reader.text.now state.reader word
-  pub lookahead : state.lookahead ≡ lookahead.Nothing
-  pub read : HasReadWord state.reader.text.now state.looked_to word.len state.reader
-  pub reach : IsInReach state.reader.text.now state.looked_to
+  pub lookahead : state.lookahead.found ≡ found.Nothing
+  pub read : HasPeeked state.reader.text.now word.len (5 * word.len - 2) state.reader
 
 -- The lexer is at the opener of `len` bytes of a text literal.
-abbrev pub IsAtOpener : LexerState → (len : ℕ) → Type 0
-IsAtOpener state len = (is_raw : Bool) × (quote : Quote) × IsAtWord state (record { class = class.Opener literal.Text is_raw quote; len = len })
+abbrev pub IsAtOpener : LexerState → (is_raw : Bool) → Quote → (len : ℕ) → Type 0
+IsAtOpener state is_raw quote len = IsAtWord state (record { class = class.Opener literal.Text is_raw quote; len = len })
 
 -- The lexer is in code, where the first two bytes tell no word, and none begins with a letter.
 pub record IsUnnamed (state : LexerState) : Type 0 where
@@ -212,10 +208,7 @@ pub record IsUnnamed (state : LexerState) : Type 0 where
   pub ahead : IsAhead state.reader.text.now state.reader state.reader.stage (left_in state) (outcome state.reader.text.now).fault
   pub code : IsAtCode state.reader.text.now state.reader
   pub unnamed : begins is_name_start (drop state.reader.at state.reader.text.now) ≡ false
-  pub past : state.looked_to ≤ state.reader.at
-  pub least : more_reads 0 (state.reader.at + 2) ≤ state.reader.reads
-  pub read : HasSpent state.reader.text.now 2 state.reader state.looked_to
-  pub reach : IsInReach state.reader.text.now state.looked_to
+  pub read : HasPeeked state.reader.text.now 2 2 state.reader
 
 -- the string literal between two offsets, by the length of its opener
 abbrev pub plain_string : (begin opener end : ℕ) → PlainLexeme
@@ -257,7 +250,7 @@ is_none_waiting it = false
 -- A plain lexeme that was passed is an item, or there was out of memory in its place, which ends the lexer.
 abbrev pub HasTaken : LexerState → PlainLexeme → Option (Result (ℕ × Token × ℕ) (OrMemory (Diagnosed ErrorKind))) → LexerState → Type 0
 HasTaken old plain (Some (Ok lexeme)) new = (lexeme_view lexeme ≡ plain_view old.reader.text.now plain) × (new ≡ old)
-HasTaken old plain (Some (Err Memory)) new = new ≡ record old { yielded_count = old.yielded_count - 1; has_ended = true; lookahead = lookahead.All }
+HasTaken old plain (Some (Err Memory)) new = new ≡ record old { yielded_count = old.yielded_count - 1; has_ended = true; lookahead = record old.lookahead { found = found.All } }
 HasTaken old plain answer new = ⊥
 
 -- An error that a lexer still has to say: out of memory in the place of an item.

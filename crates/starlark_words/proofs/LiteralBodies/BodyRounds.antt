@@ -1,16 +1,21 @@
 -- A round of reading a body: a run, and after it an item or the stop.
-use Rattle.std.proofs.Common.{◌≡◌, ℕ, ◌+◌, ◌++◌, ◌≤◌, length, take, drop, ap, sym, subst, arith}
-use Rattle.std.proofs.lemmas.List.{length-drop}
+use Rattle.std.proofs.Common.{◌≡◌, ℕ, ◌+◌, ◌++◌, ◌≤◌, length, take, drop, refl, ap, sym, subst, arith}
+use Rattle.std.proofs.lemmas.List.{length-drop, length-take}
 use Rattle.std.proofs.lemmas.Str.{IsUtf8-drop}
 use Rattle.std.specs.List.{prefix_len}
 use Rattle.std.specs.Str.{IsCharBoundary, IsUtf8}
 use Rattle.starlark_grammar.proofs.Order.Edges.{boundary_shift}
 use Rattle.starlark_grammar.specs.Items.{Literal, Item, Stop, Goes, Stops, found_at, body_at, body_len, body_value}
 use Rattle.starlark_grammar.specs.Words.{Text}
-use Rattle.starlark_words.proofs.LiteralBodies.BodyRuns.{front_run}
+use Rattle.starlark_words.proofs.LiteralBodies.BodyRuns.{bytes_front, front_run}
 use Rattle.starlark_words.proofs.LiteralBodies.BodySteps.{IsFront, front_more, front_stops, item_fits}
 use Rattle.starlark_words.proofs.LiteralBodies.ItemEdges.{item_edge}
-use Rattle.starlark_words.specs.Inner.PlainRuns.{is_in_run}
+use Rattle.starlark_words.specs.Inner.PlainRuns.{IsRun, is_in_run}
+
+-- A run that is known is the front of a body.
+pub front_known : (literal : Literal) (text : Text) (count : ℕ) → IsUtf8 text → IsRun literal text count → IsFront literal text count (take count text)
+front_known literal text count utf8 run =
+    subst (λ n. IsFront literal text n (take count text)) (omega (arith, length-take count text, run.boundary.0)) (bytes_front literal text (take count text) count utf8 run.boundary refl run.all)
 
 -- After a run: the bytes so far, what they denote, and the rest, which begins between characters.
 pub record IsAfterRun (literal : Literal) (text : Text) (at : ℕ) (denoted rest : Text) : Type 0 where

@@ -1,30 +1,26 @@
 -- Bodies of literals that are one run up to what ends them.
-use Rattle.std.proofs.Common.{◌≡◌, ℕ, zero, suc, ◌+◌, ◌<◌, ◌≤◌, ◌==◌, ◌&&◌, ◌||◌, Bool, true, false, not, nat_eq, [], ◌∷◌, length, take, drop, get_or, refl, ap, sym, subst, ◌∙◌, arith}
+use Rattle.std.proofs.Common.{◌≡◌, ℕ, zero, suc, ◌+◌, ◌<◌, ◌≤◌, ◌==◌, ◌&&◌, Bool, true, false, nat_eq, [], ◌∷◌, length, take, drop, get_or, refl, ap, sym, subst, ◌∙◌, arith}
 use Rattle.std.proofs.lemmas.Bool.{and_parts, eqb-true, false_from_ne_true}
 use Rattle.std.proofs.lemmas.Bool.Decides.{nat_tests}
 use Rattle.std.proofs.lemmas.List.{get_or-drop}
 use Rattle.std.proofs.lemmas.List.Folds.{length-prefix_len}
-use Rattle.std.proofs.lemmas.List.Sums.{prefix_len-le-length}
+use Rattle.std.proofs.lemmas.Str.{IsCharBoundary-start}
 use Rattle.std.specs.List.{list_all, prefix_len, starts_with}
 use Rattle.std.specs.Prelude.{if◌then◌else◌}
 use Rattle.std.specs.Str.{IsCharBoundary, IsUtf8}
-use Rattle.starlark_grammar.specs.AfterFaults.{next_line}
-use Rattle.starlark_grammar.specs.Items.{Stop, Stops, Closing, OpeningBrace, closing_quotes, found_at, quote_byte}
-use Rattle.starlark_grammar.specs.Margins.{is_lf}
+use Rattle.starlark_grammar.specs.Items.{Literal, Stop, Stops, Closing, OpeningBrace, closing_quotes, found_at, quote_byte}
 use Rattle.starlark_grammar.specs.Tokens.{Opening}
 use Rattle.starlark_grammar.specs.Pieces.{opening_of}
 use Rattle.starlark_grammar.specs.Words.{Text}
 use Rattle.starlark_grammar.specs.declared.class.LiteralKind.{LiteralKind}
-use Rattle.starlark_grammar.specs.declared.class.LiteralKind.TheVariants.{FString as OfFString}
 use Rattle.starlark_grammar.specs.declared.class.Quote.{Quote}
 use Rattle.starlark_grammar.specs.declared.class.Quote.TheVariants.{Single as SingleQuote, Double as DoubleQuote}
 use Rattle.starlark_words.specs.Inner.LiteralViews.{IsPlainBody, IsPlainChunk, fstring_literal, single_literal}
-use Rattle.starlark_words.specs.Inner.PlainRuns.{is_in_run}
-use Rattle.starlark_words.proofs.LiteralBodies.BodyRuns.{bytes_front, others, run_all, run_front}
+use Rattle.starlark_words.specs.Inner.PlainRuns.{IsRun, is_in_run}
+use Rattle.starlark_words.proofs.LiteralBodies.BodyRuns.{others, run_all, run_front}
 use Rattle.starlark_words.proofs.LiteralBodies.BodySteps.{front_stops}
 use Rattle.starlark_words.proofs.LiteralBodies.FirstBytes.{closes}
 use Rattle.starlark_words.proofs.LiteralBodies.ReadFronts.{closes_by_three}
-use Rattle.starlark_words.proofs.LiteralBodies.RunBytes.{longer_run}
 
 -- its quote closes a literal
 closed_by : (kind : LiteralKind) (is_raw : Bool) (quote : Quote) (text : Text) → (get_or text 0 0 == quote_byte quote) ≡ true → found_at (single_literal kind is_raw quote) text ≡ Stops Closing
@@ -56,6 +52,20 @@ single_by_first kind is_raw quote (b ∷ bs) some = go (is_in_run (single_litera
     go false e some = absurd (omega (arith, some))
     go true e some = rw (flipped (quote_byte quote) b (others (single_literal kind is_raw quote) b e).quote) refl
 
+-- where two more of its quotes follow an opener, no run does
+pub no_run_before_quotes : (kind : LiteralKind) (is_raw : Bool) (quote : Quote) (text : Text) (count : ℕ) → IsRun (single_literal kind is_raw quote) text count → (opening_of is_raw quote text).is_triple ≡ true → count ≡ 0
+no_run_before_quotes kind is_raw quote text zero run triple = refl
+no_run_before_quotes kind is_raw quote [] (suc n) run triple = absurd (omega (arith, run.boundary.0))
+no_run_before_quotes kind is_raw quote (b ∷ bs) (suc n) run triple =
+    let first = and_parts (is_in_run (single_literal kind is_raw quote) b) (list_all (is_in_run (single_literal kind is_raw quote)) (take n bs)) run.all in
+    let other : starts_with nat_eq (b ∷ bs) (quote_byte quote ∷ quote_byte quote ∷ []) ≡ false = rw (flipped (quote_byte quote) b (others (single_literal kind is_raw quote) b first.0).quote) refl in
+    let two : true ≡ false = sym triple ∙ other in
+    cc
+
+-- a run of no bytes
+pub empty_run : (literal : Literal) (text : Text) → IsUtf8 text → IsRun literal text 0
+empty_run literal text utf8 = record { boundary = IsCharBoundary-start text utf8; all = refl }
+
 -- A run up to the quote is the body.
 pub plain_body : (kind : LiteralKind) (is_raw : Bool) (quote : Quote) (text run : Text) → IsUtf8 text → run ≡ take (prefix_len (is_in_run (single_literal kind is_raw quote)) text) text → IsCharBoundary text (length run)
     → (get_or text (length run) 0 == quote_byte quote) ≡ true → (opening_of is_raw quote text).is_triple ≡ false → IsPlainBody kind is_raw quote text (length run)
@@ -78,46 +88,20 @@ plain_run kind is_raw quote text run same second = go (length run) refl
     go zero e = single_by_second is_raw quote text (second e)
     go (suc n) e = single_by_first kind is_raw quote text (omega (arith, e, whole))
 
--- An LF is not in a run of a literal of one line, and a byte of such a run is in one of any literal.
-pub one_line_run : (kind : LiteralKind) (opening : Opening) (b : ℕ) → is_in_run (single_literal kind opening.is_raw opening.quote) b ≡ true → (not (is_lf b) ≡ true) × (is_in_run (record { kind = kind; opening = opening }) b ≡ true)
-one_line_run kind opening b h =
-    let other = others (single_literal kind opening.is_raw opening.quote) b h in
-    (by_line (b == 10) refl other.line, rw (other.quote, other.backslash, other.return, other.brace) (by_triple (b == 10) opening.is_triple other.line))
-  where
-    by_line : (feed : Bool) → (b == 10) ≡ feed → (feed && true) ≡ false → not (b == 10) ≡ true
-    by_line true e line = cc
-    by_line false e line = rw e refl
-
-    by_triple : (feed triple : Bool) → (feed && true) ≡ false → not (false || (false || (false || ((feed && not triple) || false)))) ≡ true
-    by_triple true triple line = cc
-    by_triple false triple line = refl
-
--- the first run of a literal of one line is in the text's first line
-pub run_on_line : (kind : LiteralKind) (opening : Opening) (text run : Text) → run ≡ take (prefix_len (is_in_run (single_literal kind opening.is_raw opening.quote)) text) text → length run ≤ next_line text 0
-unfolding next_line
-run_on_line kind opening text run same =
-    let literal = single_literal kind opening.is_raw opening.quote in
+-- the first run of a literal
+pub known_run : (literal : Literal) (text run : Text) → run ≡ take (prefix_len (is_in_run literal) text) text → IsCharBoundary text (length run) → IsRun literal text (length run)
+known_run literal text run same boundary =
     let whole : length run ≡ prefix_len (is_in_run literal) text = ap (λ (t : Text). length t) same ∙ length-prefix_len (is_in_run literal) text in
-    omega (arith, whole, longer_run (is_in_run literal) (λ b. not (is_lf b)) (λ b h. (one_line_run kind opening b h).0) text, prefix_len-le-length (is_in_run literal) text)
+    record { boundary = boundary; all = subst (λ n. list_all (is_in_run literal) (take n text) ≡ true) (sym whole) (run_all (is_in_run literal) text) }
 
--- bytes that pass a test pass any that says less
-all_weaker : (p q : ℕ → Bool) → ((b : ℕ) → p b ≡ true → q b ≡ true) → (text : Text) → list_all p text ≡ true → list_all q text ≡ true
-all_weaker p q more [] all = refl
-all_weaker p q more (b ∷ bs) all =
-    let parts = and_parts (p b) (list_all p bs) all in
-    rw (more b parts.0) (all_weaker p q more bs parts.1)
-
--- A run of one line up to what stops an f-string's text is that text.
-pub plain_chunk : (opening : Opening) (text run : Text) (stop : Stop) → IsUtf8 text → run ≡ take (prefix_len (is_in_run (single_literal OfFString opening.is_raw opening.quote)) text) text → IsCharBoundary text (length run)
+-- A run up to what stops an f-string's text is that text.
+pub plain_chunk : (opening : Opening) (text run : Text) (stop : Stop) → IsUtf8 text → run ≡ take (prefix_len (is_in_run (fstring_literal opening)) text) text → IsCharBoundary text (length run)
     → found_at (fstring_literal opening) (drop (length run) text) ≡ Stops stop → IsPlainChunk opening text (length run) stop
 plain_chunk opening text run stop utf8 same boundary found =
-    let literal = single_literal OfFString opening.is_raw opening.quote in
+    let literal = fstring_literal opening in
     let whole : length run ≡ prefix_len (is_in_run literal) text = ap (λ (t : Text). length t) same ∙ length-prefix_len (is_in_run literal) text in
-    let taken : run ≡ take (length run) text = same ∙ ap (λ n. take n text) (sym whole) in
-    let all : list_all (is_in_run literal) run ≡ true = subst (λ (t : Text). list_all (is_in_run literal) t ≡ true) (sym same) (run_all (is_in_run literal) text) in
-    let front = bytes_front (fstring_literal opening) text run (length run) utf8 boundary taken (all_weaker (is_in_run literal) (is_in_run (fstring_literal opening)) (λ b h. (one_line_run OfFString opening b h).1) run all) in
-    let end = front_stops (fstring_literal opening) text (length run) run stop front found in
-    record { boundary = boundary; len = sym end.0; value = sym end.1 ∙ taken; stop = sym end.2 }
+    let end = front_stops literal text (length run) run stop (run_front literal text run utf8 same) found in
+    record { boundary = boundary; len = sym end.0; value = sym end.1 ∙ same ∙ ap (λ n. take n text) (sym whole); stop = sym end.2 }
 
 -- closing quotes stop it
 chunk_closed : (opening : Opening) (text : Text) → closes (fstring_literal opening) text ≡ true → found_at (fstring_literal opening) text ≡ Stops Closing

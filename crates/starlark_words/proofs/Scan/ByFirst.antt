@@ -7,7 +7,7 @@ use Rattle.std.specs.List.{list_all, prefix_len, slice_get}
 use Rattle.std.specs.Map.{lookup}
 use Rattle.std.specs.Option.{option_map, option_or}
 use Rattle.std.specs.Str.{bytes_eq}
-use Rattle.starlark_grammar.specs.Words.{Text, class_in, openers, line_ends, symbols, names, patterns, language, is_name_start, is_in_name, is_in_line, is_based, is_float, is_fraction, is_pointed, begins, begins_with_digit, is_point, is_identifier, is_comment, is_run, is_octal_digit, is_binary_digit}
+use Rattle.starlark_grammar.specs.Words.{Text, class_in, openers, line_ends, symbols, names, patterns, language, is_name_start, is_in_name, is_in_line, is_based, is_fraction, is_pointed, begins, begins_with_digit, is_point, is_identifier, is_comment, is_run, is_octal_digit, is_binary_digit}
 use Rattle.starlark_grammar.specs.declared.class.Class.{Class}
 use Rattle.starlark_grammar.specs.declared.class.Class.TheVariants.{Skipped, Comment, Tabs, Opener, Identifier}
 use Rattle.starlark_grammar.specs.declared.class.LiteralKind.TheVariants.{Text as OfText}
@@ -45,9 +45,6 @@ plain b h =
 not_based : (lower upper : ℕ) (test : ℕ → Bool) (b : ℕ) (word : Text) → (b == 48) ≡ false → is_based lower upper test (b ∷ word) ≡ false
 not_based lower upper test b [] h = refl
 not_based lower upper test b (c ∷ word) h = rw h refl
-
-not_float : (b : ℕ) (word : Text) → is_ascii_digit b ≡ false → is_float (b ∷ word) ≡ false
-not_float b word h = rw h refl
 
 not_pointed : (b : ℕ) (word : Text) → is_point b ≡ false → is_pointed (b ∷ word) ≡ false
 not_pointed b word h = rw h refl

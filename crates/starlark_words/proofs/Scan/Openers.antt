@@ -1,22 +1,10 @@
--- Which names may stand before the quote of an opener, and the openers of text literals by their first bytes.
-use Rattle.std.proofs.Common.{◌≡◌, ℕ, zero, suc, ◌+◌, ◌<◌, Bool, true, false, nat_le, ◌==◌, [], ◌∷◌, length, take, get_or, refl, ap, sym, ◌∙◌, subst, Option, Some, None, arith}
-use Rattle.std.proofs.lemmas.Bool.{eqb-true}
+-- Which names may stand before the quote of an opener.
+use Rattle.std.proofs.Common.{◌≡◌, ℕ, zero, suc, ◌+◌, ◌<◌, Bool, true, false, nat_le, [], ◌∷◌, length, take, get_or, refl, ap, None, arith}
 use Rattle.std.proofs.lemmas.Bool.Decides.{nat_tests}
 use Rattle.std.proofs.lemmas.List.{get_or-take}
 use Rattle.std.specs.List.{prefix_len}
-use Rattle.std.specs.Option.{option_map, unwrap_or}
-use Rattle.std.specs.Prelude.{IfSome}
-use Rattle.starlark_grammar.specs.Front.{language_front}
-use Rattle.starlark_grammar.specs.Pieces.{is_bang}
 use Rattle.starlark_grammar.specs.Words.{Text, openers, is_in_name}
-use Rattle.starlark_words.specs.Inner.ScannedWords.{is_quote, plain_opener, quote_of, raw_opener, text_opener, word_view}
-use Rattle.starlark_grammar.specs.declared.class.Class.TheVariants.{Opener}
-use Rattle.starlark_grammar.specs.declared.class.LiteralKind.{LiteralKind}
-use Rattle.starlark_grammar.specs.declared.class.LiteralKind.TheVariants.{Bytes, FString}
-use Rattle.starlark_grammar.specs.declared.class.Quote.{Quote}
-use Rattle.starlark_grammar.specs.declared.class.Quote.TheVariants.{Double, Single}
-use Rattle.starlark_words.specs.declared.scanner.word.Word.{Word}
-use Rattle.starlark_words.proofs.Scan.ByFirst.{front_double_quote, front_named, front_single_quote}
+use Rattle.starlark_words.specs.Inner.ScannedWords.{is_quote}
 use Rattle.starlark_words.proofs.Scan.Listed.{opener_of, all_pass, lookup_fails}
 use Rattle.starlark_words.proofs.Scan.WordFronts.{take_after}
 
@@ -62,61 +50,3 @@ quote_is_within (b ∷ rest) (suc n) e = let h = quote_is_within rest n e in ome
 
 pub quote_is_ascii : (b : ℕ) → is_quote b ≡ true → b < 128
 quote_is_ascii b h = grind (arith, nat_tests)
-
--- the opener of a text literal by the first bytes
-
-IsOpenerOf : Word → Text → Type 0
-IsOpenerOf opener text = (Some (word_view opener) ≡ language_front text) × (is_bang text ≡ false)
-
-no_bang : (b : ℕ) (rest : Text) → (b == 33) ≡ false → is_bang (b ∷ rest) ≡ false
-no_bang b [] h = h
-no_bang b (c ∷ rest) h = rw h refl
-
-plain_front : (b : ℕ) (rest : Text) (opener : Word) → option_map plain_opener (quote_of b) ≡ Some opener → IsOpenerOf opener (b ∷ rest)
-unfolding IsOpenerOf
-plain_front b rest opener h = go (b == 39) (b == 34) refl refl
-  where
-    go : (single double : Bool) → (b == 39) ≡ single → (b == 34) ≡ double → IsOpenerOf opener (b ∷ rest)
-    go true double e f =
-        let byte : b ≡ 39 = eqb-true b 39 e in
-        let same = rw byte at h in
-        subst (λ (n : ℕ). IsOpenerOf opener (n ∷ rest)) (sym byte) (ap (option_map word_view) (sym same) ∙ sym (front_single_quote (39 ∷ rest) refl), no_bang 39 rest refl)
-    go false true e f =
-        let byte : b ≡ 34 = eqb-true b 34 f in
-        let same = rw byte at h in
-        subst (λ (n : ℕ). IsOpenerOf opener (n ∷ rest)) (sym byte) (ap (option_map word_view) (sym same) ∙ sym (front_double_quote (34 ∷ rest) refl), no_bang 34 rest refl)
-    go false false e f = let none = rw (e, f) at h in cc
-
-raw_front : (b : ℕ) (rest : Text) (opener : Word) → ((i : ℕ) → get_or (114 ∷ b ∷ rest) i 0 < 256) → option_map raw_opener (quote_of b) ≡ Some opener → IsOpenerOf opener (114 ∷ b ∷ rest)
-unfolding IsOpenerOf openers
-raw_front b rest opener small h = go (b == 39) (b == 34) refl refl
-  where
-    go : (single double : Bool) → (b == 39) ≡ single → (b == 34) ≡ double → IsOpenerOf opener (114 ∷ b ∷ rest)
-    go true double e f =
-        let byte : b ≡ 39 = eqb-true b 39 e in
-        let same = rw byte at h in
-        let front = front_named (114 ∷ 39 ∷ rest) 1 (subst (λ (n : ℕ). (i : ℕ) → get_or (114 ∷ n ∷ rest) i 0 < 256) byte small) refl refl in
-        subst (λ (n : ℕ). IsOpenerOf opener (114 ∷ n ∷ rest)) (sym byte) (ap (option_map word_view) (sym same) ∙ sym front, refl)
-    go false true e f =
-        let byte : b ≡ 34 = eqb-true b 34 f in
-        let same = rw byte at h in
-        let front = front_named (114 ∷ 34 ∷ rest) 1 (subst (λ (n : ℕ). (i : ℕ) → get_or (114 ∷ n ∷ rest) i 0 < 256) byte small) refl refl in
-        subst (λ (n : ℕ). IsOpenerOf opener (114 ∷ n ∷ rest)) (sym byte) (ap (option_map word_view) (sym same) ∙ sym front, refl)
-    go false false e f = let none = rw (e, f) at h in cc
-
-pub front_of_opener : (text : Text) (opener : Word) → ((i : ℕ) → get_or text i 0 < 256) → text_opener text ≡ Some opener → (Some (word_view opener) ≡ language_front text) × (is_bang text ≡ false)
-unfolding IsOpenerOf
-front_of_opener [] opener small h = cc
-front_of_opener (b ∷ []) opener small h = plain_front b [] opener h
-front_of_opener (b ∷ c ∷ rest) opener small h = go (b == 114) refl h
-  where
-    go : (raw : Bool) → (b == 114) ≡ raw → text_opener (b ∷ c ∷ rest) ≡ Some opener → IsOpenerOf opener (b ∷ c ∷ rest)
-    go true e h =
-        let byte : b ≡ 114 = eqb-true b 114 e in
-        let same = rw byte at h in
-        subst (λ (n : ℕ). IsOpenerOf opener (n ∷ c ∷ rest)) (sym byte) (raw_front c rest opener (subst (λ (n : ℕ). (i : ℕ) → get_or (n ∷ c ∷ rest) i 0 < 256) byte small) same)
-    go false e h = plain_front b (c ∷ rest) opener (rw e at h)
-
-pub opener_found : (text : Text) (found : Option Word) → ((i : ℕ) → get_or text i 0 < 256) → found ≡ text_opener text → IfSome found (λ opener. Some (word_view opener) ≡ language_front text)
-opener_found text None small h = tt
-opener_found text (Some opener) small h = (front_of_opener text opener small (sym h)).0

@@ -1,19 +1,15 @@
 -- What the first bytes of a text tell, which are read of it.
-use Rattle.std.proofs.Common.{◌≡◌, ℕ, ◌+◌, ◌≤◌, Bool, true, [], ◌∷◌, drop, length, take, refl, sym, ◌∙◌, arith}
+use Rattle.std.proofs.Common.{◌≡◌, ℕ, ◌+◌, Bool, true, [], ◌∷◌, drop, take, refl, sym, ◌∙◌}
 use Rattle.std.specs.List.{prefix_len, slice_get}
 use Rattle.starlark_grammar.specs.Front.{longest_front}
 use Rattle.starlark_grammar.specs.Pieces.{is_bang}
-use Rattle.starlark_grammar.specs.Words.{Text, begins, has_base, is_in_name, is_name_start, sign_len}
-use Rattle.starlark_words.specs.Inner.ScannedWords.{begins_cr_lf, begins_number, begins_symbol, is_digit_alone, is_mark_alone, text_opener}
+use Rattle.starlark_grammar.specs.Words.{Text, begins, has_base, is_in_name, is_name_start}
+use Rattle.starlark_words.specs.Inner.ScannedWords.{begins_cr_lf, begins_number, begins_symbol, is_digit_alone, is_mark_alone}
 use Rattle.starlark_words.proofs.Scan.Marks.{front_three, mark_of}
 
 pub begins_by_one : (test : ℕ → Bool) (text : Text) → begins test (take 1 text) ≡ begins test text
 begins_by_one test [] = refl
 begins_by_one test (b ∷ rest) = refl
-
-pub sign_by_one : (text : Text) → sign_len (take 1 text) ≡ sign_len text
-sign_by_one [] = refl
-sign_by_one (b ∷ rest) = refl
 
 pub base_by_three : (lower upper : ℕ) (text : Text) → has_base lower upper (take 3 text) ≡ has_base lower upper text
 base_by_three lower upper [] = refl
@@ -29,11 +25,6 @@ pub alone_by_two : (text : Text) → is_mark_alone (take 2 text) ≡ is_mark_alo
 alone_by_two [] = refl
 alone_by_two (a ∷ []) = refl
 alone_by_two (a ∷ b ∷ rest) = refl
-
-pub opener_by_two : (text : Text) → text_opener (take 2 text) ≡ text_opener text
-opener_by_two [] = refl
-opener_by_two (a ∷ []) = refl
-opener_by_two (a ∷ b ∷ rest) = refl
 
 pub first_by_three : (text : Text) → slice_get (take 3 text) 0 ≡ slice_get text 0
 first_by_three [] = refl
@@ -75,11 +66,6 @@ mark_by_three [] = refl
 mark_by_three (a ∷ []) = refl
 mark_by_three (a ∷ b ∷ []) = refl
 mark_by_three (a ∷ b ∷ c ∷ rest) = front_three a b c [] ∙ sym (front_three a b c rest)
-
--- a name has a first byte, after which its run goes on
-pub name_some : (text : Text) → begins is_name_start text ≡ true → 1 ≤ length text
-name_some [] h = cc
-name_some (b ∷ rest) h = omega arith
 
 pub name_goes_on : (text : Text) → begins is_name_start text ≡ true → 1 + prefix_len is_in_name (drop 1 text) ≡ prefix_len is_in_name text
 name_goes_on [] h = cc

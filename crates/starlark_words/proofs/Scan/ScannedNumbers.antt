@@ -86,10 +86,6 @@ no_more_digits (b ∷ rest) = go (is_ascii_digit b) refl (no_more_digits rest)
     go true e more = rw (e, one-add) more
     go false e more = rw (e, e) refl
 
--- passing a digit over
-pub after_digit : (b : ℕ) (text : Text) → is_ascii_digit b ≡ true → after_digits (b ∷ text) ≡ after_digits text
-after_digit b text e = rw (e, one-add) refl
-
 -- AfterComments digits: a class for the digits alone, and one for digits and what follows them.
 module _ {C : Type 0} (alone with_end : C) (ends : Text → Bool) where
   digits_and_end : Text → Option C

@@ -54,13 +54,6 @@ one_is_no_bang b rest small h = go rest (not-true _ (one_passes (λ b. not (b ==
     go [] other = other
     go (c ∷ rest) other = rw other refl
 
-name_is_no_bang : (b : ℕ) (rest : Text) → b < 256 → is_name_start b ≡ true → is_bang (b ∷ rest) ≡ false
-name_is_no_bang b rest small h = go rest (not-true _ (implied _ _ (each_byte (λ b. not (is_name_start b) || not (b == 33)) b refl small) h))
-  where
-    go : (rest : Text) → (b == 33) ≡ false → is_bang (b ∷ rest) ≡ false
-    go [] other = other
-    go (c ∷ rest) other = rw other refl
-
 -- a mark with which no longer one begins
 
 -- a word of a byte alone, or one that begins with another byte

@@ -1,17 +1,13 @@
 -- Words, and the tables and tests by which the scanner finds them.
-use Rattle.std.specs.Prelude.{ℕ, if◌then◌else◌, Bool, true, false, not, ◌&&◌, ◌||◌, ◌==◌, List, [], ◌∷◌, ◌++◌, get_or, Option, None, Some, unwrap_or}
+use Rattle.std.specs.Prelude.{ℕ, Bool, true, false, not, ◌&&◌, ◌||◌, ◌==◌, List, [], ◌∷◌, ◌++◌, get_or, Option, None, Some, unwrap_or}
 use Rattle.std.specs.List.{list_any}
 use Rattle.std.specs.Map.{lookup}
-use Rattle.std.specs.Option.{option_map}
 use Rattle.std.specs.Str.{bytes_eq}
 use Rattle.std.specs.Char.{is_ascii_digit}
 use Rattle.starlark_grammar.specs.Words as grammar
 use Rattle.starlark_grammar.specs.declared.class.Class.{Class}
 use Rattle.starlark_grammar.specs.declared.class.TheConstants.{SYMBOLS}
-use Rattle.starlark_grammar.specs.declared.class.Class.TheVariants.{Binary, Decimal, Fixed, Float, Hexadecimal, Identifier, Octal, Opener, Reserved}
-use Rattle.starlark_grammar.specs.declared.class.LiteralKind.TheVariants.{Text as OfText}
-use Rattle.starlark_grammar.specs.declared.class.Quote.{Quote}
-use Rattle.starlark_grammar.specs.declared.class.Quote.TheVariants.{Single, Double}
+use Rattle.starlark_grammar.specs.declared.class.Class.TheVariants.{Binary, Decimal, Fixed, Float, Hexadecimal, Identifier, Octal, Reserved}
 use Rattle.starlark_words.specs.declared.scanner.names.Listing.{Listing}
 use Rattle.starlark_words.specs.declared.scanner.names.Listing.TheVariants.{Keyword, Not, Reserved as OfReserved}
 use Rattle.starlark_words.specs.declared.scanner.word.Word.{Word}
@@ -107,20 +103,3 @@ abbrev pub is_digit_alone : grammar.Text → Bool
 is_digit_alone [] = false
 is_digit_alone (a ∷ []) = is_ascii_digit a
 is_digit_alone (a ∷ b ∷ rest) = is_ascii_digit a && not (may_be_in_number b)
-
--- a byte as a quote
-abbrev pub quote_of : ℕ → Option Quote
-quote_of b = if b == 39 then Some Single else if b == 34 then Some Double else None
-
--- the opener of a text literal, by its quote: without a prefix, and raw
-abbrev pub plain_opener : Quote → Word
-plain_opener quote = record { class = Opener OfText false quote; len = 1 }
-
-abbrev pub raw_opener : Quote → Word
-raw_opener quote = record { class = Opener OfText true quote; len = 2 }
-
--- the opener of a text literal at the front of a text, by its first two bytes
-abbrev pub text_opener : grammar.Text → Option Word
-text_opener [] = None
-text_opener (a ∷ []) = option_map plain_opener (quote_of a)
-text_opener (a ∷ b ∷ rest) = if a == 114 then option_map raw_opener (quote_of b) else option_map plain_opener (quote_of a)

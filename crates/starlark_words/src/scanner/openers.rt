@@ -2,68 +2,11 @@
 
 ghost use Rattle.std.specs.Prelude.{◌≡◌, ◌∷◌, []};
 ghost use Rattle.std.specs.Map.{lookup};
-ghost use Rattle.std.specs.Option.{option_map};
 ghost use Rattle.std.specs.Str.{bytes_eq};
 ghost use Rattle.starlark_grammar.specs.Words as grammar;
 ghost use Rattle.starlark_grammar.specs.declared.class.Class.TheVariants as class;
-ghost use Rattle.starlark_words.specs.Inner.ScannedWords.{plain_opener, quote_of, raw_opener, text_opener};
 
-use super::{Class, LiteralKind, Quote, Word};
-
-/// A byte as a quote; `None` if it is none.
-#[inline(always)]
-fn quote_of(byte: u8) -> Option<Quote>
-    ensures { result ≡ quote_of byte }
-{
-    match byte {
-        b'\'' => Some(Quote::Single),
-        b'"' => Some(Quote::Double),
-        _ => None,
-    }
-}
-
-/// The opener of a text literal without a prefix.
-#[inline(always)]
-fn plain_opener(quote: u8) -> Option<Word>
-    ensures { result ≡ option_map plain_opener (quote_of quote) }
-{
-    match quote_of(quote) {
-        Some(quote) => Some(Word {
-            class: opener(LiteralKind::Text, false, quote),
-            len: 1,
-        }),
-        None => None,
-    }
-}
-
-/// The opener of a raw text literal: an `r` and a quote.
-#[inline(always)]
-fn raw_opener(quote: u8) -> Option<Word>
-    ensures { result ≡ option_map raw_opener (quote_of quote) }
-{
-    match quote_of(quote) {
-        Some(quote) => Some(Word {
-            class: opener(LiteralKind::Text, true, quote),
-            len: 2,
-        }),
-        None => None,
-    }
-}
-
-/// The opener of a text literal at the front of a text, by its first two bytes.
-#[inline(always)]
-pub(crate) fn text_opener(text: &[u8]) -> Option<Word>
-    ensures { result ≡ text_opener text.now }
-{
-    let first = *text.first()?;
-    if first != b'r' {
-        return plain_opener(first);
-    }
-    match text.get(1) {
-        Some(second) => raw_opener(*second),
-        None => None,
-    }
-}
+use super::{Class, LiteralKind, Quote};
 
 /// The opener of a literal of the given kind.
 #[inline(always)]

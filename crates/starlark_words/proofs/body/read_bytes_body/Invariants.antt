@@ -1,4 +1,4 @@
-use Rattle.std.proofs.Common.{◌-◌, ◌*◌, length}
+use Rattle.std.proofs.Common.{◌-◌, ◌*◌, ◌≤◌, length}
 use Rattle.std.specs.Str.{IsCharBoundary}
 use Rattle.starlark_words.specs.Inner.LiteralViews.{literal_view}
 use Rattle.starlark_words.proofs.LiteralBodies.BodySteps.{IsFront}
@@ -9,7 +9,8 @@ abbrev pub invariant-loop-value : goal.invariant-loop-value
 invariant-loop-value l = record {
   front : IsFront (literal_view l.literal) l.text l.len l.value.items;
   boundary : IsCharBoundary l.text l.len;
-  reads : AreReads l.len (8 * l.len) l.fn.reads l.reads;
+  more : l.run ≤ l.len;
+  reads : AreReads (l.len - l.run) (8 * (l.len - l.run)) l.fn.reads l.reads;
 }
 
 abbrev pub decreases-loop-value : goal.decreases-loop-value

@@ -1,11 +1,10 @@
 use Rattle.std.proofs.Common.{◌≡◌, ◌+◌, ◌++◌, ◌∙◌, encode_utf8, length, string_bytes, take, ap, subst, sym, arith, rules}
-use Rattle.std.proofs.lemmas.Str.{IsCharBoundary-start}
 use Rattle.starlark_grammar.specs.Items as grammar
 use Rattle.starlark_grammar.specs.Words.{Text}
 use Rattle.starlark_words.specs.Inner.LiteralViews.{literal_view, stop_view, value_view}
 use Rattle.starlark_words.proofs.LiteralBodies.BodyReads.{item_reads, short_reads}
-use Rattle.starlark_words.proofs.LiteralBodies.BodyRounds.{after_run, front_item, item_boundary, item_inside, run_stops, IsAfterRun}
-use Rattle.starlark_words.proofs.LiteralBodies.BodySteps.{IsFront, front_none}
+use Rattle.starlark_words.proofs.LiteralBodies.BodyRounds.{after_run, front_item, front_known, item_boundary, item_inside, run_stops, IsAfterRun}
+use Rattle.starlark_words.proofs.LiteralBodies.BodySteps.{IsFront}
 use Rattle.starlark_words.proofs.body.read_text_body.Goals as goal
 use Rattle.starlark_words.proofs.body.read_text_body.Goals.{After-range_from-rest, In-Some}
 
@@ -19,8 +18,9 @@ peeked c = c.in-Some.ensures c.range_from-rest.result.now (c.uncounted_front-fro
 
 pub loop-value-init : goal.loop-value-init
 loop-value-init c = record {
-  front = rw c.new-value.ensures.bytes (front_none (literal_view c.args.literal) c.args.text.now);
-  boundary = IsCharBoundary-start c.args.text.now c.utf8.text;
+  front = subst (IsFront (literal_view c.args.literal) c.args.text.now c.args.run) (sym c.in_ok-value.ensures) (front_known (literal_view c.args.literal) c.args.text.now c.args.run c.utf8.text c.requires.run);
+  boundary = c.requires.run.boundary;
+  more = omega arith;
   reads = (omega arith, omega arith);
 }
 
@@ -40,7 +40,8 @@ loop-value-preserved-in-Some c =
     record {
       front = subst (λ (t : Text). IsFront (literal_view c.args.literal) c.args.text.now (c.loop-value.len + length c.first_run-run.result.now + 2) t) (sym (c.in_ok-push.ensures.bytes ∙ ap (λ (t : Text). t ++ encode_utf8 c.in-Some.character) c.in_ok-append_run.ensures)) more;
       boundary = item_boundary (literal_view c.args.literal) c.args.text.now (c.loop-value.len + length c.first_run-run.result.now) ((string_bytes c.loop-value.value) ++ c.first_run-run.result.now) c.range_from-rest.result.now item after found;
-      reads = short_reads c.loop-value.len (length c.first_run-run.result.now) _ _ _ c.loop-value.invariant.reads c.first_run-run.ensures.reads;
+      more = omega (arith, c.loop-value.invariant.more);
+      reads = short_reads c.args.run c.loop-value.len (length c.first_run-run.result.now) _ _ _ c.loop-value.invariant.more c.loop-value.invariant.reads c.first_run-run.ensures.reads;
     }
 
 pub overflow_add-len-in-Goes : goal.overflow_add-len-in-Goes
@@ -66,7 +67,8 @@ loop-value-preserved c =
     record {
       front = subst (λ (t : Text). IsFront (literal_view c.args.literal) c.args.text.now (c.loop-value.len + length c.first_run-run.result.now + c.in-Goes.item.len) t) (sym (c.in_ok-append_to_text-in-Goes.ensures ∙ ap (λ (t : Text). t ++ value_view c.in-Goes.item.value) c.in_ok-append_run.ensures)) more;
       boundary = item_boundary (literal_view c.args.literal) c.args.text.now (c.loop-value.len + length c.first_run-run.result.now) ((string_bytes c.loop-value.value) ++ c.first_run-run.result.now) c.range_from-rest.result.now item after found;
-      reads = item_reads c.loop-value.len (length c.first_run-run.result.now) c.in-Goes.item.len _ _ _ _ (item_inside (literal_view c.args.literal) c.args.text.now (c.loop-value.len + length c.first_run-run.result.now) ((string_bytes c.loop-value.value) ++ c.first_run-run.result.now) c.range_from-rest.result.now item after found).0 c.loop-value.invariant.reads c.first_run-run.ensures.reads c.in-Goes.ensures.reads;
+      more = omega (arith, c.loop-value.invariant.more);
+      reads = item_reads c.args.run c.loop-value.len (length c.first_run-run.result.now) c.in-Goes.item.len _ _ _ _ c.loop-value.invariant.more (item_inside (literal_view c.args.literal) c.args.text.now (c.loop-value.len + length c.first_run-run.result.now) ((string_bytes c.loop-value.value) ++ c.first_run-run.result.now) c.range_from-rest.result.now item after found).0 c.loop-value.invariant.reads c.first_run-run.ensures.reads c.in-Goes.ensures.reads;
     }
 
 pub returns-in-Stops-clause-body : goal.returns-in-Stops-clause-body

@@ -1,8 +1,8 @@
 use Rattle.std.proofs.Common.{◌≡◌, ◌==◌, List, ℕ, get_or, length, true, false, ap, sym, ◌∙◌, arith}
 use Rattle.starlark_grammar.specs.Items.{quote_byte}
 use Rattle.starlark_grammar.specs.Pieces.{opening_of}
-use Rattle.starlark_grammar.specs.Tokens.{Opening}
-use Rattle.starlark_words.proofs.LiteralBodies.PlainBodies.{plain_body, plain_run, run_on_line}
+use Rattle.starlark_words.specs.Inner.LiteralViews.{single_literal}
+use Rattle.starlark_words.proofs.LiteralBodies.PlainBodies.{known_run, plain_body, plain_run}
 use Rattle.starlark_words.proofs.plain.plain_body_len.Goals.{else-len-eq0-via-then-len-eq0+else-is_quote_at, else-len-eq0-via-else-len-eq0}
 use Rattle.starlark_words.proofs.plain.plain_body_len.Goals as goal
 
@@ -22,9 +22,8 @@ returns-clause-plain c =
 
 pub returns-then-not-closes_run-clause-other : goal.returns-then-not-closes_run-clause-other
 returns-then-not-closes_run-clause-other c =
-    let opening : Opening = record { is_raw = c.args.is_raw; quote = c.args.quote; is_triple = false } in
     let read = c.first_run-len.ensures.reads in
-    (run_on_line c.args.kind opening c.args.text.now c.first_run-len.result.now c.first_run-len.ensures.value, (omega (arith, read.0), omega (arith, read.1)))
+    (known_run (single_literal c.args.kind c.args.is_raw c.args.quote) c.args.text.now c.first_run-len.result.now c.first_run-len.ensures.value c.first_run-len.ensures.boundary, (omega (arith, read.0), omega (arith, read.1)))
 
 pub returns-clause-reads : goal.returns-clause-reads
 returns-clause-reads c =

@@ -1,8 +1,8 @@
 use Rattle.std.proofs.Common.{◌∙◌, ap, arith, drop, length, take}
 use Rattle.std.proofs.lemmas.List.{take_rest}
 use Rattle.starlark_grammar.specs.Inner.Openings.{opening_view}
-use Rattle.starlark_grammar.specs.declared.class.LiteralKind.TheVariants.{FString as OfFString}
-use Rattle.starlark_words.proofs.LiteralBodies.PlainBodies.{plain_chunk, run_on_line}
+use Rattle.starlark_words.specs.Inner.LiteralViews.{fstring_literal}
+use Rattle.starlark_words.proofs.LiteralBodies.PlainBodies.{known_run, plain_chunk}
 use Rattle.starlark_words.proofs.plain.plain_chunk_len.Goals as goal
 
 pub returns-clause-plain : goal.returns-clause-plain
@@ -14,7 +14,7 @@ returns-clause-plain c =
 pub returns-in_default-clause-other : goal.returns-in_default-clause-other
 returns-in_default-clause-other c =
     let read = c.first_run-len.ensures.reads in
-    (run_on_line OfFString (opening_view c.args.opening) c.args.text.now c.first_run-len.result.now c.first_run-len.ensures.value, (omega (arith, read.0), omega (arith, read.1)))
+    (known_run (fstring_literal (opening_view c.args.opening)) c.args.text.now c.first_run-len.result.now c.first_run-len.ensures.value c.first_run-len.ensures.boundary, (omega (arith, read.0), omega (arith, read.1)))
 
-pub returns-clause-line : goal.returns-clause-line
-returns-clause-line c = run_on_line OfFString (opening_view c.args.opening) c.args.text.now c.first_run-len.result.now c.first_run-len.ensures.value
+pub returns-clause-run : goal.returns-clause-run
+returns-clause-run c = known_run (fstring_literal (opening_view c.args.opening)) c.args.text.now c.first_run-len.result.now c.first_run-len.ensures.value c.first_run-len.ensures.boundary

@@ -12,6 +12,6 @@ returns-clause-ahead c = λ text fault keeps state place boundary.
     ahead_repaired text fault keeps c.args.self.now _ kept (after_some c.args.self.now.before _ kept.before).0 (subst (IsCharBoundary (repaired text fault)) place boundary) refl refl refl place refl (nothing.1, nothing.0)
 
 pub returns-clause-reads : goal.returns-clause-reads
-returns-clause-reads c = λ text beside least most.
+returns-clause-reads c = λ text least most.
     let none = (c.nothing-self.ensures []).1.inside in
     (omega (arith, least, c.count_run.ensures, c.requires.order), omega (arith, most, c.count_run.ensures, none))

@@ -25,7 +25,7 @@ returns-clause-ahead c =
     c.take.ensures.read history (state_reads old.text.now history old c.chunk_from.new.reads kept) (subst (λ stands. IsStep stands c.in_ok-step.step) (sym here) c.in_ok-step.ensures.step))
 
 pub returns-clause-reads : goal.returns-clause-reads
-returns-clause-reads c = λ beside has.
+returns-clause-reads c = λ before has known.
     let old = c.args.self.now in
     let text = old.text.now in
     let rest = drop old.at text in
@@ -35,5 +35,8 @@ returns-clause-reads c = λ beside has.
     let here = chunk_here text left.0 old opening left.1 c.requires.inside in
     let is : IsStep (chunk opening rest) step = subst (λ t. IsStep (chunk opening t) step) c.range_from-rest.ensures.value c.in_ok-step.ensures.step in
     let after = c.chunk_from.new.reads in
-    step_reads text beside old.reads left.0 step (record old { reads = after }) c.take.new.self (state_reads text left.0 old after left.1) (subst (λ stands. IsStep stands step) (sym here) is) has
-    (chunk_reads (next_line rest 0) step old.reads after c.in_ok-step.ensures.reads) (no_repair 0 rest (chunk opening rest) step old.reads after is (chunk_keeps_none opening rest)) c.take.ensures.passed
+    step_reads text before left.0 step (record old { reads = after }) c.take.new.self (state_reads text left.0 old after left.1) (subst (λ stands. IsStep stands step) (sym here) is) has
+    (chunk_reads (next_line rest 0) step before after (c.in_ok-step.ensures.reads before known)) (no_repair 0 rest (chunk opening rest) step before after is (chunk_keeps_none opening rest)) c.take.ensures.passed
+
+pub chunk_from-requires : goal.chunk_from-requires
+chunk_from-requires c = record { run = rw c.range_from-rest.ensures.value c.requires.run }

@@ -37,10 +37,10 @@ returns-else-branch-clause-ahead c = λ lexemes fault ahead.
     first_ahead text c.args.self.now c.refuse.new.self lexemes fault read c.requires.idle ahead
 
 pub returns-else-branch-clause-reads : goal.returns-else-branch-clause-reads
-returns-else-branch-clause-reads c = λ beside has.
+returns-else-branch-clause-reads c = λ has.
     let text = c.args.self.now.text.now in
     let new = c.refuse.ensures in
     let margin = c.margin_of-margin.ensures.margin in
     let place = c.in_ok-take_margin.ensures.place in
-    first_refused_reads text beside c.margin_fault-fault.result.1 c.margin_of-margin.result c.margin_fault-fault.result.0 c.args.self.now c.refuse.new.self c.margin_of-margin.ensures.within margin
+    first_refused_reads text c.margin_fault-fault.result.1 c.margin_of-margin.result c.margin_fault-fault.result.0 c.args.self.now c.refuse.new.self c.margin_of-margin.ensures.within margin
     (c.margin_fault-fault.ensures (margin_of text) margin) (ap (λ (reader : Reader). reader.stage) new) (omega (arith, ap (λ (reader : Reader). reader.reads) new, c.margin_of-margin.ensures.reads.1)) (omega (arith, ap (λ (reader : Reader). owed reader.pending) new, place.from, place.to)) has

@@ -1,4 +1,4 @@
-use Rattle.std.proofs.Common.{◌≡◌, ◌+◌, ◌*◌, ap, drop, sym, take, ◌∙◌}
+use Rattle.std.proofs.Common.{◌≡◌, ◌+◌, ◌*◌, ap, arith, drop, sym, take, ◌∙◌}
 use Rattle.starlark_grammar.proofs.Repairs.Faults.{opener_lost}
 use Rattle.starlark_grammar.specs.AfterFaults.{next_line}
 use Rattle.starlark_grammar.specs.Cuts.{is_outside}
@@ -7,6 +7,7 @@ use Rattle.starlark_grammar.specs.Front.{language_front}
 use Rattle.starlark_grammar.specs.Pieces as grammar
 use Rattle.starlark_grammar.specs.declared.class.Class.TheVariants as class
 use Rattle.starlark_words.specs.declared.scanner.word.Word.{Word}
+use Rattle.starlark_reader.proofs.ReadLiterals.StepReads.{split_reads}
 use Rattle.starlark_reader.proofs.TakenMargins.Waiting.{after_error}
 use Rattle.starlark_reader.proofs.TakenPieces.CodePlaces.{word_cut}
 use Rattle.starlark_reader.proofs.TakenPieces.NextLexeme.{onward_something}
@@ -45,7 +46,7 @@ returns-clause-ahead c =
     (literal_here old.text.now history old c.args.kind c.args.is_raw c.args.quote c.args.len c.mode.result c.is_outside-outside.result c.range_from.result.now c.in_ok-step.step kept c.requires.stands c.mode.ensures c.is_outside-outside.ensures remainder c.in_ok-step.ensures.step))
 
 pub returns-clause-reads : goal.returns-clause-reads
-returns-clause-reads c = λ beside before has read.
+returns-clause-reads c = λ before has read.
     let old = c.args.self.now in
     let text = old.text.now in
     let left = state_here old c.requires.sound c.requires.stands.stage in
@@ -57,7 +58,15 @@ returns-clause-reads c = λ beside before has read.
     let mode = mode_after left.0.tokens in
     let opening = grammar.opening_of c.args.is_raw c.args.quote c.range_from.result.now in
     let outside = ap is_outside (sym (c.mode.ensures left.0.tokens left.1.nesting)) ∙ sym c.is_outside-outside.ensures in
-    word_step_reads text beside before c.literal_piece.new.reads left.0 word step old c.take.new.self left.1 c.requires.stands is has read
-    (opener_reads c.args.len (next_line front 0) step old.reads c.literal_piece.new.reads c.in_ok-step.ensures.reads)
-    (no_repair (5 * c.args.len + 3) front (grammar.opener mode c.args.kind opening c.args.len c.range_from.result.now) step old.reads c.literal_piece.new.reads (c.in_ok-step.ensures.step mode outside) (opener_lost mode c.args.kind opening c.args.len c.range_from.result.now))
+    let parts = split_reads c.args.len c.args.run before old.reads read in
+    word_step_reads text before parts.0 c.literal_piece.new.reads left.0 word step old c.take.new.self left.1 c.requires.stands is has parts.1
+    (opener_reads c.args.len (next_line front 0) step parts.0 c.literal_piece.new.reads (c.in_ok-step.ensures.reads parts.0 parts.2))
+    (no_repair (5 * c.args.len + 3) front (grammar.opener mode c.args.kind opening c.args.len c.range_from.result.now) step parts.0 c.literal_piece.new.reads (c.in_ok-step.ensures.step mode outside) (opener_lost mode c.args.kind opening c.args.len c.range_from.result.now))
     c.take.ensures.passed
+
+pub literal_piece-requires : goal.literal_piece-requires
+literal_piece-requires c = record {
+  kind = c.requires.kind;
+  fits = omega (arith, c.range_from.ensures.len, c.range_from-rest.ensures.len);
+  run = rw (c.range_from.ensures.value, c.range_from-rest.ensures.value) c.requires.run;
+}

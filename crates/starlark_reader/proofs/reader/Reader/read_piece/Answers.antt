@@ -17,7 +17,7 @@ returns-in-Some c =
       text = c.read_word.ensures.text;
       ahead = IfOk-weaker c.read_word.result _ _ (λ given is lexemes fault ahead. is lexemes fault (subst (λ s. IsAhead text (record old { reads = after }) s lexemes fault) (sym c.requires.stage) (reads_ahead text old after _ lexemes fault ahead))) c.read_word.ensures.ahead;
       less = on_ok_weaker c.read_word.result (λ is. subst (λ s. left_to_read text new new.stage < left_to_read text old s) c.requires.stage is) c.read_word.ensures.less;
-      reads = on_ok_weaker c.read_word.result (λ is beside has. is beside old.reads has c.in-Some.ensures.reads) c.read_word.ensures.reads;
+      reads = on_ok_weaker c.read_word.result (λ is has. is old.reads has c.in-Some.ensures.reads) c.read_word.ensures.reads;
     }
 
 pub returns-in-None : goal.returns-in-None
@@ -30,7 +30,7 @@ returns-in-None c =
       text = c.read_wordless.ensures.text;
       ahead = IfOk-weaker c.read_wordless.result _ _ (λ given is lexemes fault ahead. is lexemes fault (subst (λ s. IsAhead text (record old { reads = after }) s lexemes fault) (sym c.requires.stage) (reads_ahead text old after _ lexemes fault ahead))) c.read_wordless.ensures.ahead;
       less = on_ok_weaker c.read_wordless.result (λ is. subst (λ s. left_to_read text new new.stage < left_to_read text old s) c.requires.stage is) c.read_wordless.ensures.less;
-      reads = on_ok_weaker c.read_wordless.result (λ is beside has. is beside old.reads has c.in-None.ensures.reads) c.read_wordless.ensures.reads;
+      reads = on_ok_weaker c.read_wordless.result (λ is has. is old.reads has c.in-None.ensures.reads) c.read_wordless.ensures.reads;
     }
 
 pub returns-then-self-clause-ahead : goal.returns-then-self-clause-ahead
@@ -62,3 +62,6 @@ read_wordless-requires c =
       some = omega (arith, c.if-self.false, c.requires.ready.2.is_left.1.inside);
       none = sym (c.in-None.ensures.word ∙ ap language_front c.range_from.ensures.value);
     }
+
+pub returns-in-InText-clause-reads : goal.returns-in-InText-clause-reads
+returns-in-InText-clause-reads c = on_ok_weaker c.read_chunk.result (λ is has. is c.args.self.now.reads has (omega arith, omega arith)) c.read_chunk.ensures.reads

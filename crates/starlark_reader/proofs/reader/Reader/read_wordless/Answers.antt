@@ -50,7 +50,7 @@ returns-clause-ahead c =
     c.take.ensures.read history (state_reads text history mid c.invalid_input.new.reads kept) (subst (λ stands. IsStep stands c.in_ok-step.step) (sym here) (rw c.range_from.ensures.value at c.in_ok-step.ensures.step))))
 
 pub returns-clause-reads : goal.returns-clause-reads
-returns-clause-reads c = λ beside before has read.
+returns-clause-reads c = λ before has read.
     let old = c.args.self.now in
     let mid = c.bang_stands.new.self in
     let text = mid.text.now in
@@ -69,5 +69,5 @@ returns-clause-reads c = λ beside before has read.
     let long = character_some rest some in
     let reads = none_reads rest step before old.reads after some read (wordless_reads 0 end step old.reads mid.reads after looked.3 fault c.in_ok-step.ensures.reads) in
     let leaves = none_leave 3 rest step before old.reads after (omega (arith, read.1)) (character_leaves rest 0 end step old.reads mid.reads after refl long looked.3 fault c.in_ok-step.ensures.reads) in
-    subst (λ t. HasRead t beside c.take.new.self) (ap (λ t. t.now) c.bang_stands.ensures.text)
-    (step_reads text beside before left.0 step (record mid { reads = after }) c.take.new.self (state_reads text left.0 mid after left.1) is (omega (arith, has.0, looked.0), omega (arith, has.1, looked.0, looked.2)) reads leaves c.take.ensures.passed)
+    subst (λ t. HasRead t c.take.new.self) (ap (λ t. t.now) c.bang_stands.ensures.text)
+    (step_reads text before left.0 step (record mid { reads = after }) c.take.new.self (state_reads text left.0 mid after left.1) is (omega (arith, has.0, looked.0), omega (arith, has.1, looked.0, looked.2)) reads leaves c.take.ensures.passed)

@@ -41,7 +41,7 @@ returns-clause-ahead c =
     c.take.ensures.read history kept (step_of_word c.args.self.now.text.now history c.args.self.now c.args.word c.range.result.now c.in_ok-step.step kept c.requires.stands front c.in_ok-step.ensures.step))
 
 pub returns-clause-reads : goal.returns-clause-reads
-returns-clause-reads c = λ beside before has read.
+returns-clause-reads c = λ before has read.
     let front : c.range.result.now ≡ take c.args.word.len (drop c.args.self.now.at c.args.self.now.text.now) = c.range.ensures.value ∙ ap (λ n. take n c.range_from-rest.result.now) (sub-zero _) ∙ ap (take c.args.word.len) c.range_from-rest.ensures.value in
     let old = c.args.self.now in
     let text = old.text.now in
@@ -52,4 +52,4 @@ returns-clause-reads c = λ beside before has read.
     let len : length c.range.result.now ≡ c.args.word.len = ap length front ∙ word_len rest c.args.word.class c.args.word.len (sym c.requires.stands.front) in
     let more : AreWordReads c.args.word.len 9 2 (next_line (take c.args.word.len rest) 0) 8 step old.reads old.reads = rw (len, front) at (c.in_ok-step.ensures.reads old.reads) in
     let leaves : LeavesReads (5 * c.args.word.len + 3) (take c.args.word.len rest) step old.reads old.reads = rw (len, front) at (c.in_ok-step.ensures.leaves old.reads) in
-    word_step_reads text beside before old.reads left.0 c.args.word step old c.take.new.self left.1 c.requires.stands is has read more leaves c.take.ensures.passed
+    word_step_reads text before old.reads old.reads left.0 c.args.word step old c.take.new.self left.1 c.requires.stands is has read more leaves c.take.ensures.passed

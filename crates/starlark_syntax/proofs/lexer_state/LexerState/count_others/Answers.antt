@@ -1,7 +1,7 @@
 use Rattle.std.proofs.Common.{ap}
 use Rattle.starlark_reader.specs.declared.reader.Reader.{Reader}
 use Rattle.starlark_syntax.proofs.LexerStates.{same_lexing}
-use Rattle.starlark_syntax.proofs.LexerReads.{counted_reads, looked_reads}
+use Rattle.starlark_syntax.proofs.LexerReads.{counted_found}
 use Rattle.starlark_syntax.proofs.lexer_state.LexerState.count_others.Goals as goal
 
 pub returns-clause-lexing : goal.returns-clause-lexing
@@ -12,6 +12,5 @@ returns-clause-lexing c =
       c.requires.lexing.0,
       (λ on. (now.0, c.count_others.ensures.ahead state.reader.text.now _ _ now.1)),
       c.requires.lexing.2,
-      (λ on. looked_reads state.reader.text.now state.reader c.count_others.new.self state.looked_to state.lookahead c.count_others.ensures.same (counted_reads c.count_others.result c.args.len state.reader c.count_others.new.self c.count_others.ensures.none c.count_others.ensures.counted) (c.count_others.ensures.reads state.reader.text.now) (c.requires.lexing.3 c.requires.going)),
-      c.requires.lexing.4,
+      (λ on. counted_found state.reader.text.now c.count_others.result c.args.len state.reader c.count_others.new.self state.lookahead c.count_others.ensures.same c.count_others.ensures.none c.count_others.ensures.counted c.count_others.ensures.few (c.count_others.ensures.reads state.reader.text.now) (c.requires.lexing.3 c.requires.going)),
     )

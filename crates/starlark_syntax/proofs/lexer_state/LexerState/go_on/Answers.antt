@@ -9,9 +9,9 @@ pub returns-clause-lexing : goal.returns-clause-lexing
 returns-clause-lexing c = λ text fault here keeps begins ends boundary utf8.
     let counted = here.counted in
     let count : c.args.self.now.yielded_count - 1 + (c.args.end - c.args.begin) ≡ passed_count text fault = omega (arith, counted, begins, ends) in
-    let spared = here.spared in
+    let leaves = here.leaves in
     let is = kept_fault text _ fault keeps.1 in
-    let left = spared.2 is.may is.no_margin in
+    let left = leaves is.may is.no_margin in
     let least = here.least in
     lexing_repaired text fault c.args.self.now c.go_on.new.self (c.args.self.now.yielded_count - 1 + (c.args.end - c.args.begin)) here keeps utf8 count (c.go_on.ensures.ahead text fault keeps here.stores ends boundary)
-    (c.go_on.ensures.reads (repaired text fault) spared.0 (omega (arith, least, begins)) (omega (arith, left, begins, ends)))
+    (c.go_on.ensures.reads (repaired text fault) (omega (arith, least, begins)) (omega (arith, left, begins, ends)))

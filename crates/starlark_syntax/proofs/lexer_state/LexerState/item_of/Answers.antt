@@ -14,11 +14,11 @@ returns-in-Ok c =
     let is = rw c.in-Ok.is at c.requires.taken.ahead in
     record {
       answer = is;
-      lexing = past_lexing c.args.self.now _ _ c.args.lookahead refl c.requires.taken.text c.requires.taken.going c.requires.taken.reach is (rw c.in-Ok.is at c.requires.looked);
+      lexing = past_lexing c.args.self.now _ _ (record c.args.self.now.lookahead { found = c.args.found }) refl c.requires.taken.text c.requires.taken.going is (rw c.in-Ok.is at c.requires.found);
       after = rw c.requires.taken.going refl;
     }
 
 pub returns-in-Err : goal.returns-in-Err
 returns-in-Err c =
     let none : c.args.self.now.yielded_count + 0 ≡ c.args.self.now.yielded_count = omega (arith) in
-    record { answer = rw c.in-Err.is at c.requires.taken.memory; lexing = (c.requires.taken.text, (λ on. cc), tt, (λ on. cc), c.requires.taken.reach); after = rw none refl }
+    record { answer = rw c.in-Err.is at c.requires.taken.memory; lexing = (c.requires.taken.text, (λ on. cc), tt, (λ on. cc)); after = rw none refl }

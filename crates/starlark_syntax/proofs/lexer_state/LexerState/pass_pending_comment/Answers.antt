@@ -1,6 +1,6 @@
 use Rattle.std.proofs.Common.{◌+◌, ◌≤◌, ◌^◌, arith, refl, rules}
 use Rattle.starlark_syntax.proofs.FoundWords.{one_more_fits, past_lexing}
-use Rattle.starlark_syntax.proofs.LexerReads.{all_spared, found_out}
+use Rattle.starlark_syntax.proofs.LexerReads.{all_read, found_out}
 use Rattle.starlark_syntax.proofs.PlainLexemes.{plain_inside}
 use Rattle.starlark_syntax.specs.declared.plain_lexeme.PlainKind.TheVariants as kind
 use Rattle.starlark_syntax.proofs.lexer_state.LexerState.pass_pending_comment.Goals as goal
@@ -16,9 +16,9 @@ returns c =
     let place = c.pass_pending_comment-place.result in
     let inside = c.pass_pending_comment-place.ensures.inside in
     let is = c.pass_pending_comment-place.ensures.ahead _ _ inv.1 in
-    let paid = all_spared c.args.self.now.reader.text.now c.args.self.now.reader c.args.self.now.looked_to c.args.self.now.lookahead c.requires.all (c.requires.lexing.3 c.requires.going) in
+    let read = all_read c.args.self.now.reader.text.now c.args.self.now.reader c.args.self.now.lookahead c.requires.all (c.requires.lexing.3 c.requires.going) in
     record {
       passed = (plain_inside c.args.self.now.reader.text.now kind.Comment place.0 place.1 (place.0 + 1) place.1 c.requires.lexing.0.fits (omega (arith, inside.order)) (omega (arith, inside.order)) inside.first inside.last inside.value inside.last, is);
-      lexing = past_lexing c.args.self.now _ _ c.looked_after-self.result c.pass_pending_comment-place.ensures.text c.requires.lexing.0 c.requires.going c.requires.lexing.4 is (found_out c.args.self.now.reader.text.now c.pass_pending_comment-place.new.self c.args.self.now.looked_to paid.0 c.looked_after-self.result c.looked_after-self.ensures is.2.is_pending (omega (arith, paid.1)) (c.pass_pending_comment-place.ensures.reads paid.0 paid.2));
+      lexing = past_lexing c.args.self.now _ _ (record c.args.self.now.lookahead { found = c.looked_after-self.result }) c.pass_pending_comment-place.ensures.text c.requires.lexing.0 c.requires.going is (found_out c.args.self.now.reader.text.now c.pass_pending_comment-place.new.self c.args.self.now.lookahead.word c.args.self.now.lookahead.run c.looked_after-self.result c.looked_after-self.ensures is.2.is_pending (c.pass_pending_comment-place.ensures.reads read));
       after = rw (c.pass_pending_comment-place.ensures.text, c.requires.going) refl;
     }

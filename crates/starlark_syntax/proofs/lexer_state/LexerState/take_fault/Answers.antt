@@ -7,23 +7,23 @@ use Rattle.starlark_reader.proofs.NextLines.{restart_inside}
 use Rattle.starlark_reader.specs.Searches.{search_reads}
 use Rattle.starlark_syntax.specs.Inner.LexerStates.{left_in}
 use Rattle.starlark_syntax.proofs.FoundWords.{one_more_fits}
-use Rattle.starlark_syntax.proofs.LexerReads.{end_spared}
+use Rattle.starlark_syntax.proofs.LexerReads.{end_read}
 use Rattle.starlark_syntax.proofs.LexerStates.{none_dropped, raw_place, same_lexing}
 use Rattle.starlark_reader.specs.Inner.ReadBounds.{LeavesRepair}
-use Rattle.starlark_syntax.specs.declared.lexer_state.Lookahead.TheVariants as lookahead
+use Rattle.starlark_reader.specs.declared.lookahead.Found.TheVariants as found
 use Rattle.starlark_syntax.proofs.lexer_state.LexerState.take_fault.Goals as goal
 
 pub returns-in_err-fault-clause-last : goal.returns-in_err-fault-clause-last
 returns-in_err-fault-clause-last c = λ going.
     let text = c.args.self.now.reader.text.now in
     let inv = c.requires.lexing.1 going in
-    let paid = end_spared text c.args.self.now.reader c.args.self.now.looked_to c.args.self.now.lookahead (c.requires.end going) (c.requires.lexing.3 going) in
+    let had = end_read text c.args.self.now.reader c.args.self.now.lookahead (c.requires.end going) (c.requires.lexing.3 going) in
     let is = c.in_err-fault.ensures.last text (left_in c.args.self.now) (outcome text).fault (c.requires.end going) inv.1 in
-    let read = c.in_err-fault.ensures.reads text paid.0 (c.requires.end going) paid.2 in
-    rw c.from_residual.ensures (is.0, is.1, is.3, read.1, omega (arith, paid.1, read.2, c.requires.lexing.4.inside))
+    let read = c.in_err-fault.ensures.reads text (c.requires.end going) had in
+    rw c.from_residual.ensures (is.0, is.1, is.3, read.1, omega (arith, read.2))
 
 pub returns-in_err-fault-clause-lexing : goal.returns-in_err-fault-clause-lexing
-returns-in_err-fault-clause-lexing c = same_lexing c.args.self.now.reader.text.now (record c.args.self.now { reader = c.take_fault.new.self; lookahead = lookahead.All }) (ap (λ t. t.now) c.take_fault.ensures.text) (
+returns-in_err-fault-clause-lexing c = same_lexing c.args.self.now.reader.text.now (record c.args.self.now { reader = c.take_fault.new.self; lookahead = record c.args.self.now.lookahead { found = found.All } }) (ap (λ t. t.now) c.take_fault.ensures.text) (
   c.requires.lexing.0,
   (λ on.
       let inv = c.requires.lexing.1 on in
@@ -31,10 +31,8 @@ returns-in_err-fault-clause-lexing c = same_lexing c.args.self.now.reader.text.n
       (inv.0, rw (is.0, is.1) is.2)),
   tt,
   (λ on.
-      let paid = end_spared c.args.self.now.reader.text.now c.args.self.now.reader c.args.self.now.looked_to c.args.self.now.lookahead (c.requires.end on) (c.requires.lexing.3 on) in
-      let read = c.in_err-fault.ensures.reads c.args.self.now.reader.text.now paid.0 (c.requires.end on) paid.2 in
-      (paid.0, paid.1, read.0)),
-  c.requires.lexing.4,
+      let had = end_read c.args.self.now.reader.text.now c.args.self.now.reader c.args.self.now.lookahead (c.requires.end on) (c.requires.lexing.3 on) in
+      (c.in_err-fault.ensures.reads c.args.self.now.reader.text.now (c.requires.end on) had).0),
 )
 
 pub overflow_add-self : goal.overflow_add-self
@@ -46,34 +44,32 @@ pub returns-clause-last : goal.returns-clause-last
 returns-clause-last c = λ going.
     let text = c.args.self.now.reader.text.now in
     let inv = c.requires.lexing.1 going in
-    let paid = end_spared text c.args.self.now.reader c.args.self.now.looked_to c.args.self.now.lookahead (c.requires.end going) (c.requires.lexing.3 going) in
+    let had = end_read text c.args.self.now.reader c.args.self.now.lookahead (c.requires.end going) (c.requires.lexing.3 going) in
     let is = c.in_ok-fault.ensures.last text (left_in c.args.self.now) (outcome text).fault (c.requires.end going) inv.1 in
-    let read = c.in_ok-fault.ensures.reads text paid.0 (c.requires.end going) paid.2 in
+    let read = c.in_ok-fault.ensures.reads text (c.requires.end going) had in
     let it : Spanned Fault = is.1.0 in
     let raw = is.1.2 in
     let few = read.1 it.node raw.1 in
     let place = raw_place it c.in_ok-fault.fault raw in
     let within = fault_within text it is.1.1 in
-    let reach = c.requires.lexing.4 in
     let all = none_dropped (outcome text).lexemes c.args.self.now.yielded_count is.0 in (
       it,
       record {
         none = is.0;
         has = is.1.1;
         tab = is.2;
-        most = omega (arith, paid.1, few.0, reach.inside, restart_inside text it, ap (restart text) place, ap (search_reads text) place);
+        most = omega (arith, few.0, restart_inside text it, ap (restart text) place, ap (search_reads text) place);
         reads = λ fault has.
             let both : Some it ≡ Some fault = sym is.1.1 ∙ has in
             let same : it ≡ fault = cc in
-            (omega (arith, read.0, raw.0, within.0, within.1, c.requires.lexing.0.fits, ap (λ (f : Spanned Fault). f.begin) same), omega (arith, paid.1, few.0, reach.fault fault has, ap (restart text) (place ∙ same), ap (search_reads text) (place ∙ same)));
+            (omega (arith, read.0, raw.0, within.0, within.1, c.requires.lexing.0.fits, ap (λ (f : Spanned Fault). f.begin) same), omega (arith, few.0, ap (restart text) (place ∙ same), ap (search_reads text) (place ∙ same)));
         here = record {
           fits = c.requires.lexing.0.fits;
           has = is.1.1;
           counted = omega (arith, inv.0, all);
           stores = is.3;
           least = omega (arith, read.0, raw.0);
-          spared = (paid.0, omega (arith, paid.1), subst (λ (f : Spanned Fault). LeavesRepair text paid.0 f c.take_fault.new.self.reads) place few.1);
-          reach = reach;
+          leaves = subst (λ (f : Spanned Fault). LeavesRepair text f c.take_fault.new.self.reads) place few.1;
         };
       },
       raw,

@@ -1,0 +1,70 @@
+//! What a look at the reader's offset has found, before a lexeme is taken there.
+
+ghost use Rattle.std.specs.Prelude.{◌≡◌};
+ghost use Rattle.starlark_reader.specs.Inner.Lookaheads.{is_all, is_nothing};
+
+use starlark_words::scanner::{Class, Word};
+
+/// What kind of thing lookahead has found.
+#[derive(Clone, Copy)]
+pub enum Found {
+    /// Nothing yet. The reader is in code, and no token is pending.
+    Nothing,
+    /// In code: a word that its first two bytes tell.
+    Named,
+    /// In code: any word.
+    Unnamed,
+    /// In code: that no word begins there.
+    Wordless,
+    /// In code: the opener of a string or bytes literal, and a run without escapes after it.
+    Literal,
+    /// In the text of an f-string: a run without escapes.
+    Text,
+    /// All that it can find, or the reader isn't in code: the next lexeme is read.
+    All,
+}
+
+impl Found {
+    /// Whether no lookahead was spent.
+    #[inline(always)]
+    pub fn is_nothing(self) -> bool
+        ensures { result ≡ is_nothing self }
+    {
+        matches!(self, Found::Nothing)
+    }
+
+    /// Whether nothing that was found is to be taken.
+    #[inline(always)]
+    pub fn is_all(self) -> bool
+        ensures { result ≡ is_all self }
+    {
+        matches!(self, Found::All)
+    }
+}
+
+/// What lookahead has found at the reader's offset.
+#[derive(Clone, Copy)]
+pub struct Lookahead {
+    pub found: Found,
+    /// The word, or the opener of the literal.
+    pub word: Word,
+    /// Length in bytes of the run.
+    pub run: usize,
+}
+
+impl Lookahead {
+    /// What is found where the next lexeme is read.
+    #[inline(always)]
+    pub fn none() -> Lookahead
+        ensures { result.found ≡ Found.All }
+    {
+        Lookahead {
+            found: Found::All,
+            word: Word {
+                class: Class::Skipped,
+                len: 0,
+            },
+            run: 0,
+        }
+    }
+}

@@ -1,0 +1,15 @@
+use Rattle.std.proofs.Common.{ap, subst, sym}
+use Rattle.std.proofs.lemmas.Result.{on_ok_weaker}
+use Rattle.starlark_grammar.specs.Words.{Text}
+use Rattle.starlark_reader.specs.Inner.ReadBounds.{HasRead}
+use Rattle.starlark_syntax.proofs.FoundWords.{named_here}
+use Rattle.starlark_syntax.proofs.LexerReads.{peeked_begun, word_inside}
+use Rattle.starlark_syntax.proofs.lexer_state.LexerState.next_named.Goals as goal
+
+pub item_of-requires-clause-found : goal.item_of-requires-clause-found
+item_of-requires-clause-found c =
+    let state = c.args.self.now in
+    let here = named_here state c.args.word c.requires.lexing c.requires.going c.requires.found c.requires.word in
+    let inside = word_inside state.reader.text.now state.reader _ _ c.args.word.class c.args.word.len here.0.stage (c.requires.lexing.1 c.requires.going).1 (sym here.0.front) in
+    on_ok_weaker c.take_fstring-taken.result (λ begun. subst (λ (t : Text). HasRead t c.take_fstring-taken.new.self) (sym (ap (λ t. t.now) c.take_fstring-taken.ensures.text))
+    (peeked_begun state.reader.text.now c.args.word.len state.reader c.take_fstring-taken.new.self inside.0 here.1 begun)) c.take_fstring-taken.ensures.begun
