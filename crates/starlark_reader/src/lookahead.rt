@@ -56,7 +56,8 @@ impl Lookahead {
     /// What is found where the next lexeme is read.
     #[inline(always)]
     pub fn none() -> Lookahead
-        ensures { result.found ≡ Found.All }
+        ensures found { result.found ≡ Found.All }
+        ensures run { result.run ≡ 0 }
     {
         Lookahead {
             found: Found::All,

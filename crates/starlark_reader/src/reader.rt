@@ -21,7 +21,7 @@ ghost use Rattle.starlark_reader.specs.Inner.MarginCuts.{IsCutBefore};
 ghost use Rattle.starlark_reader.specs.Inner.ReadBounds.{HasStarted, HasLooked, HasLookedHere, HasRead, HasReadAt, HasReadLast, IsMarginRead, IsPassed, IsPassedBy, IsTaken};
 ghost use Rattle.starlark_reader.specs.Inner.Reader.{HasSomething, IsText, IsAtLineEnd, IsAtStep, IsLineEndStep, IsSound, KeepsAhead, PassesNext, Takes, TakesNext, CountsLineEnds, has_read_none, is_fault, IsAhead, IsAheadAfter, IsAheadPast, IsAtCode, IsBangHere, IsInCode, IsInFlatMargin, IsReached, IsStateAfter, IsStateAtFault, IsAtEnd, IsLast, IsPlainTextHere, IsRead, IsReady, IsSomething, IsTokenOf, IsWordHere, before_margin, before_view, begins_with_tab, fstring_text_lexeme, left_here, left_to_read, name_lexeme, newline_if, newline_of, step_here, text_lexeme};
 ghost use Rattle.starlark_reader.specs.Inner.PieceViews.{IsAfter, IsLineEnd};
-ghost use Rattle.starlark_reader.specs.Inner.Lookaheads.{IsFoundAt, HasPeeked, IsTextRun};
+ghost use Rattle.starlark_reader.specs.Inner.Lookaheads.{HasPeeked, IsFoundAt, IsTextRun, left_to_look};
 ghost use Rattle.starlark_grammar.specs.Cuts.{is_layout, is_settled};
 ghost use Rattle.starlark_grammar.specs.Found.{passed_count};
 ghost use Rattle.starlark_grammar.specs.RepairLaws.{KeepsLine};
@@ -59,6 +59,9 @@ use starlark_words::scanner::{
 };
 use std::alloc::{AllocError, Global};
 use std::mem;
+
+/// A token, between the offsets where it begins and ends.
+pub type Lexeme = (usize, Token, usize);
 
 /// How far a text is read: not at all, up to an offset, up to its fault, or to its end.
 #[derive(Drop)]
@@ -124,7 +127,7 @@ fn before_margin(is_laid: bool) -> LineEnd
 }
 
 /// The `Newline` between two offsets, if that is the outcome of a newline.
-fn newline_of(line_end: LineEnd, begin: usize, end: usize) -> Option<(usize, Token, usize)>
+fn newline_of(line_end: LineEnd, begin: usize, end: usize) -> Option<Lexeme>
     requires { begin ≤ end }
     ensures { result ≡ newline_of line_end begin (end - begin) }
 {
@@ -332,11 +335,7 @@ impl<'a> Reader<'a> {
 
     /// Takes the start of an f-string, which has `len` bytes with its quotes.
     #[inline(always)]
-    fn begin_fstring(
-        &mut self,
-        opening: Opening,
-        len: usize,
-    ) -> Result<(usize, Token, usize), AllocError>
+    fn begin_fstring(&mut self, opening: Opening, len: usize) -> Result<Lexeme, AllocError>
         requires { IsAtStep self.old (λ history step. step ≡ grammar.token len (FStringStart (opening_view opening))) }
         ensures text { self.new.text ≡ self.old.text }
         ensures read { IfOk result (λ given. Takes self.old (λ history step. step ≡ grammar.token len (FStringStart (opening_view opening))) (Some given) self.new) }
@@ -365,7 +364,7 @@ impl<'a> Reader<'a> {
     }
 
     /// Takes a token of `len` bytes that begins no f-string, and returns it with its span.
-    fn take_token(&mut self, token: Token, len: usize) -> (usize, Token, usize)
+    fn take_token(&mut self, token: Token, len: usize) -> Lexeme
         requires { IsAtStep self.old (λ history found. IsStep found (Step.Token token len)) }
         ensures text { self.new.text ≡ self.old.text }
         ensures read { Takes self.old (λ history found. IsStep found (Step.Token token len)) (Some result) self.new }
@@ -381,13 +380,7 @@ impl<'a> Reader<'a> {
     /// text, and what ends it becomes pending. An empty value yields no token: then what ends it is
     /// returned.
     #[inline(always)]
-    fn take_chunk(
-        &mut self,
-        chunk: String,
-        chunk_len: usize,
-        stop: TextEnd,
-        len: usize,
-    ) -> (usize, Token, usize)
+    fn take_chunk(&mut self, chunk: String, chunk_len: usize, stop: TextEnd, len: usize) -> Lexeme
         requires { IsAtStep self.old (λ history found. IsStep found (Step.Text chunk chunk_len stop len)) }
         ensures text { self.new.text ≡ self.old.text }
         ensures read { Takes self.old (λ history found. IsStep found (Step.Text chunk chunk_len stop len)) (Some result) self.new }
@@ -412,7 +405,7 @@ impl<'a> Reader<'a> {
 
     /// Takes a step, and returns its first token. Stops at a fault, and returns `None`.
     #[inline(always)]
-    fn take(&mut self, step: Step) -> Option<(usize, Token, usize)>
+    fn take(&mut self, step: Step) -> Option<Lexeme>
         requires { IsAtStep self.old (λ history found. IsStep found step) }
         ensures text { self.new.text ≡ self.old.text }
         ensures read { Takes self.old (λ history found. IsStep found step) result self.new }
@@ -525,7 +518,7 @@ impl<'a> Reader<'a> {
 
     /// Closes a text without fault at its end. Returns a `Newline` of no bytes. A `Dedent` for each
     /// open indent becomes pending.
-    fn close(&mut self) -> (usize, Token, usize)
+    fn close(&mut self) -> Lexeme
         ensures text { self.new.text ≡ self.old.text }
         ensures read { (history : History) → IsStateAfter self.old.text.now history self.old → step_here self.old.text.now history self.old ≡ grammar.Ends → IsRead self.old.text.now (left_here self.old.text.now history self.old) (Some result) self.new }
         ensures less { left_to_read self.old.text.now self.new self.new.stage < left_to_read self.old.text.now self.old Stage.Onward }
@@ -553,7 +546,7 @@ impl<'a> Reader<'a> {
 
     /// Takes the newline of `len` bytes here. `None` where it doesn't count, or its margin has a fault.
     #[inline(always)]
-    fn read_line_end(&mut self, len: usize) -> Result<Option<(usize, Token, usize)>, AllocError>
+    fn read_line_end(&mut self, len: usize) -> Result<Option<Lexeme>, AllocError>
         requires sound { IsSound self.old }
         requires stands { IsWordHere self.old.text.now self.old (record { class = class.LineEnd; len = len }) }
         ensures text { self.new.text ≡ self.old.text }
@@ -569,7 +562,7 @@ impl<'a> Reader<'a> {
 
     /// Takes the name of `len` bytes here.
     #[inline(always)]
-    fn take_name(&mut self, len: usize) -> Result<(usize, Token, usize), AllocError>
+    fn take_name(&mut self, len: usize) -> Result<Lexeme, AllocError>
         requires sound { IsSound self.old }
         requires stands { IsWordHere self.old.text.now self.old (record { class = class.Identifier; len = len }) }
         ensures text { self.new.text ≡ self.old.text }
@@ -594,7 +587,7 @@ impl<'a> Reader<'a> {
         quote: Quote,
         len: usize,
         run: usize,
-    ) -> Result<Option<(usize, Token, usize)>, AllocError>
+    ) -> Result<Option<Lexeme>, AllocError>
         requires kind { kind ≢ OfFString }
         requires sound { IsSound self.old }
         requires stands { IsWordHere self.old.text.now self.old (record { class = class.Opener kind is_raw quote; len = len }) }
@@ -622,7 +615,7 @@ impl<'a> Reader<'a> {
     }
 
     /// Stops at the word here, which is a fault: tabs, a reserved word, or a 0 before more digits.
-    fn refuse_word(&mut self, word: Word) -> Result<Option<(usize, Token, usize)>, AllocError>
+    fn refuse_word(&mut self, word: Word) -> Result<Option<Lexeme>, AllocError>
         requires sound { IsSound self.old }
         requires stands { IsWordHere self.old.text.now self.old word }
         requires fault { IsFaultWord word.class (take word.len (drop self.old.at self.old.text.now)) }
@@ -639,7 +632,7 @@ impl<'a> Reader<'a> {
 
     /// Reads the word here. Returns its lexeme; `None` where it has none, or is a fault.
     #[inline(always)]
-    fn read_word(&mut self, word: Word) -> Result<Option<(usize, Token, usize)>, AllocError>
+    fn read_word(&mut self, word: Word) -> Result<Option<Lexeme>, AllocError>
         requires sound { IsSound self.old }
         requires stands { IsWordHere self.old.text.now self.old word }
         ensures text { self.new.text ≡ self.old.text }
@@ -676,7 +669,7 @@ impl<'a> Reader<'a> {
     }
 
     /// Reads what is here, where no word begins: a bang, or a fault.
-    fn read_wordless(&mut self) -> Result<Option<(usize, Token, usize)>, AllocError>
+    fn read_wordless(&mut self) -> Result<Option<Lexeme>, AllocError>
         requires sound { IsSound self.old }
         requires code { IsAtCode self.old.text.now self.old }
         requires some { self.old.at < length self.old.text.now }
@@ -696,11 +689,7 @@ impl<'a> Reader<'a> {
 
     /// Reads the f-string text at the offset, up to its first stop. Its first `run` bytes are known.
     /// Returns its first lexeme; `None` if it is a fault.
-    fn read_chunk(
-        &mut self,
-        opening: Opening,
-        run: usize,
-    ) -> Result<Option<(usize, Token, usize)>, AllocError>
+    fn read_chunk(&mut self, opening: Opening, run: usize) -> Result<Option<Lexeme>, AllocError>
         requires text { IsText self.old.text.now }
         requires stage { self.old.stage ≡ Stage.Onward }
         requires ready { IsReady self.old.text.now self.old Stage.Onward }
@@ -717,36 +706,42 @@ impl<'a> Reader<'a> {
         Ok(self.take(step))
     }
 
-    /// Reads the piece at the offset, where no lexeme is pending. Returns its first lexeme; `None`
-    /// if it has none.
-    fn read_piece(&mut self) -> Result<Option<(usize, Token, usize)>, AllocError>
-        requires text { IsText self.old.text.now }
+    /// Finds what is at the offset, where no lexeme is pending.
+    fn look(&mut self) -> Lookahead
+        requires sound { IsSound self.old }
         requires stage { self.old.stage ≡ Stage.Onward }
-        requires ready { IsReady self.old.text.now self.old Stage.Onward }
         requires idle { IsIdle self.old.text.now self.old.pending }
+        requires read { HasRead self.old.text.now self.old }
         ensures text { self.new.text ≡ self.old.text }
-        ensures ahead { IfOk result (λ given. (lexemes : List (Spanned TokenView)) (fault : Option (Spanned Fault)) → IsAhead self.old.text.now self.old Stage.Onward lexemes fault → IsAheadAfter self.old.text.now given self.new lexemes fault) }
-        ensures less { OnOk result (left_to_read self.old.text.now self.new self.new.stage < left_to_read self.old.text.now self.old Stage.Onward) }
-        ensures reads { OnOk result (HasReadAt self.old.text.now self.old Stage.Onward → HasRead self.old.text.now self.new) }
+        ensures ahead { KeepsAhead self.old self.new }
+        ensures found { IsFoundAt self.new.text.now self.new result }
+        ensures stays { left_to_read self.old.text.now self.new self.new.stage ≡ left_to_read self.old.text.now self.old self.old.stage }
+        ensures some { left_to_look result.found ≡ 0 }
     {
-        if let LexerMode::InText(opening) = self.nesting.mode() {
-            return self.read_chunk(opening, 0);
+        let mut lookahead = Lookahead::none();
+        if let LexerMode::InText(_) = self.nesting.mode() {
+            lookahead.found = Found::Text;
+            return lookahead;
         }
         if self.at == self.text.len() {
-            return Ok(Some(self.close()));
+            lookahead.found = Found::Wordless;
+            return lookahead;
         }
         match first_word(&mut self.reads, &self.text[self.at..]) {
-            Some(word) => self.read_word(word),
-            None => self.read_wordless(),
+            Some(word) => {
+                lookahead.found = Found::Unnamed;
+                lookahead.word = word;
+            }
+            None => lookahead.found = Found::Wordless,
         }
+        lookahead
     }
 
     /// The fault after the last lexeme, between two offsets, if the text has one. It is returned only
     /// once.
     ///
     /// Reads up to a fault, with those of the search for the offset where lexing begins again, are at
-    /// most ten for each byte before that offset, and ten more, beside failed lookahead. At the fault
-    /// of a first margin they are at most sixteen each.
+    /// most sixteen for each byte before that offset, and sixteen more.
     pub fn take_fault(&mut self) -> Option<(usize, LexemeError, usize)>
         ensures text { self.new.text ≡ self.old.text }
         ensures last { (text : Text) (lexemes : List (Spanned TokenView)) (fault : Option (Spanned Fault)) → IsAtEnd text self.old → IsAhead text self.old self.old.stage lexemes fault → IsLast text lexemes fault result self.new }
@@ -975,7 +970,7 @@ impl<'a> Reader<'a> {
 
     /// Takes the comment of `len` bytes here. Don't use the reader after an `AllocError`.
     #[inline(always)]
-    pub fn take_comment(&mut self, len: usize) -> Result<(usize, Token, usize), AllocError>
+    pub fn take_comment(&mut self, len: usize) -> Result<Lexeme, AllocError>
         requires sound { IsSound self.old }
         requires stands { IsWordHere self.old.text.now self.old (record { class = class.Comment; len = len }) }
         ensures text { self.new.text ≡ self.old.text }
@@ -1043,7 +1038,7 @@ impl<'a> Reader<'a> {
         quote: Quote,
         len: usize,
         body: usize,
-    ) -> Result<(usize, Token, usize), AllocError>
+    ) -> Result<Lexeme, AllocError>
         requires sound { IsSound self.old }
         requires stands { IsWordHere self.old.text.now self.old (record { class = class.Opener kind.Bytes is_raw quote; len = len }) }
         requires plain { IsPlainBody kind.Bytes is_raw quote (drop len (drop self.old.at self.old.text.now)) body }
@@ -1072,7 +1067,7 @@ impl<'a> Reader<'a> {
         is_raw: bool,
         quote: Quote,
         len: usize,
-    ) -> Result<(usize, Token, usize), AllocError>
+    ) -> Result<Lexeme, AllocError>
         requires sound { IsSound self.old }
         requires stands { IsWordHere self.old.text.now self.old (record { class = class.Opener kind.FString is_raw quote; len = len }) }
         ensures text { self.new.text ≡ self.old.text }
@@ -1109,7 +1104,7 @@ impl<'a> Reader<'a> {
 
     /// Takes the first pending lexeme where no comments are pending; `None` if there is none.
     #[inline(always)]
-    pub fn next_mark(&mut self) -> Option<(usize, Token, usize)>
+    pub fn next_mark(&mut self) -> Option<Lexeme>
         requires none { self.old.pending.to ≤ self.old.pending.from }
         ensures text { self.new.text ≡ self.old.text }
         ensures ahead { (text : Text) (lexemes : List (Spanned TokenView)) (fault : Option (Spanned Fault)) → IsAhead text self.old self.old.stage lexemes fault → IsAheadAfter text result self.new lexemes fault }
@@ -1168,7 +1163,7 @@ impl<'a> Reader<'a> {
 
     /// Passes the f-string text here, which is empty, and takes what ends it.
     #[inline(always)]
-    pub fn pass_text_end(&mut self, found: PlainText) -> (usize, Token, usize)
+    pub fn pass_text_end(&mut self, found: PlainText) -> Lexeme
         requires sound { IsSound self.old }
         requires stands { IsPlainTextHere self.old.text.now self.old found }
         requires none { found.len ≡ 0 }
@@ -1187,7 +1182,7 @@ impl<'a> Reader<'a> {
 
     /// Takes the keyword or symbol of `len` bytes here.
     #[inline(always)]
-    pub fn take_terminal(&mut self, terminal: Terminal, len: usize) -> (usize, Token, usize)
+    pub fn take_terminal(&mut self, terminal: Terminal, len: usize) -> Lexeme
         requires sound { IsSound self.old }
         requires stands { IsWordHere self.old.text.now self.old (record { class = class.Fixed terminal; len = len }) }
         ensures text { self.new.text ≡ self.old.text }
@@ -1224,7 +1219,7 @@ impl<'a> Reader<'a> {
 
     /// Takes the integer of one digit here, whose value is `digit`.
     #[inline(always)]
-    pub fn take_digit(&mut self, digit: u8) -> (usize, Token, usize)
+    pub fn take_digit(&mut self, digit: u8) -> Lexeme
         requires sound { IsSound self.old }
         requires stands { IsWordHere self.old.text.now self.old (record { class = class.Decimal; len = 1 }) }
         requires digit { IsDigitAt digit (drop self.old.at self.old.text.now) }
@@ -1261,7 +1256,7 @@ impl<'a> Reader<'a> {
     /// Takes the number here, which isn't a 0 before more digits. Don't use the reader after an
     /// `AllocError`.
     #[inline(always)]
-    pub fn take_number(&mut self, word: Word) -> Result<(usize, Token, usize), AllocError>
+    pub fn take_number(&mut self, word: Word) -> Result<Lexeme, AllocError>
         requires sound { IsSound self.old }
         requires stands { IsWordHere self.old.text.now self.old word }
         requires class { is_number word.class ≡ true }
@@ -1281,7 +1276,7 @@ impl<'a> Reader<'a> {
 
     /// Takes the bang of an f-string expression here.
     #[inline(always)]
-    pub fn take_bang(&mut self) -> (usize, Token, usize)
+    pub fn take_bang(&mut self) -> Lexeme
         requires sound { IsSound self.old }
         requires stands { IsBangHere self.old.text.now self.old }
         ensures text { self.new.text ≡ self.old.text }
@@ -1296,16 +1291,13 @@ impl<'a> Reader<'a> {
     }
 
     /// Reads the literal whose opener is here. The `run` bytes after the opener are known.
-    fn read_opened(
-        &mut self,
-        opener: Word,
-        run: usize,
-    ) -> Result<Option<(usize, Token, usize)>, AllocError>
+    fn read_opened(&mut self, opener: Word, run: usize) -> Result<Option<Lexeme>, AllocError>
         requires sound { IsSound self.old }
         requires found { IsFoundAt self.old.text.now self.old (record { found = Found.Literal; word = opener; run = run }) }
         ensures text { self.new.text ≡ self.old.text }
         ensures ahead { IfOk result (λ given. TakesNext self.old given self.new) }
         ensures memory { OnErr result (HasSomething self.old) }
+        ensures less { OnOk result (left_to_read self.old.text.now self.new self.new.stage < left_to_read self.old.text.now self.old self.old.stage) }
         ensures reads { OnOk result (HasRead self.old.text.now self.new) }
     {
         match opener.class {
@@ -1319,13 +1311,14 @@ impl<'a> Reader<'a> {
     }
 
     /// Reads the f-string text here, of which `run` bytes are known.
-    fn read_text(&mut self, run: usize) -> Result<Option<(usize, Token, usize)>, AllocError>
+    fn read_text(&mut self, run: usize) -> Result<Option<Lexeme>, AllocError>
         requires sound { IsSound self.old }
         requires here { IsTextRun self.old.text.now run self.old }
         requires peeked { HasPeeked self.old.text.now run (8 * run + 4) self.old }
         ensures text { self.new.text ≡ self.old.text }
         ensures ahead { IfOk result (λ given. TakesNext self.old given self.new) }
         ensures memory { OnErr result (HasSomething self.old) }
+        ensures less { OnOk result (left_to_read self.old.text.now self.new self.new.stage < left_to_read self.old.text.now self.old self.old.stage) }
         ensures reads { OnOk result (HasRead self.old.text.now self.new) }
     {
         match self.nesting.mode() {
@@ -1336,15 +1329,13 @@ impl<'a> Reader<'a> {
 
     /// Reads what lookahead has found. Returns its lexeme; `None` where it has none, or is a fault.
     #[inline(always)]
-    fn read_found(
-        &mut self,
-        lookahead: Lookahead,
-    ) -> Result<Option<(usize, Token, usize)>, AllocError>
+    fn read_found(&mut self, lookahead: Lookahead) -> Result<Option<Lexeme>, AllocError>
         requires sound { IsSound self.old }
         requires found { IsFoundAt self.old.text.now self.old lookahead }
         ensures text { self.new.text ≡ self.old.text }
         ensures ahead { IfOk result (λ given. TakesNext self.old given self.new) }
         ensures memory { OnErr result (HasSomething self.old) }
+        ensures less { OnOk result (2 * left_to_read self.old.text.now self.new self.new.stage < 2 * left_to_read self.old.text.now self.old self.old.stage + left_to_look lookahead.found) }
         ensures reads { OnOk result (HasRead self.old.text.now self.new) }
     {
         match lookahead.found {
@@ -1357,38 +1348,9 @@ impl<'a> Reader<'a> {
         }
     }
 
-    /// The next lexeme of the text, where lookahead has found nothing.
-    fn next_unseen(&mut self) -> Result<Option<(usize, Token, usize)>, AllocError>
-        requires { IsSound self.old }
-        ensures text { self.new.text ≡ self.old.text }
-        ensures next { IfOk result (λ given. TakesNext self.old given self.new) }
-        ensures end { IfOk result (λ given. given ≡ None → IsAtEnd self.old.text.now self.new) }
-        ensures memory { OnErr result (HasSomething self.old) }
-        ensures reads { OnOk result (HasReadAt self.old.text.now self.old self.old.stage → HasRead self.old.text.now self.new) }
-    {
-        loop {
-            if let Some(lexeme) = self.pending.next(&mut self.reads, self.alloc, self.text)? {
-                return Ok(Some(lexeme));
-            }
-            match self.stage {
-                Stage::Begin => self.read_first_margin()?,
-                Stage::Onward => {
-                    if let Some(lexeme) = self.read_piece()? {
-                        return Ok(Some(lexeme));
-                    }
-                }
-                Stage::Fault { .. } | Stage::Closed => return Ok(None),
-            }
-        }
-    }
-
     /// The next lexeme of the text, which begins with what lookahead has found; `None` where none is
     /// left, but maybe the text's fault. Don't use the reader after an `AllocError`.
-    #[inline(always)]
-    pub fn next(
-        &mut self,
-        lookahead: Lookahead,
-    ) -> Result<Option<(usize, Token, usize)>, AllocError>
+    pub fn next(&mut self, lookahead: Lookahead) -> Result<Option<Lexeme>, AllocError>
         requires sound { IsSound self.old }
         requires found { IsFoundAt self.old.text.now self.old lookahead }
         ensures text { self.new.text ≡ self.old.text }
@@ -1397,9 +1359,22 @@ impl<'a> Reader<'a> {
         ensures memory { OnErr result (HasSomething self.old) }
         ensures reads { OnOk result (HasRead self.old.text.now self.new) }
     {
-        if let Some(lexeme) = self.read_found(lookahead)? {
-            return Ok(Some(lexeme));
+        let mut here = lookahead;
+        loop {
+            if let Some(lexeme) = self.read_found(here)? {
+                return Ok(Some(lexeme));
+            }
+            if let Some(lexeme) = self.pending.next(&mut self.reads, self.alloc, self.text)? {
+                return Ok(Some(lexeme));
+            }
+            match self.stage {
+                Stage::Begin => {
+                    self.read_first_margin()?;
+                    here.found = Found::All;
+                }
+                Stage::Onward => here = self.look(),
+                Stage::Fault { .. } | Stage::Closed => return Ok(None),
+            }
         }
-        self.next_unseen()
     }
 }

@@ -11,7 +11,7 @@ use Rattle.starlark_reader.specs.Inner.Reader.{HasSomething, IsAhead, IsAheadAft
 use Rattle.starlark_reader.proofs.TakenPieces.PieceTaken.{left_onward, onward_ahead, onward_past}
 use Rattle.starlark_reader.proofs.TakenPieces.ReaderReads.{reads_ahead}
 use Rattle.starlark_reader.specs.Inner.Pending.{IsIdle}
-use Rattle.starlark_reader.specs.Inner.ReadBounds.{HasRead, HasReadAt}
+use Rattle.starlark_reader.specs.Inner.ReadBounds.{HasReadAt}
 use Rattle.starlark_reader.specs.declared.reader.Reader.{Reader}
 use Rattle.starlark_reader.specs.declared.reader.Stage.{Stage}
 use Rattle.starlark_reader.specs.declared.reader.Stage.TheVariants as stages
@@ -74,10 +74,6 @@ none_given (Some lexeme) old new none takes = absurd (none lexeme refl)
 
 pub code_after : (old new : Reader) → new.text ≡ old.text → IsAtCode old.text.now new → IsAtCode new.text.now new
 code_after old new same = subst (λ (t : Text). IsAtCode t new) (sym (ap (λ t. t.now) same))
-
--- what a call reads is paid for
-pub same_reads : (old mid new : Reader) → mid.text ≡ old.text → (HasReadAt mid.text.now mid mid.stage → HasRead mid.text.now new) → HasReadAt old.text.now mid mid.stage → HasRead old.text.now new
-same_reads old mid new same = subst (λ (t : Text). HasReadAt t mid mid.stage → HasRead t new) (ap (λ t. t.now) same)
 
 -- What is ahead in a text doesn't depend on the text that the reader borrows
 

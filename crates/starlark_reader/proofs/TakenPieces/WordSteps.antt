@@ -5,7 +5,7 @@ use Rattle.std.proofs.lemmas.Str.{IsUtf8-drop}
 use Rattle.starlark_grammar.specs.AfterFaults.{next_line}
 use Rattle.starlark_grammar.specs.Cuts.{is_outside}
 use Rattle.starlark_grammar.specs.Depths.{InText, Mode, mode_after}
-use Rattle.starlark_grammar.specs.Front.{language_front}
+use Rattle.starlark_grammar.specs.Front.{language_front, longest_front}
 use Rattle.starlark_grammar.specs.Inner.Openings.{opening_view}
 use Rattle.starlark_grammar.specs.Items.{Literal}
 use Rattle.starlark_grammar.specs.FrontCharacter.{first_character}
@@ -31,12 +31,12 @@ use Rattle.starlark_reader.specs.Inner.PieceViews.{is_code}
 use Rattle.starlark_reader.specs.declared.nesting.LexerMode.{LexerMode}
 use Rattle.starlark_reader.specs.declared.nesting.LexerMode.TheVariants as modes
 use Rattle.starlark_reader.specs.Inner.ReadBounds.{AreWordReads, HasRead, IsPassed, LeavesReads}
-use Rattle.starlark_reader.specs.Inner.Reader.{IsAhead, IsInCode, IsReady, IsSound, IsStateAfter, IsText, IsWordHere, left_to_read, step_here}
+use Rattle.starlark_reader.specs.Inner.Reader.{IsInCode, IsSound, IsStateAfter, IsWordHere, left_to_read, step_here}
 use Rattle.starlark_reader.specs.Inner.StepViews.{IsFaultWord, IsStep}
 use Rattle.starlark_reader.specs.declared.literal.pieces.Step.{Step}
 use Rattle.starlark_reader.specs.declared.reader.Reader.{Reader}
 use Rattle.starlark_reader.specs.declared.reader.Stage.TheVariants as stages
-use Rattle.starlark_reader.proofs.TakenPieces.SameTexts.{looked_sound, state_here}
+use Rattle.starlark_reader.proofs.TakenPieces.SameTexts.{state_here}
 use Rattle.starlark_reader.proofs.NextLines.{front_line}
 use Rattle.starlark_reader.proofs.TakenPieces.CodePlaces.{code_at, in_code_none, in_text, word_cut, word_len}
 use Rattle.starlark_reader.proofs.TakenPieces.PieceReads.{whole_reads}
@@ -116,6 +116,12 @@ end_here text history reader kept code at = none_in_code text history reader kep
     none_left [] none = refl
     none_left (b ∷ bs) none = cc
 
+-- (where no word begins, too)
+pub no_front : (rest : Text) → length rest ≡ 0 → language_front rest ≡ None
+unfolding language_front longest_front
+no_front [] none = refl
+no_front (b ∷ bs) none = cc
+
 -- … and before it, where no bang is
 pub none_here : (text : Text) (history : History) (reader : Reader) → IsStateAfter text history reader → IsInCode reader → 0 < length (drop reader.at text) → language_front (drop reader.at text) ≡ None
     → (takes_bang (mode_after history.tokens) history.before && is_bang (drop reader.at text)) ≡ false → step_here text history reader ≡ fault 0 (InvalidInput (first_character (drop reader.at text))) (length (first_character (drop reader.at text)))
@@ -136,11 +142,6 @@ code_here reader mode here other = λ tokens stored. ap is_code (sym (here token
     go (modes.InText opening) other = absurd (other opening refl)
     go modes.AtTop other = refl
     go modes.Deeper other = refl
-
--- between two pieces a reader is as a call needs it, however much was read
-pub sound_here : (reader : Reader) (reads : ℕ) → IsText reader.text.now → reader.stage ≡ stages.Onward → IsReady reader.text.now reader stages.Onward → IsSound (record reader { reads = reads })
-sound_here reader reads text onward ready =
-    looked_sound reader reads (record { text = text; ready = (ready.0, ready.1, subst (λ s. IsAhead reader.text.now reader s ready.0 ready.1) (sym onward) ready.2) })
 
 -- no byte after an opener is known yet
 pub none_known : (reader : Reader) (kind : LiteralKind) (is_raw : Bool) (quote : Quote) (len : ℕ) (literal : Literal) → IsSound reader → IsWordHere reader.text.now reader (record { class = class.Opener kind is_raw quote; len = len })

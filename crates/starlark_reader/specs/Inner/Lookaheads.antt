@@ -60,3 +60,9 @@ is_nothing it = false
 abbrev pub is_all : Found → Bool
 is_all found.All = true
 is_all it = false
+
+-- whether the reader looks before it takes a lexeme
+abbrev pub left_to_look : Found → ℕ
+left_to_look found.Nothing = 1
+left_to_look found.All = 1
+left_to_look it = 0
