@@ -3,10 +3,10 @@
 -- NextLines: lines: the next line, and where lexing begins again.
 -- ReadLiterals/LiteralPieces, Chunks: whole literals: text, bytes and f-string texts as pieces.
 -- TakenMargins/Blanks, MarginLines, PlainMargins: blanks: one pass over a margin; margins of spaces alone.
--- TakenMargins/CommentLines, CommentBlanks, Pending: comments: the comment of a line, and of a range of lines.
+-- TakenMargins/Pending: comments: the comment of a line, and of a range of lines.
 -- TakenMargins/Waiting: pending lexemes: those that are still to be returned.
 -- TakenMargins/Indents, LaidMargins: indents: `Indent` and `Dedent` by the open widths; what a margin does.
--- TakenMargins/KeptWidths, TakenWidths: indentation stack: what the greatest widths say of all, since they rise.
+-- TakenMargins/TakenWidths: indentation stack: what the greatest widths say of all, since they rise.
 -- OpenBrackets/BracketCounts: brackets: bracket depth, one token further.
 -- OpenBrackets/OpenFStrings: f-strings: the stack is the open f-strings of the tokens.
 -- TakenPieces/CodePlaces: code: the word at an offset decides.

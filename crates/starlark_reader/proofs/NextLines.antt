@@ -18,13 +18,12 @@ in_line b = not (is_lf b)
 
 -- a run passes some bytes, and then the run after them
 passes_later : (p : ℕ → Bool) (n : ℕ) (text : Text) → prefix_len p text ≤ n + prefix_len p (drop n text)
-passes_later p zero text = omega arith
-passes_later p (suc n) [] = omega arith
 passes_later p (suc n) (b ∷ bs) = by (p b) (passes_later p n bs)
   where
     by : (test : Bool) → prefix_len p bs ≤ n + prefix_len p (drop n bs) → cond test (1 + prefix_len p bs) 0 ≤ suc n + prefix_len p (drop n bs)
     by true more = omega (arith, more)
     by false more = omega arith
+passes_later p n text = omega arith
 
 pub next_line_inside : (text : Text) (at : ℕ) → next_line text at ≤ length text
 unfolding next_line
@@ -37,17 +36,12 @@ next_line_least text at inside = omega (arith, inside)
 pub next_line_later : (text : Text) (at more : ℕ) → at ≤ more → next_line text at ≤ next_line text more
 unfolding next_line
 next_line_later text at more less =
-    let later = passes_later in_line (more - at) (drop at text) in
     let same : at + (more - at) ≡ more = omega (arith, less) in
-    let rest = sym (drop-sum at (more - at) text) ∙ ap (λ n. drop n text) same in
-    let len = ap (prefix_len in_line) rest in
-    omega (arith, later, len, less)
+    omega (arith, passes_later in_line (more - at) (drop at text), ap (prefix_len in_line) (sym (drop-sum at (more - at) text) ∙ ap (λ n. drop n text) same), less)
 
 pub next_line_drop : (text : Text) (at n : ℕ) → at ≤ length text → next_line text (at + n) ≡ at + next_line (drop at text) n
 unfolding next_line
-next_line_drop text at n inside =
-    let rest = ap (prefix_len in_line) (drop-sum at n text) in
-    omega (arith, rest, length-drop at text, inside)
+next_line_drop text at n inside = omega (arith, ap (prefix_len in_line) (drop-sum at n text), length-drop at text, inside)
 
 -- the line of an offset is the first of the rest from there on
 pub rest_line : (text : Text) (at : ℕ) → at ≤ length text → at + next_line (drop at text) 0 ≡ next_line text at
@@ -60,38 +54,24 @@ pub first_line : (text : Text) (n : ℕ) → n ≤ prefix_len in_line text → n
 unfolding next_line
 first_line text n few = omega (arith, few, prefix_len-le-length in_line text)
 
+-- a front begins with no longer a run than the text
+pub front_run : (p : ℕ → Bool) (n : ℕ) (text : Text) → prefix_len p (take n text) ≤ prefix_len p text
+front_run p (suc n) (b ∷ bs) = by (p b) (front_run p n bs)
+  where
+    by : (test : Bool) → prefix_len p (take n bs) ≤ prefix_len p bs → cond test (1 + prefix_len p (take n bs)) 0 ≤ cond test (1 + prefix_len p bs) 0
+    by true more = omega (arith, more)
+    by false more = omega arith
+front_run p n text = omega arith
+
 -- the first line of a front is no longer than that of the text
 pub front_line : (text : Text) (n : ℕ) → next_line (take n text) 0 ≤ next_line text 0
 unfolding next_line
-front_line text n = omega (arith, shorter n text, (take_fits n text).0)
-  where
-    shorter : (n : ℕ) (text : Text) → prefix_len in_line (take n text) ≤ prefix_len in_line text
-    shorter zero text = omega arith
-    shorter (suc n) [] = omega arith
-    shorter (suc n) (b ∷ bs) = by (in_line b) (shorter n bs)
-      where
-        by : (test : Bool) → prefix_len in_line (take n bs) ≤ prefix_len in_line bs → cond test (1 + prefix_len in_line (take n bs)) 0 ≤ cond test (1 + prefix_len in_line bs) 0
-        by true more = omega (arith, more)
-        by false more = omega arith
+front_line text n = omega (arith, front_run in_line n text, (take_fits n text).0)
 
 -- Words in a line
 
 plain_byte : (b : ℕ) → is_in_line b ≡ true → in_line b ≡ true
 plain_byte b plain = (and_parts (not (b == 13)) (not (b == 10)) plain).1
-
--- a run after bytes that are in a line goes on for them too
-run_after : (n : ℕ) (text : Text) → n ≤ length text → list_all is_in_line (take n text) ≡ true → n + prefix_len in_line (drop n text) ≤ prefix_len in_line text
-run_after zero text inside plain = omega arith
-run_after (suc n) [] inside plain = absurd (omega (arith, inside))
-run_after (suc n) (b ∷ bs) inside plain =
-    let parts = and_parts (is_in_line b) (list_all is_in_line (take n bs)) plain in
-    let more = run_after n bs (omega (arith, inside)) parts.1 in
-    rw (plain_byte b parts.0) (omega (arith, more))
-
--- a line goes on after a word that is in it
-pub line_after : (n : ℕ) (text : Text) → n ≤ length text → list_all is_in_line (take n text) ≡ true → n + next_line (drop n text) 0 ≤ next_line text 0
-unfolding next_line
-line_after n text inside plain = omega (arith, inside, run_after n text inside plain, length-drop n text)
 
 -- a word of tabs is a line's
 pub tabs_line : (word : Text) → class_in language word ≡ Some class.Tabs → length word ≤ next_line word 0
@@ -101,8 +81,7 @@ tabs_line word known = first_line word (length word) (whole word (language_lines
     whole [] plain = omega arith
     whole (b ∷ bs) plain =
         let parts = and_parts (is_in_line b) (list_all is_in_line bs) plain in
-        let more = whole bs parts.1 in
-        rw (plain_byte b parts.0) (omega (arith, more))
+        rw (plain_byte b parts.0) (omega (arith, whole bs parts.1))
 
 -- Restarts
 
@@ -124,9 +103,7 @@ restart_end text fault inside = by fault.end refl
   where
     by : (end : ℕ) → fault.end ≡ end → fault.end ≤ restart text fault
     by zero e = omega (arith, e)
-    by (suc end) e =
-        let least = next_line_least text (fault.end - 1) (omega (arith, e, inside)) in
-        omega (arith, e, least, restart_at text fault (fault.end - 1) (stopped_end text fault))
+    by (suc end) e = omega (arith, e, next_line_least text (fault.end - 1) (omega (arith, e, inside)), restart_at text fault (fault.end - 1) (stopped_end text fault))
 
 pub restart_line : (text : Text) (fault : Spanned Fault) → next_line text fault.begin ≤ restart text fault
 restart_line text fault = restart_at text fault fault.begin (stopped_past text fault)

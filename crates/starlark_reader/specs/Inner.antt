@@ -1,5 +1,4 @@
 -- Definitions that only contracts of inner functions, and proofs, cite.
-pub mod TextEnds
 pub mod Pending
 pub mod MarginLines
 pub mod MarginViews

@@ -5,8 +5,6 @@
 //! content of a line: comment-only lines, and then the blanks of the line (`margins`, `widths`).
 #![tactic(auto)]
 
-mod bracket_counts;
-mod changes;
 mod comments;
 mod indent_stack;
 mod lf_search;
@@ -17,7 +15,6 @@ mod nesting;
 mod pending;
 pub mod reader;
 mod reading;
-mod text_end;
 mod widths;
 
 pub use margins::margin_of;

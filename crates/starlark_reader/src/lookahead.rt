@@ -1,7 +1,7 @@
 //! What a look at the reader's offset has found, before a lexeme is taken there.
 
 ghost use Rattle.std.specs.Prelude.{◌≡◌};
-ghost use Rattle.starlark_reader.specs.Inner.Lookaheads.{is_all, is_nothing};
+ghost use Rattle.starlark_reader.specs.Inner.Lookaheads.{is_nothing};
 
 use starlark_words::scanner::{Class, Word};
 
@@ -10,10 +10,9 @@ use starlark_words::scanner::{Class, Word};
 pub enum Found {
     /// Nothing yet. The reader is in code, and no token is pending.
     Nothing,
-    /// In code: a word that its first two bytes tell.
-    Named,
-    /// In code: any word.
-    Unnamed,
+    /// In code: a word that is neither a name, a symbol, a line end, a skipped piece nor the opener of a
+    /// string.
+    Word,
     /// In code: that no word begins there.
     Wordless,
     /// In code: the opener of a string or bytes literal, and a run without escapes after it.
@@ -31,14 +30,6 @@ impl Found {
         ensures { result ≡ is_nothing self }
     {
         matches!(self, Found::Nothing)
-    }
-
-    /// Whether nothing that was found is to be taken.
-    #[inline(always)]
-    pub fn is_all(self) -> bool
-        ensures { result ≡ is_all self }
-    {
-        matches!(self, Found::All)
     }
 }
 

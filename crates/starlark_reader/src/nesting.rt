@@ -1,14 +1,14 @@
 //! The nesting of brackets and f-strings at an offset of a text.
 
-ghost use Rattle.std.specs.Prelude.{◌≡◌, ◌+◌, ◌<◌, ◌≤◌, ◌^◌, ◌∷◌, [], List, false, OnErr, OnOk};
-ghost use Rattle.starlark_grammar.specs.Depths.{is_balanced, mode_after};
-ghost use Rattle.starlark_reader.specs.Inner.Nesting.{IsUnchanged, Represents, bracket_count, change_by, is_fstring_start, mode_view};
+ghost use Rattle.std.specs.Prelude.{◌≡◌, ◌+◌, ◌<◌, ◌≤◌, ◌^◌, ◌∷◌, [], List, false, true, OnErr, OnOk};
+ghost use Rattle.starlark_grammar.specs.Depths.{Curly, is_balanced, is_opening, mode_after};
+ghost use Rattle.starlark_reader.specs.Inner.Nesting.{HasRoom, IsUnchanged, Represents, bracket_count, fstring_after, fstring_view, is_fstring_start, keeps_nesting, mode_view};
+ghost use Rattle.starlark_reader.specs.Inner.PieceViews.{is_code};
 ghost use Rattle.starlark_grammar.specs.Inner.Openings.{opening_view};
 ghost use Rattle.starlark_token.specs.TokenViews.{Whole, token_view};
+ghost use Rattle.starlark_grammar.specs.Pieces.{counts};
 ghost use Rattle.starlark_grammar.specs.Tokens as grammar;
 
-use crate::bracket_counts::{Brackets, OpenFString};
-use crate::changes::{NestingChange, change_of};
 use starlark_grammar::class::Opening;
 use starlark_token::tokens::Token;
 use std::alloc::{AllocError, Global};
@@ -26,11 +26,45 @@ pub enum LexerMode {
     Deeper,
 }
 
+/// An open f-string.
+///
+/// `braces` counts the `{` of its open expression and those open in it; it is 0 in the text.
+/// `rounds` and `squares` are depths in the whole f-string.
+#[derive(Clone, Copy)]
+pub struct OpenFString {
+    opening: Opening,
+    braces: usize,
+    rounds: usize,
+    squares: usize,
+}
+
+impl OpenFString {
+    /// Advances past one more of its tokens.
+    #[tactic(auto, unfolding(starlark_token::specs::TokenViews::token_view))]
+    #[inline(always)]
+    fn pass(&mut self, token: &Token)
+        ensures { HasRoom self.old → fstring_view self.new ≡ fstring_after (token_view token.now) (fstring_view self.old) }
+    {
+        match token {
+            Token::OpeningRound => self.rounds = self.rounds.saturating_add(1),
+            Token::ClosingRound => self.rounds = self.rounds.saturating_sub(1),
+            Token::OpeningSquare => self.squares = self.squares.saturating_add(1),
+            Token::ClosingSquare => self.squares = self.squares.saturating_sub(1),
+            Token::OpeningCurly => self.braces = self.braces.saturating_add(1),
+            Token::ClosingCurly => self.braces = self.braces.saturating_sub(1),
+            Token::FStringExprStart => self.braces = 1,
+            Token::FStringExprEnd => self.braces = 0,
+            _ => {}
+        }
+    }
+}
+
 /// The open f-strings, the innermost last, and how many brackets were opened and closed so far.
 #[derive(Drop)]
 pub struct Nesting {
     fstrings: Vec<OpenFString>,
-    brackets: Brackets,
+    opened: usize,
+    closed: usize,
 }
 
 impl Nesting {
@@ -41,7 +75,8 @@ impl Nesting {
     {
         Nesting {
             fstrings: Vec::new(alloc),
-            brackets: Brackets::new(),
+            opened: 0,
+            closed: 0,
         }
     }
 
@@ -50,37 +85,48 @@ impl Nesting {
     pub(crate) fn mode(&self) -> LexerMode
         ensures { (tokens : List grammar.Token) → Represents tokens self.now → mode_view result ≡ mode_after tokens }
     {
-        match self.fstrings.last() {
-            None => LexerMode::Outside,
-            Some(innermost) => innermost.mode(),
+        let Some(innermost) = self.fstrings.last() else {
+            return LexerMode::Outside;
+        };
+        if innermost.braces == 0 {
+            LexerMode::InText(innermost.opening)
+        } else if innermost.braces == 1 && innermost.rounds == 0 && innermost.squares == 0 {
+            LexerMode::AtTop
+        } else {
+            LexerMode::Deeper
         }
     }
 
-    /// Whether as many brackets were opened as closed, whatever their shapes.
-    pub(crate) fn is_balanced(&self) -> bool
-        ensures { (tokens : List grammar.Token) → Represents tokens self.now → result ≡ is_balanced tokens }
+    /// Whether newlines count: no f-string is open, and as many brackets were opened as closed,
+    /// whatever their shapes.
+    #[inline(always)]
+    pub(crate) fn counts_line_ends(&self) -> bool
+        ensures { (tokens : List grammar.Token) → Represents tokens self.now → result ≡ counts (mode_after tokens) (is_balanced tokens) }
     {
-        self.brackets.opened == self.brackets.closed
+        matches!(self.mode(), LexerMode::Outside) && self.opened == self.closed
     }
 
     /// Advances past a token that begins no f-string.
     #[inline(always)]
     pub(crate) fn pass(&mut self, token: &Token)
-        requires room { bracket_count self.old + 1 < 2 ^ 64 }
-        ensures passes { (tokens : List grammar.Token) (node : grammar.Token) → token_view token.now ≡ Whole node → is_fstring_start node ≡ false →
+        requires room { bracket_count self.old + 2 < 2 ^ 64 }
+        ensures passes { (tokens : List grammar.Token) (node : grammar.Token) → token_view token.now ≡ Whole node → is_fstring_start node ≡ false → (is_opening Curly node ≡ true → is_code (mode_after tokens) ≡ true) →
             Represents tokens self.old → Represents (node ∷ tokens) self.new }
         ensures count { bracket_count self.new ≤ bracket_count self.old + 1 }
-        ensures stays { change_by (token_view token.now) ≡ NestingChange.Nothing → self.new ≡ self.old }
+        ensures stays { keeps_nesting (token_view token.now) ≡ true → self.new ≡ self.old }
     {
-        let change = change_of(token);
-        if change == NestingChange::Nothing {
-            return;
+        match token {
+            Token::OpeningRound | Token::OpeningSquare | Token::OpeningCurly => self.opened += 1,
+            Token::ClosingRound | Token::ClosingSquare | Token::ClosingCurly => self.closed += 1,
+            Token::FStringEnd => {
+                self.fstrings.pop();
+                return;
+            }
+            Token::FStringExprStart | Token::FStringExprEnd => {}
+            _ => return,
         }
-        self.brackets.count(change);
-        if change == NestingChange::EndsFString {
-            self.fstrings.pop();
-        } else if let Some(innermost) = self.fstrings.last_mut() {
-            innermost.pass(change);
+        if let Some(innermost) = self.fstrings.last_mut() {
+            innermost.pass(token);
         }
     }
 
@@ -90,7 +136,12 @@ impl Nesting {
         ensures stays { OnErr result (IsUnchanged self.old self.new) }
         ensures count { bracket_count self.new ≡ bracket_count self.old }
     {
-        self.fstrings.push(OpenFString::new(opening))?;
+        self.fstrings.push(OpenFString {
+            opening,
+            braces: 0,
+            rounds: 0,
+            squares: 0,
+        })?;
         Ok(())
     }
 }

@@ -4,14 +4,13 @@ ghost use Rattle.std.specs.Prelude.{◌≡◌, ◌<◌, ◌≤◌, ◌+◌, ◌*
 ghost use Rattle.starlark_reader.specs.Inner.Pending.{IsCommentIn, IsFirst, IsFirstAfter, IsFirstPast, IsMark, IsPending, comment_lexeme, lexemes_after, owed, pending_lexemes};
 ghost use Rattle.starlark_reader.specs.Inner.MarginLines.{IsLinePassed, IsPassedLine};
 ghost use Rattle.starlark_grammar.specs.Words.{Text};
-ghost use Rattle.starlark_token.specs.TokenViews.{token_view};
+ghost use Rattle.starlark_reader.specs.Inner.PieceViews.{text_end};
+ghost use Rattle.starlark_token.specs.TokenViews.{Whole, token_view};
 ghost use Rattle.starlark_words.specs.Inner.Reads.{more_reads};
 
 use crate::comments::first_comment;
-use crate::text_end::TextEnd;
 use starlark_token::tokens::Token;
 use starlark_words::reads::ReadCounter;
-use std::alloc::{AllocError, Global};
 
 /// The lexemes that are pending after the comments. Offsets count bytes.
 #[derive(Clone, Copy)]
@@ -26,10 +25,10 @@ pub enum AfterComments {
         begin: usize,
         end: usize,
     },
-    /// The token that ends a text of an f-string.
+    /// What ends a text of an f-string.
     TextEnd {
         begin: usize,
-        stop: TextEnd,
+        before_expression: bool,
         end: usize,
     },
 }
@@ -47,6 +46,18 @@ pub struct Pending {
     pub remainder: AfterComments,
     /// Whether no indent is open before the comments, and no lexeme after them was yielded yet.
     pub is_flat: bool,
+}
+
+/// What ends a text of an f-string: the `{` before an expression, or the closing quotes.
+#[tactic(auto, unfolding(starlark_token::specs::TokenViews::token_view))]
+pub(crate) fn text_end(before_expression: bool) -> Token
+    ensures { token_view result ≡ Whole (text_end before_expression) }
+{
+    if before_expression {
+        Token::FStringExprStart
+    } else {
+        Token::FStringEnd
+    }
 }
 
 impl AfterComments {
@@ -73,9 +84,13 @@ impl AfterComments {
                 *self = AfterComments::nothing();
                 Some((begin, Token::Indent, end))
             }
-            AfterComments::TextEnd { begin, stop, end } => {
+            AfterComments::TextEnd {
+                begin,
+                before_expression,
+                end,
+            } => {
                 *self = AfterComments::nothing();
-                Some((begin, stop.token(), end))
+                Some((begin, text_end(before_expression), end))
             }
         }
     }
@@ -133,27 +148,6 @@ impl Pending {
         self.from < self.to
     }
 
-    /// Takes the first pending comment. Nothing pending changes on `AllocError`.
-    #[inline(always)]
-    pub(crate) fn next_comment(
-        &mut self,
-        reads: &mut ReadCounter,
-        alloc: Global,
-        text: &str,
-    ) -> Result<(usize, Token, usize), AllocError>
-        requires some { self.old.from < self.old.to }
-        requires pending { IsPending text.now self.old }
-        ensures next { IfOk result (λ first. IsFirst text.now self.old self.new (Some first)) }
-        ensures lines { IfOk result (λ first. IsLinePassed text.now self.old self.new (Some first)) }
-        ensures flat { OnOk result (self.new.is_flat ≡ self.old.is_flat) }
-        ensures reads { IfOk result (λ first. (more_reads reads.old 0 ≤ reads.new) × (reads.new + 5 * owed self.new ≤ reads.old + 5 * owed self.old)) }
-    {
-        let line = first_comment(reads, text, self.from, self.to);
-        let value = String::from_str(alloc, &text[line.begin + 1..line.end])?;
-        self.from += line.len;
-        Ok((line.begin, Token::Comment(value), line.end))
-    }
-
     /// Passes the first pending comment. Returns the offsets where it begins and ends.
     #[inline(always)]
     pub(crate) fn pass_comment(&mut self, reads: &mut ReadCounter, text: &str) -> (usize, usize)
@@ -185,27 +179,5 @@ impl Pending {
         };
         self.is_flat = false;
         Some(first)
-    }
-
-    /// Takes the first pending lexeme; `None` if there is none. Nothing pending changes on
-    /// `AllocError`.
-    pub(crate) fn next(
-        &mut self,
-        reads: &mut ReadCounter,
-        alloc: Global,
-        text: &str,
-    ) -> Result<Option<(usize, Token, usize)>, AllocError>
-        requires { IsPending text.now self.old }
-        ensures next { IfOk result (λ first. IsFirst text.now self.old self.new first) }
-        ensures memory { OnErr result (pending_lexemes text.now self.old ≡ [] → ⊥) }
-        ensures lines { IfOk result (λ first. IsLinePassed text.now self.old self.new first) }
-        ensures flat { OnOk result (self.old.from < self.old.to → self.new.is_flat ≡ self.old.is_flat) }
-        ensures reads { IfOk result (λ first. (more_reads reads.old 0 ≤ reads.new) × (reads.new + 5 * owed self.new ≤ reads.old + 5 * owed self.old)) }
-    {
-        if self.has_comments() {
-            Ok(Some(self.next_comment(reads, alloc, text)?))
-        } else {
-            Ok(self.next_mark())
-        }
     }
 }

@@ -4,12 +4,12 @@ ghost use Rattle.std.specs.Prelude.{◌&&◌, ◌≡◌, ◌≢◌, true, false,
 ghost use Rattle.std.specs.List.{ends_with};
 ghost use Rattle.std.specs.Str.{IsCharBoundary};
 ghost use Rattle.starlark_words.specs.Inner.Reads.{AreReads, more_reads};
-ghost use Rattle.starlark_reader.specs.Inner.StepViews.{IsDigitAt, IsFaultWord, IsStep};
+ghost use Rattle.starlark_reader.specs.Inner.StepViews.{IsDigitAt, IsFaultWord, IsStep, text_step};
 ghost use Rattle.starlark_token.specs.Lexemes.{shown_lexeme};
 ghost use Rattle.starlark_words.specs.Inner.LiteralViews.{IsPlainBody, fstring_literal, single_literal};
 ghost use Rattle.starlark_words.specs.Inner.PlainRuns.{IsRun};
 ghost use Rattle.starlark_grammar.specs.Inner.Openings.{opening_view};
-ghost use Rattle.starlark_words.specs.Inner.ScannedWords.{is_number, word_len};
+ghost use Rattle.starlark_words.specs.Inner.ScannedWords.{begins_mark, is_common, is_number, word_len};
 ghost use Rattle.starlark_grammar.specs.Margins.{margin_of, open_widths};
 ghost use Rattle.starlark_reader.specs.Inner.MarginViews.{IsMargin, spaces_margin};
 ghost use Rattle.starlark_grammar.specs.Pieces as grammar;
@@ -19,9 +19,9 @@ ghost use Rattle.starlark_grammar.specs.declared.class.LiteralKind.TheVariants.{
 ghost use Rattle.starlark_reader.specs.Inner.Pending.{IsCommentIn, IsIdle, IsMark, IsPending, comment_lexeme, owed, pending_lexemes};
 ghost use Rattle.starlark_reader.specs.Inner.MarginCuts.{IsCutBefore};
 ghost use Rattle.starlark_reader.specs.Inner.ReadBounds.{HasStarted, HasLooked, HasLookedHere, HasRead, HasReadAt, HasReadLast, IsMarginRead, IsPassed, IsPassedBy, IsTaken};
-ghost use Rattle.starlark_reader.specs.Inner.Reader.{HasSomething, IsText, IsAtLineEnd, IsAtStep, IsLineEndStep, IsSound, KeepsAhead, PassesNext, Takes, TakesNext, CountsLineEnds, has_read_none, is_fault, IsAhead, IsAheadAfter, IsAheadPast, IsAtCode, IsBangHere, IsInCode, IsInFlatMargin, IsReached, IsStateAfter, IsStateAtFault, IsAtEnd, IsLast, IsPlainTextHere, IsRead, IsReady, IsSomething, IsTokenOf, IsWordHere, before_margin, before_view, begins_with_tab, fstring_text_lexeme, left_here, left_to_read, name_lexeme, newline_if, newline_of, step_here, text_lexeme};
-ghost use Rattle.starlark_reader.specs.Inner.PieceViews.{IsAfter, IsLineEnd};
-ghost use Rattle.starlark_reader.specs.Inner.Lookaheads.{HasPeeked, IsFoundAt, IsTextRun, left_to_look};
+ghost use Rattle.starlark_reader.specs.Inner.Reader.{HasSomething, IsText, IsAtLineEnd, IsAtStep, IsLineEndStep, IsSound, KeepsAhead, PassesNext, Takes, TakesNext, has_read_none, is_begin, is_fault, is_onward, IsAhead, IsAheadAfter, IsAheadPast, IsAtCode, IsBangHere, IsInCode, IsInFlatMargin, IsReached, IsStateAfter, IsStateAtFault, IsAtEnd, IsLast, IsPlainTextHere, IsRead, IsReadPast, IsReady, IsSomething, IsTokenOf, IsWordHere, before_margin, before_view, begins_with_tab, chunk_lexemes, fstring_text_lexeme, left_here, left_to_read, name_lexeme, newline_if, newline_of, step_here, text_lexeme};
+ghost use Rattle.starlark_reader.specs.Inner.PieceViews.{IsLineEnd};
+ghost use Rattle.starlark_reader.specs.Inner.Lookaheads.{HasPeeked, IsFoundAt, IsLooked, IsTextRun};
 ghost use Rattle.starlark_grammar.specs.Cuts.{is_layout, is_settled};
 ghost use Rattle.starlark_grammar.specs.Found.{passed_count};
 ghost use Rattle.starlark_grammar.specs.RepairLaws.{KeepsLine};
@@ -32,30 +32,26 @@ ghost use Rattle.starlark_grammar.specs.Tokens as grammar_tokens;
 ghost use Rattle.starlark_grammar.specs.Tokens.{FStringStart, Fault, Spanned};
 ghost use Rattle.starlark_grammar.specs.Depths.{InText, mode_after};
 ghost use Rattle.starlark_grammar.specs.Front.{language_front};
-ghost use Rattle.starlark_reader.specs.Inner.Nesting.{Represents, change_by};
-ghost use Rattle.starlark_reader.specs.declared.changes.NestingChange.TheVariants as change;
+ghost use Rattle.starlark_reader.specs.Inner.Nesting.{Represents, keeps_nesting};
 ghost use Rattle.starlark_grammar.specs.Words.{Text, begins, is_name_start};
 
 use crate::indent_stack::IndentStack;
 use crate::literal::{
-    Opening, PlainText, Step, chunk_from, literal_piece, opening_of, plain_text, quotes_of,
+    Chunk, Opening, Step, chunk_from, literal_piece, opening_of, plain_text, quotes_of,
 };
 use crate::lookahead::{Found, Lookahead};
 use crate::margins::{Margin, margin_of, plain_margin};
 use crate::nesting::{LexerMode, Nesting};
-use crate::pending::{AfterComments, Pending};
-use crate::reading::code::{gap_len, is_code};
-use crate::reading::terminals::token_in;
+use crate::pending::{AfterComments, Pending, text_end};
+use crate::reading::terminals::own_token;
 use crate::reading::words::{digit_token, fault_step, number_token, starts_zero};
-use crate::reading::{bang_stands, invalid_input, is_outside, line_end_counts};
-use crate::text_end::TextEnd;
 use crate::widths::{keep_margin, keeps_widths, margin_fault, take_margin};
 use starlark_token::lexeme_error::LexemeError;
 use starlark_token::tokens::Token;
 use starlark_words::plain_body_len;
 use starlark_words::reads::ReadCounter;
 use starlark_words::scanner::{
-    Class, LiteralKind, Quote, Terminal, Word, first_word, unnamed_word, word_after,
+    Class, LiteralKind, Quote, Terminal, Word, gap_len, is_bang, unnamed_word, word_after,
 };
 use std::alloc::{AllocError, Global};
 use std::mem;
@@ -123,17 +119,6 @@ fn before_margin(is_laid: bool) -> LineEnd
         LineEnd::Pending
     } else {
         LineEnd::Fault
-    }
-}
-
-/// The `Newline` between two offsets, if that is the outcome of a newline.
-fn newline_of(line_end: LineEnd, begin: usize, end: usize) -> Option<Lexeme>
-    requires { begin ≤ end }
-    ensures { result ≡ newline_of line_end begin (end - begin) }
-{
-    match line_end {
-        LineEnd::Newline | LineEnd::Pending => Some((begin, Token::Newline, end)),
-        LineEnd::Fault | LineEnd::Passed => None,
     }
 }
 
@@ -229,17 +214,19 @@ impl<'a> Reader<'a> {
         self.before = before;
     }
 
-    /// Reads the margin at the start of the text, or stops at its fault.
+    /// Reads the margin at the start of the text, or stops at its fault. Don't use the reader after an
+    /// `AllocError`.
     // A call: else each call of `next` saves what the loops over the margin's lines need.
     #[inline(never)]
-    fn read_first_margin(&mut self) -> Result<(), AllocError>
-        requires text { IsText self.old.text.now }
-        requires ready { IsReady self.old.text.now self.old Stage.Begin }
+    pub fn read_first_margin(&mut self) -> Result<(), AllocError>
+        requires sound { IsSound self.old }
+        requires stage { self.old.stage ≡ Stage.Begin }
         requires idle { IsIdle self.old.text.now self.old.pending }
         ensures text { self.new.text ≡ self.old.text }
-        ensures ahead { OnOk result ((lexemes : List (Spanned TokenView)) (fault : Option (Spanned Fault)) → IsAhead self.old.text.now self.old Stage.Begin lexemes fault → IsAhead self.old.text.now self.new self.new.stage lexemes fault) }
-        ensures less { OnOk result (left_to_read self.old.text.now self.new self.new.stage < left_to_read self.old.text.now self.old Stage.Begin) }
-        ensures reads { OnOk result (HasReadAt self.old.text.now self.old Stage.Begin → HasRead self.old.text.now self.new) }
+        ensures ahead { OnOk result (KeepsAhead self.old self.new) }
+        ensures memory { OnErr result (HasSomething self.old) }
+        ensures less { OnOk result (left_to_read self.old.text.now self.new self.new.stage < left_to_read self.old.text.now self.old self.old.stage) }
+        ensures reads { OnOk result (HasRead self.old.text.now self.old → HasRead self.old.text.now self.new) }
     {
         let margin = margin_of(&mut self.reads, self.text);
         if take_margin(&mut self.levels, &mut self.pending, 0, margin)? {
@@ -261,7 +248,7 @@ impl<'a> Reader<'a> {
         requires within { self.old.at + len + (margin.at + margin.blanks.len) ≤ length self.old.text.now }
         ensures text { self.new.text ≡ self.old.text }
         ensures read { IfOk result (λ is_laid. Takes self.old (IsLineEndStep self.old len) (newline_if is_laid self.old.at len) self.new) }
-        ensures less { OnOk result (left_to_read self.old.text.now self.new self.new.stage < left_to_read self.old.text.now self.old Stage.Onward) }
+        ensures end { IfOk result (λ is_laid. is_laid ≡ false → IsAtEnd self.old.text.now self.new) }
         ensures reads { OnOk result ((before : ℕ) → AreReads (margin.at + margin.blanks.len) (5 * margin.at + margin.blanks.len + 2) before self.old.reads → IsLineEnd len (drop self.old.at self.old.text.now) →
             IsMarginRead self.old.text.now len (record self.old { reads = before }) self.new self.new.stage) }
     {
@@ -284,7 +271,7 @@ impl<'a> Reader<'a> {
         requires { IsAtLineEnd self.old len }
         ensures text { self.new.text ≡ self.old.text }
         ensures read { IfOk result (λ is_laid. Takes self.old (IsLineEndStep self.old len) (newline_if is_laid self.old.at len) self.new) }
-        ensures less { OnOk result (left_to_read self.old.text.now self.new self.new.stage < left_to_read self.old.text.now self.old Stage.Onward) }
+        ensures end { IfOk result (λ is_laid. is_laid ≡ false → IsAtEnd self.old.text.now self.new) }
         ensures reads { OnOk result (IsLineEnd len (drop self.old.at self.old.text.now) → IsMarginRead self.old.text.now len self.old self.new self.new.stage) }
     {
         let begin = self.at + len;
@@ -301,7 +288,7 @@ impl<'a> Reader<'a> {
         requires within { self.old.at + len + width ≤ length self.old.text.now }
         ensures text { self.new.text ≡ self.old.text }
         ensures read { IfOk result (λ is_laid. Takes self.old (IsLineEndStep self.old len) (newline_if is_laid self.old.at len) self.new) }
-        ensures less { OnOk result (left_to_read self.old.text.now self.new self.new.stage < left_to_read self.old.text.now self.old Stage.Onward) }
+        ensures end { IfOk result (λ is_laid. is_laid ≡ false → IsAtEnd self.old.text.now self.new) }
         ensures reads { OnOk result (IsLineEnd len (drop self.old.at self.old.text.now) → IsMarginRead self.old.text.now len self.old self.new self.new.stage) }
     {
         self.reads.count_run(width + 1);
@@ -315,7 +302,7 @@ impl<'a> Reader<'a> {
         requires { IsAtLineEnd self.old len }
         ensures text { self.new.text ≡ self.old.text }
         ensures read { IfOk result (λ line_end. Takes self.old (IsLineEndStep self.old len) (newline_of line_end self.old.at len) self.new) }
-        ensures less { OnOk result (left_to_read self.old.text.now self.new self.new.stage < left_to_read self.old.text.now self.old Stage.Onward) }
+        ensures end { IfOk result (λ line_end. line_end ≡ LineEnd.Fault → IsAtEnd self.old.text.now self.new) }
         ensures reads { OnOk result (IsLineEnd len (drop self.old.at self.old.text.now) → IsMarginRead self.old.text.now len self.old self.new self.new.stage) }
         ensures counts { IfOk result (λ line_end. line_end ≢ LineEnd.Passed) }
         ensures onward { IfOk result (λ line_end. line_end ≡ LineEnd.Newline → (self.new.stage ≡ Stage.Onward) × (self.new.nesting ≡ self.old.nesting) × ((text : Text) → pending_lexemes text self.new.pending ≡ [])) }
@@ -333,74 +320,75 @@ impl<'a> Reader<'a> {
         Ok(LineEnd::Newline)
     }
 
-    /// Takes the start of an f-string, which has `len` bytes with its quotes.
-    #[inline(always)]
-    fn begin_fstring(&mut self, opening: Opening, len: usize) -> Result<Lexeme, AllocError>
-        requires { IsAtStep self.old (λ history step. step ≡ grammar.token len (FStringStart (opening_view opening))) }
-        ensures text { self.new.text ≡ self.old.text }
-        ensures read { IfOk result (λ given. Takes self.old (λ history step. step ≡ grammar.token len (FStringStart (opening_view opening))) (Some given) self.new) }
-        ensures less { OnOk result (left_to_read self.old.text.now self.new self.new.stage < left_to_read self.old.text.now self.old Stage.Onward) }
-        ensures passed { OnOk result (IsPassedBy (self.old.at + len) self.old self.new × (self.new.stage ≡ Stage.Onward)) }
-    {
-        let begin = self.at;
-        self.nesting.begin_fstring(opening)?;
-        self.step_over(len, Before::Other);
-        Ok((begin, Token::FStringStart(quotes_of(opening)), begin + len))
-    }
-
-    /// Advances past a token of `len` bytes that begins no f-string.
-    #[inline(always)]
-    fn pass_token(&mut self, token: &Token, len: usize)
-        requires { IsAtStep self.old (λ history found. IsStep found (Step.Token token.now len)) }
-        ensures text { self.new.text ≡ self.old.text }
-        ensures read { Takes self.old (λ history found. IsStep found (Step.Token token.now len)) (Some (self.old.at, token.now, self.old.at + len)) self.new }
-        ensures less { left_to_read self.old.text.now self.new self.new.stage < left_to_read self.old.text.now self.old Stage.Onward }
-        ensures taken { IsTaken len self.old self.new }
-        ensures onward { IsInCode self.new → IsAtCode self.old.text.now self.new }
-        ensures stays { change_by (token_view token.now) ≡ change.Nothing → IsInCode self.old → IsInCode self.new }
-    {
-        self.nesting.pass(token);
-        self.step_over(len, Before::Other);
-    }
-
     /// Takes a token of `len` bytes that begins no f-string, and returns it with its span.
+    #[inline(always)]
     fn take_token(&mut self, token: Token, len: usize) -> Lexeme
         requires { IsAtStep self.old (λ history found. IsStep found (Step.Token token len)) }
         ensures text { self.new.text ≡ self.old.text }
+        ensures token { result.1 ≡ token }
         ensures read { Takes self.old (λ history found. IsStep found (Step.Token token len)) (Some result) self.new }
-        ensures less { left_to_read self.old.text.now self.new self.new.stage < left_to_read self.old.text.now self.old Stage.Onward }
-        ensures passed { IsPassedBy (self.old.at + len) self.old self.new × (self.new.stage ≡ Stage.Onward) }
+        ensures taken { IsTaken len self.old self.new }
+        ensures onward { IsInCode self.new → IsAtCode self.old.text.now self.new }
+        ensures stays { keeps_nesting (token_view token) ≡ true → IsInCode self.old → IsInCode self.new }
     {
         let begin = self.at;
-        self.pass_token(&token, len);
+        self.nesting.pass(&token);
+        self.step_over(len, Before::Other);
         (begin, token, begin + len)
     }
 
-    /// Takes an f-string text of `chunk_len` bytes, and the `len` bytes that end it. Returns the
-    /// text, and what ends it becomes pending. An empty value yields no token: then what ends it is
-    /// returned.
+    /// Advances past an f-string text and what ends it, which becomes pending.
     #[inline(always)]
-    fn take_chunk(&mut self, chunk: String, chunk_len: usize, stop: TextEnd, len: usize) -> Lexeme
-        requires { IsAtStep self.old (λ history found. IsStep found (Step.Text chunk chunk_len stop len)) }
+    fn pass_chunk(&mut self, chunk: Chunk)
+        requires { (value : Text) × IsAtStep self.old (λ history step. step ≡ text_step value chunk) }
         ensures text { self.new.text ≡ self.old.text }
-        ensures read { Takes self.old (λ history found. IsStep found (Step.Text chunk chunk_len stop len)) (Some result) self.new }
-        ensures less { left_to_read self.old.text.now self.new self.new.stage < left_to_read self.old.text.now self.old Stage.Onward }
-        ensures passed { IsPassedBy (self.old.at + (chunk_len + len)) self.old self.new × (self.new.stage ≡ Stage.Onward) }
+        ensures read { (value : Text) (history : History) → IsStateAfter self.old.text.now history self.old → step_here self.old.text.now history self.old ≡ text_step value chunk →
+            IsReadPast self.old.text.now (left_here self.old.text.now history self.old) (chunk_lexemes self.old.at chunk.len value) self.new }
+        ensures passed { IsPassedBy (self.old.at + (chunk.len + chunk.stop_len)) self.old self.new × (self.new.stage ≡ Stage.Onward) }
     {
-        let begin = self.at;
-        let between = begin + chunk_len;
-        let end = between + len;
-        self.nesting.pass(&stop.token());
-        self.step_over(chunk_len + len, Before::Other);
-        if chunk.is_empty() {
-            return (between, stop.token(), end);
-        }
+        let begin = self.at + chunk.len;
+        let end = begin + chunk.stop_len;
+        self.nesting.pass(&text_end(chunk.before_expression));
+        self.step_to(end, Before::Other);
         self.pending = Pending::only(AfterComments::TextEnd {
-            begin: between,
-            stop,
+            begin,
+            before_expression: chunk.before_expression,
             end,
         });
-        (begin, Token::FStringText(chunk), between)
+    }
+
+    /// Takes what ends an f-string text without a value.
+    #[inline(always)]
+    fn take_chunk_end(&mut self, chunk: Chunk) -> Lexeme
+        requires { IsAtStep self.old (λ history step. step ≡ text_step [] chunk) }
+        ensures text { self.new.text ≡ self.old.text }
+        ensures read { Takes self.old (λ history step. step ≡ text_step [] chunk) (Some result) self.new }
+        ensures mark { IsMark (token_view result.1) }
+        ensures passed { IsPassedBy (self.old.at + (chunk.len + chunk.stop_len)) self.old self.new × (self.new.stage ≡ Stage.Onward) }
+    {
+        let begin = self.at + chunk.len;
+        let end = begin + chunk.stop_len;
+        let token = text_end(chunk.before_expression);
+        self.nesting.pass(&token);
+        self.step_to(end, Before::Other);
+        (begin, token, end)
+    }
+
+    /// Takes an f-string text with its end, which becomes pending. Where the text has no value, its end
+    /// is returned.
+    #[inline(always)]
+    fn take_chunk(&mut self, value: String, chunk: Chunk) -> Lexeme
+        requires { IsAtStep self.old (λ history step. IsStep step (Step.Text value chunk)) }
+        ensures text { self.new.text ≡ self.old.text }
+        ensures read { Takes self.old (λ history step. IsStep step (Step.Text value chunk)) (Some result) self.new }
+        ensures passed { IsPassedBy (self.old.at + (chunk.len + chunk.stop_len)) self.old self.new × (self.new.stage ≡ Stage.Onward) }
+    {
+        if value.is_empty() {
+            return self.take_chunk_end(chunk);
+        }
+        let begin = self.at;
+        self.pass_chunk(chunk);
+        (begin, Token::FStringText(value), begin + chunk.len)
     }
 
     /// Takes a step, and returns its first token. Stops at a fault, and returns `None`.
@@ -409,29 +397,17 @@ impl<'a> Reader<'a> {
         requires { IsAtStep self.old (λ history found. IsStep found step) }
         ensures text { self.new.text ≡ self.old.text }
         ensures read { Takes self.old (λ history found. IsStep found step) result self.new }
-        ensures less { left_to_read self.old.text.now self.new self.new.stage < left_to_read self.old.text.now self.old Stage.Onward }
+        ensures end { result ≡ None → IsAtEnd self.old.text.now self.new }
         ensures passed { IsPassed self.old step self.new }
     {
         match step {
             Step::Token { token, len } => Some(self.take_token(token, len)),
-            Step::Text {
-                text: chunk,
-                text_len,
-                stop,
-                len,
-            } => Some(self.take_chunk(chunk, text_len, stop, len)),
+            Step::Text { value, chunk } => Some(self.take_chunk(value, chunk)),
             Step::Fault { begin, fault, end } => {
                 self.refuse(begin, fault, end);
                 None
             }
         }
-    }
-
-    /// Whether a skipped piece is right before the offset.
-    fn follows_gap(&self) -> bool
-        ensures { (before : grammar.Before) → before_view self.now.before ≡ before → IsAfter result before }
-    {
-        matches!(self.before, Before::Gap)
     }
 
     /// Whether a margin is right before the offset.
@@ -449,8 +425,7 @@ impl<'a> Reader<'a> {
         ensures most { self.new.reads ≤ self.old.reads + 1 }
     {
         let is_settled = self.follows_margin()
-            && is_outside(self.nesting.mode())
-            && self.nesting.is_balanced()
+            && self.nesting.counts_line_ends()
             && self.levels.len() == 0;
         if !is_settled {
             return false;
@@ -521,7 +496,6 @@ impl<'a> Reader<'a> {
     fn close(&mut self) -> Lexeme
         ensures text { self.new.text ≡ self.old.text }
         ensures read { (history : History) → IsStateAfter self.old.text.now history self.old → step_here self.old.text.now history self.old ≡ grammar.Ends → IsRead self.old.text.now (left_here self.old.text.now history self.old) (Some result) self.new }
-        ensures less { left_to_read self.old.text.now self.new self.new.stage < left_to_read self.old.text.now self.old Stage.Onward }
         ensures passed { IsPassedBy self.old.at self.old self.new × (self.new.stage ≡ Stage.Closed) }
     {
         self.pending = Pending::only(AfterComments::Dedents {
@@ -534,84 +508,15 @@ impl<'a> Reader<'a> {
 
     /// Passes the skipped piece of `len` bytes here.
     #[inline(always)]
-    fn pass_gap(&mut self, len: usize)
+    pub fn pass_gap(&mut self, len: usize)
         requires sound { IsSound self.old }
         requires stands { IsWordHere self.old.text.now self.old (record { class = class.Skipped; len = len }) }
         ensures text { self.new.text ≡ self.old.text }
         ensures ahead { TakesNext self.old None self.new }
+        ensures code { IsAtCode self.old.text.now self.new }
         ensures taken { IsTaken len self.old self.new }
     {
         self.step_over(len, Before::Gap);
-    }
-
-    /// Takes the newline of `len` bytes here. `None` where it doesn't count, or its margin has a fault.
-    #[inline(always)]
-    fn read_line_end(&mut self, len: usize) -> Result<Option<Lexeme>, AllocError>
-        requires sound { IsSound self.old }
-        requires stands { IsWordHere self.old.text.now self.old (record { class = class.LineEnd; len = len }) }
-        ensures text { self.new.text ≡ self.old.text }
-        ensures ahead { IfOk result (λ given. TakesNext self.old given self.new) }
-        ensures memory { OnErr result (HasSomething self.old) }
-        ensures less { OnOk result (left_to_read self.old.text.now self.new self.new.stage < left_to_read self.old.text.now self.old self.old.stage) }
-        ensures reads { OnOk result ((before : ℕ) → HasReadAt self.old.text.now (record self.old { reads = before }) Stage.Onward → AreReads len (5 * len + 3) before self.old.reads → HasRead self.old.text.now self.new) }
-    {
-        let begin = self.at;
-        let line_end = self.take_line_end(len)?;
-        Ok(newline_of(line_end, begin, begin + len))
-    }
-
-    /// Takes the name of `len` bytes here.
-    #[inline(always)]
-    fn take_name(&mut self, len: usize) -> Result<Lexeme, AllocError>
-        requires sound { IsSound self.old }
-        requires stands { IsWordHere self.old.text.now self.old (record { class = class.Identifier; len = len }) }
-        ensures text { self.new.text ≡ self.old.text }
-        ensures ahead { IfOk result (λ given. TakesNext self.old (Some given) self.new) }
-        ensures memory { OnErr result (HasSomething self.old) }
-        ensures taken { OnOk result (IsTaken len self.old self.new) }
-    {
-        let begin = self.at;
-        let rest = &self.text[begin..];
-        let token = Token::Identifier(String::from_str(self.alloc, &rest[..len])?);
-        self.pass_token(&token, len);
-        Ok((begin, token, begin + len))
-    }
-
-    /// Takes the string or bytes literal here, whose opener has `len` bytes, or stops at its fault. The
-    /// `run` bytes after the opener are known.
-    #[inline(always)]
-    fn read_literal(
-        &mut self,
-        kind: LiteralKind,
-        is_raw: bool,
-        quote: Quote,
-        len: usize,
-        run: usize,
-    ) -> Result<Option<Lexeme>, AllocError>
-        requires kind { kind ≢ OfFString }
-        requires sound { IsSound self.old }
-        requires stands { IsWordHere self.old.text.now self.old (record { class = class.Opener kind is_raw quote; len = len }) }
-        requires run { IsRun (single_literal kind is_raw quote) (drop len (drop self.old.at self.old.text.now)) run }
-        ensures text { self.new.text ≡ self.old.text }
-        ensures ahead { IfOk result (λ given. TakesNext self.old given self.new) }
-        ensures memory { OnErr result (HasSomething self.old) }
-        ensures less { OnOk result (left_to_read self.old.text.now self.new self.new.stage < left_to_read self.old.text.now self.old self.old.stage) }
-        ensures reads { OnOk result ((before : ℕ) → HasReadAt self.old.text.now (record self.old { reads = before }) Stage.Onward → AreReads (len + run) (5 * len + 8 * run + 3) before self.old.reads → HasRead self.old.text.now self.new) }
-    {
-        let outside = is_outside(self.nesting.mode());
-        let rest = &self.text[self.at..];
-        let step = literal_piece(
-            &mut self.reads,
-            self.alloc,
-            outside,
-            kind,
-            is_raw,
-            quote,
-            len,
-            run,
-            &rest[len..],
-        )?;
-        Ok(self.take(step))
     }
 
     /// Stops at the word here, which is a fault: tabs, a reserved word, or a 0 before more digits.
@@ -621,51 +526,13 @@ impl<'a> Reader<'a> {
         requires fault { IsFaultWord word.class (take word.len (drop self.old.at self.old.text.now)) }
         ensures text { self.new.text ≡ self.old.text }
         ensures ahead { IfOk result (λ given. TakesNext self.old given self.new) }
+        ensures end { IfOk result (λ given. given ≡ None → IsAtEnd self.old.text.now self.new) }
         ensures memory { OnErr result (HasSomething self.old) }
-        ensures less { OnOk result (left_to_read self.old.text.now self.new self.new.stage < left_to_read self.old.text.now self.old self.old.stage) }
         ensures reads { OnOk result ((before : ℕ) → HasReadAt self.old.text.now (record self.old { reads = before }) Stage.Onward → AreReads word.len (5 * word.len + 3) before self.old.reads → HasRead self.old.text.now self.new) }
     {
         let rest = &self.text[self.at..];
         let step = fault_step(self.alloc, word.class, &rest[..word.len])?;
         Ok(self.take(step))
-    }
-
-    /// Reads the word here. Returns its lexeme; `None` where it has none, or is a fault.
-    #[inline(always)]
-    fn read_word(&mut self, word: Word) -> Result<Option<Lexeme>, AllocError>
-        requires sound { IsSound self.old }
-        requires stands { IsWordHere self.old.text.now self.old word }
-        ensures text { self.new.text ≡ self.old.text }
-        ensures ahead { IfOk result (λ given. TakesNext self.old given self.new) }
-        ensures memory { OnErr result (HasSomething self.old) }
-        ensures less { OnOk result (left_to_read self.old.text.now self.new self.new.stage < left_to_read self.old.text.now self.old self.old.stage) }
-        ensures reads { OnOk result ((before : ℕ) → HasReadAt self.old.text.now (record self.old { reads = before }) Stage.Onward → AreReads word.len (5 * word.len + 3) before self.old.reads → HasRead self.old.text.now self.new) }
-    {
-        if self.is_plain_number(word) {
-            return Ok(Some(self.take_number(word)?));
-        }
-        let len = word.len;
-        match word.class {
-            Class::Skipped => {
-                self.pass_gap(len);
-                Ok(None)
-            }
-            Class::LineEnd => self.read_line_end(len),
-            Class::Comment => Ok(Some(self.take_comment(len)?)),
-            Class::Identifier => Ok(Some(self.take_name(len)?)),
-            Class::Opener {
-                kind: LiteralKind::FString,
-                is_raw,
-                quote,
-            } => Ok(Some(self.take_fstring(is_raw, quote, len)?)),
-            Class::Opener {
-                kind,
-                is_raw,
-                quote,
-            } => self.read_literal(kind, is_raw, quote, len, 0),
-            Class::Fixed(terminal) => Ok(Some(self.take_terminal(terminal, len))),
-            _ => self.refuse_word(word),
-        }
     }
 
     /// Reads what is here, where no word begins: a bang, or a fault.
@@ -676,65 +543,21 @@ impl<'a> Reader<'a> {
         requires none { language_front (drop self.old.at self.old.text.now) ≡ None }
         ensures text { self.new.text ≡ self.old.text }
         ensures ahead { IfOk result (λ given. TakesNext self.old given self.new) }
+        ensures end { IfOk result (λ given. given ≡ None → IsAtEnd self.old.text.now self.new) }
         ensures memory { OnErr result (HasSomething self.old) }
-        ensures less { OnOk result (left_to_read self.old.text.now self.new self.new.stage < left_to_read self.old.text.now self.old self.old.stage) }
         ensures reads { OnOk result ((before : ℕ) → HasReadAt self.old.text.now (record self.old { reads = before }) Stage.Onward → AreReads 0 (5 * 0 + 3) before self.old.reads → HasRead self.old.text.now self.new) }
     {
         if self.bang_stands() {
-            return Ok(Some(self.take_bang()));
+            return Ok(Some(self.take_token(Token::FStringBang, 1)));
         }
-        let step = invalid_input(&mut self.reads, self.alloc, &self.text[self.at..])?;
-        Ok(self.take(step))
-    }
-
-    /// Reads the f-string text at the offset, up to its first stop. Its first `run` bytes are known.
-    /// Returns its first lexeme; `None` if it is a fault.
-    fn read_chunk(&mut self, opening: Opening, run: usize) -> Result<Option<Lexeme>, AllocError>
-        requires text { IsText self.old.text.now }
-        requires stage { self.old.stage ≡ Stage.Onward }
-        requires ready { IsReady self.old.text.now self.old Stage.Onward }
-        requires idle { IsIdle self.old.text.now self.old.pending }
-        requires inside { (before : List grammar_tokens.Token) → Represents before self.old.nesting → mode_after before ≡ InText (opening_view opening) }
-        requires run { IsRun (fstring_literal (opening_view opening)) (drop self.old.at self.old.text.now) run }
-        ensures text { self.new.text ≡ self.old.text }
-        ensures ahead { IfOk result (λ given. TakesNext self.old given self.new) }
-        ensures less { OnOk result (left_to_read self.old.text.now self.new self.new.stage < left_to_read self.old.text.now self.old Stage.Onward) }
-        ensures reads { OnOk result ((before : ℕ) → HasReadAt self.old.text.now (record self.old { reads = before }) Stage.Onward → AreReads run (8 * run + 4) before self.old.reads → HasRead self.old.text.now self.new) }
-    {
         let rest = &self.text[self.at..];
-        let step = chunk_from(&mut self.reads, self.alloc, opening, run, rest)?;
-        Ok(self.take(step))
-    }
-
-    /// Finds what is at the offset, where no lexeme is pending.
-    fn look(&mut self) -> Lookahead
-        requires sound { IsSound self.old }
-        requires stage { self.old.stage ≡ Stage.Onward }
-        requires idle { IsIdle self.old.text.now self.old.pending }
-        requires read { HasRead self.old.text.now self.old }
-        ensures text { self.new.text ≡ self.old.text }
-        ensures ahead { KeepsAhead self.old self.new }
-        ensures found { IsFoundAt self.new.text.now self.new result }
-        ensures stays { left_to_read self.old.text.now self.new self.new.stage ≡ left_to_read self.old.text.now self.old self.old.stage }
-        ensures some { left_to_look result.found ≡ 0 }
-    {
-        let mut lookahead = Lookahead::none();
-        if let LexerMode::InText(_) = self.nesting.mode() {
-            lookahead.found = Found::Text;
-            return lookahead;
-        }
-        if self.at == self.text.len() {
-            lookahead.found = Found::Wordless;
-            return lookahead;
-        }
-        match first_word(&mut self.reads, &self.text[self.at..]) {
-            Some(word) => {
-                lookahead.found = Found::Unnamed;
-                lookahead.word = word;
-            }
-            None => lookahead.found = Found::Wordless,
-        }
-        lookahead
+        let end = self.reads.character_len(rest);
+        let fault = LexemeError::InvalidInput(String::from_str(self.alloc, &rest[..end])?);
+        Ok(self.take(Step::Fault {
+            begin: 0,
+            fault,
+            end,
+        }))
     }
 
     /// The fault after the last lexeme, between two offsets, if the text has one. It is returned only
@@ -787,13 +610,20 @@ impl<'a> Reader<'a> {
         self.pending.is_nothing()
     }
 
-    /// Whether the next lexeme is to be read at the offset, and none is pending.
+    /// Whether the next lexeme that isn't pending is to be read at the offset.
     #[inline(always)]
     pub fn reads_on(&self) -> bool
-        ensures stage { result ≡ true → self.now.stage ≡ Stage.Onward }
-        ensures idle { result ≡ true → (text : Text) → IsPending text self.now.pending → IsIdle text self.now.pending }
+        ensures { result ≡ is_onward self.now.stage }
     {
-        self.is_idle() && matches!(self.stage, Stage::Onward)
+        matches!(self.stage, Stage::Onward)
+    }
+
+    /// Whether no piece of the text was read, and no fault was found.
+    #[inline(always)]
+    pub fn is_at_begin(&self) -> bool
+        ensures { result ≡ is_begin self.now.stage }
+    {
+        matches!(self.stage, Stage::Begin)
     }
 
     /// Whether the offset is in code or in an f-string expression.
@@ -801,7 +631,7 @@ impl<'a> Reader<'a> {
     pub fn is_in_code(&self) -> bool
         ensures { result ≡ true → IsInCode self.now }
     {
-        is_code(self.nesting.mode())
+        !matches!(self.nesting.mode(), LexerMode::InText(_))
     }
 
     /// Whether the next lexeme is to be read at the offset, in code, and none is pending.
@@ -809,7 +639,7 @@ impl<'a> Reader<'a> {
     pub fn is_at_code(&self) -> bool
         ensures { result ≡ true → (text : Text) → IsPending text self.now.pending → IsAtCode text self.now }
     {
-        self.reads_on() && self.is_in_code()
+        self.is_idle() && self.reads_on() && self.is_in_code()
     }
 
     /// Passes the spaces at the offset, in code. Returns their number, and counts no reads.
@@ -845,6 +675,7 @@ impl<'a> Reader<'a> {
         ensures code { IsAtCode self.new.text.now self.new }
         ensures stands { IfSome result (λ word. IsWordHere self.new.text.now self.new word) }
         ensures none { result ≡ None → begins is_name_start (drop self.new.at self.new.text.now) ≡ false }
+        ensures rest { result ≡ None → begins_mark (drop self.new.at self.new.text.now) ≡ false }
         ensures lookahead { HasLooked (word_len result) ((5 * word_len result - 4) + 2) self.old self.new }
         ensures two { result ≡ None → HasLooked 2 2 self.old self.new }
     {
@@ -865,6 +696,7 @@ impl<'a> Reader<'a> {
         ensures code { IsAtCode self.new.text.now self.new }
         ensures stands { IfSome result (IsWordHere self.new.text.now self.new) }
         ensures none { result ≡ None → language_front (drop self.new.at self.new.text.now) ≡ None }
+        ensures class { begins_mark (drop self.old.at self.old.text.now) ≡ false → IfSome result (λ word. is_common word.class ≡ false) }
         ensures lookahead { HasLookedHere (word_len result - 2) (5 * word_len result + 1) self.old self.new }
     {
         unnamed_word(&mut self.reads, &self.text[self.at..])
@@ -884,7 +716,11 @@ impl<'a> Reader<'a> {
         ensures other { result ≡ false → (history : History) → IsStateAfter self.new.text.now history self.new → (grammar.takes_bang (mode_after history.tokens) history.before && grammar.is_bang (drop self.new.at self.new.text.now)) ≡ false }
     {
         let front = self.reads.front(self.text[self.at..].as_bytes(), 2);
-        bang_stands(self.nesting.mode(), self.follows_gap(), front)
+        match (self.nesting.mode(), self.before) {
+            (_, Before::Gap) => false,
+            (LexerMode::AtTop, _) => is_bang(front),
+            _ => false,
+        }
     }
 
     /// The offset up to which the text is read, in bytes.
@@ -893,44 +729,6 @@ impl<'a> Reader<'a> {
         ensures { result ≡ self.now.at }
     {
         self.at
-    }
-
-    /// Passes the newline of `len` bytes here if it doesn't count. Returns whether it was passed.
-    #[inline(always)]
-    fn pass_line_end(&mut self, len: usize) -> bool
-        requires sound { IsSound self.old }
-        requires stands { IsWordHere self.old.text.now self.old (record { class = class.LineEnd; len = len }) }
-        ensures text { self.new.text ≡ self.old.text }
-        ensures ahead { KeepsAhead self.old self.new }
-        ensures less { result ≡ true → left_to_read self.old.text.now self.new self.new.stage < left_to_read self.old.text.now self.old self.old.stage }
-        ensures stays { result ≡ false → self.new ≡ self.old }
-        ensures counts { result ≡ false → CountsLineEnds self.new }
-        ensures code { result ≡ true → IsAtCode self.old.text.now self.new }
-        ensures taken { result ≡ true → IsTaken len self.old self.new }
-    {
-        if line_end_counts(self.nesting.mode(), self.nesting.is_balanced()) {
-            return false;
-        }
-        self.step_over(len, Before::Other);
-        true
-    }
-
-    /// Takes the newline of `len` bytes here, which counts, and the margin after it. Returns the
-    /// outcome.
-    #[inline(always)]
-    fn take_counting_line_end(&mut self, len: usize) -> Result<LineEnd, AllocError>
-        requires sound { IsSound self.old }
-        requires stands { IsWordHere self.old.text.now self.old (record { class = class.LineEnd; len = len }) }
-        requires counts { CountsLineEnds self.old }
-        ensures text { self.new.text ≡ self.old.text }
-        ensures ahead { IfOk result (λ line_end. TakesNext self.old (newline_of line_end self.old.at len) self.new) }
-        ensures memory { OnErr result (HasSomething self.old) }
-        ensures less { OnOk result (left_to_read self.old.text.now self.new self.new.stage < left_to_read self.old.text.now self.old self.old.stage) }
-        ensures reads { OnOk result (IsMarginRead self.old.text.now len self.old self.new self.new.stage) }
-        ensures counts { IfOk result (λ line_end. line_end ≢ LineEnd.Passed) }
-        ensures onward { IfOk result (λ line_end. line_end ≡ LineEnd.Newline → (self.new.stage ≡ Stage.Onward) × IsInCode self.new × ((text : Text) → pending_lexemes text self.new.pending ≡ [])) }
-    {
-        self.lay_line_end(len)
     }
 
     /// Takes the newline of `len` bytes here, and the margin after it if it counts. Returns the
@@ -943,16 +741,17 @@ impl<'a> Reader<'a> {
         ensures ahead { IfOk result (λ line_end. TakesNext self.old (newline_of line_end self.old.at len) self.new) }
         ensures memory { OnErr result (HasSomething self.old) }
         ensures cut { IsCharBoundary self.old.text.now (self.old.at + len) }
-        ensures less { OnOk result (left_to_read self.old.text.now self.new self.new.stage < left_to_read self.old.text.now self.old self.old.stage) }
         ensures code { IfOk result (λ line_end. line_end ≡ LineEnd.Passed → IsAtCode self.old.text.now self.new) }
         ensures taken { IfOk result (λ line_end. line_end ≡ LineEnd.Passed → IsTaken len self.old self.new) }
+        ensures end { IfOk result (λ line_end. line_end ≡ LineEnd.Fault → IsAtEnd self.old.text.now self.new) }
         ensures reads { IfOk result (λ line_end. line_end ≢ LineEnd.Passed → IsMarginRead self.old.text.now len self.old self.new self.new.stage) }
         ensures onward { IfOk result (λ line_end. line_end ≡ LineEnd.Newline → (self.new.stage ≡ Stage.Onward) × IsInCode self.new × ((text : Text) → pending_lexemes text self.new.pending ≡ [])) }
     {
-        if self.pass_line_end(len) {
-            return Ok(LineEnd::Passed);
+        if self.nesting.counts_line_ends() {
+            return self.lay_line_end(len);
         }
-        self.take_counting_line_end(len)
+        self.step_over(len, Before::Other);
+        Ok(LineEnd::Passed)
     }
 
     /// Passes the name of `len` bytes here.
@@ -979,12 +778,10 @@ impl<'a> Reader<'a> {
         ensures code { OnOk result (IsAtCode self.new.text.now self.new) }
         ensures taken { OnOk result (IsTaken len self.old self.new) }
     {
-        let begin = self.at;
-        let rest = &self.text[begin..];
+        let rest = &self.text[self.at..];
         let word = &rest[..len];
         let token = Token::Comment(String::from_str(self.alloc, &word[1..])?);
-        self.pass_token(&token, len);
-        Ok((begin, token, begin + len))
+        Ok(self.take_token(token, len))
     }
 
     /// Length in bytes of the next literal's body, if it has no escapes and one quote closes it.
@@ -1048,15 +845,11 @@ impl<'a> Reader<'a> {
         ensures code { OnOk result (IsAtCode self.new.text.now self.new) }
         ensures taken { OnOk result (IsTaken (len + body + 1) self.old self.new) }
     {
-        let begin = self.at;
-        let rest = &self.text[begin..];
+        let rest = &self.text[self.at..];
         let remainder = &rest[len..];
-        let len = len + body + 1;
         let mut value = Vec::new(self.alloc);
         value.extend_from_slice(remainder[..body].as_bytes())?;
-        let token = Token::Bytes(value);
-        self.pass_token(&token, len);
-        Ok((begin, token, begin + len))
+        Ok(self.take_token(Token::Bytes(value), len + body + 1))
     }
 
     /// Takes the start of the f-string here, whose opener has `len` bytes. Don't use the reader after
@@ -1075,10 +868,13 @@ impl<'a> Reader<'a> {
         ensures memory { OnErr result (HasSomething self.old) }
         ensures begun { OnOk result (HasStarted len self.old self.new) }
     {
-        let rest = &self.text[self.at..];
+        let begin = self.at;
+        let rest = &self.text[begin..];
         let opening = opening_of(&mut self.reads, is_raw, quote, &rest[len..]);
         let len = if opening.is_triple { len + 2 } else { len };
-        self.begin_fstring(opening, len)
+        self.nesting.begin_fstring(opening)?;
+        self.step_over(len, Before::Other);
+        Ok((begin, Token::FStringStart(quotes_of(opening)), begin + len))
     }
 
     /// Whether comments are pending. They are yielded before all else.
@@ -1109,6 +905,7 @@ impl<'a> Reader<'a> {
         ensures text { self.new.text ≡ self.old.text }
         ensures ahead { (text : Text) (lexemes : List (Spanned TokenView)) (fault : Option (Spanned Fault)) → IsAhead text self.old self.old.stage lexemes fault → IsAheadAfter text result self.new lexemes fault }
         ensures stays { result ≡ None → self.new ≡ self.old }
+        ensures idle { result ≡ None → (text : Text) → IsPending text self.old.pending → IsIdle text self.old.pending }
         ensures mark { IfSome result (λ lexeme. IsMark (token_view lexeme.1)) }
         ensures reads { (text : Text) → HasReadAt text self.old self.old.stage → HasRead text self.new }
     {
@@ -1119,14 +916,14 @@ impl<'a> Reader<'a> {
     /// length in bytes of the run without these at its start. `None` outside of f-string text.
     #[tactic(auto, using(crate::proofs::TakenPieces::ReaderReads::reads_ahead, crate::proofs::TakenPieces::SameTexts::looked_sound))]
     #[inline(always)]
-    pub fn plain_text(&mut self) -> Option<Result<PlainText, usize>>
+    pub fn plain_text(&mut self) -> Option<Result<Chunk, usize>>
         requires sound { IsSound self.old }
         requires stage { self.old.stage ≡ Stage.Onward }
         requires idle { IsIdle self.old.text.now self.old.pending }
         ensures text { self.new.text ≡ self.old.text }
         ensures sound { IsSound self.new }
         ensures ahead { KeepsAhead self.old self.new }
-        ensures none { result ≡ None → self.new ≡ self.old }
+        ensures none { result ≡ None → (self.new ≡ self.old) × IsInCode self.old }
         ensures stands { IfSome result (λ found. IfOk found (λ plain. IsPlainTextHere self.new.text.now self.new plain)) }
         ensures some { IfSome result (λ found. IfOk found (λ plain. (0 < plain.stop_len) × (plain.stop_len ≤ 3))) }
         ensures lookahead { IfSome result (λ found. IfOk found (λ plain. HasLookedHere (plain.len + 3) (6 * plain.len + 4) self.old self.new)) }
@@ -1141,7 +938,7 @@ impl<'a> Reader<'a> {
     /// Passes the f-string text here, which has no escapes and isn't empty. What ends it becomes
     /// pending.
     #[inline(always)]
-    pub fn pass_text(&mut self, found: PlainText)
+    pub fn pass_text(&mut self, found: Chunk)
         requires sound { IsSound self.old }
         requires stands { IsPlainTextHere self.old.text.now self.old found }
         requires some { 0 < found.len }
@@ -1150,20 +947,12 @@ impl<'a> Reader<'a> {
         ensures edges { IsCharBoundary self.old.text.now self.old.at × IsCharBoundary self.old.text.now (self.old.at + found.len) }
         ensures passed { IsPassedBy (self.old.at + (found.len + found.stop_len)) self.old self.new × (self.new.stage ≡ Stage.Onward) }
     {
-        let between = self.at + found.len;
-        let end = between + found.stop_len;
-        self.nesting.pass(&found.stop.token());
-        self.step_to(end, Before::Other);
-        self.pending = Pending::only(AfterComments::TextEnd {
-            begin: between,
-            stop: found.stop,
-            end,
-        });
+        self.pass_chunk(found);
     }
 
     /// Passes the f-string text here, which is empty, and takes what ends it.
     #[inline(always)]
-    pub fn pass_text_end(&mut self, found: PlainText) -> Lexeme
+    pub fn pass_text_end(&mut self, found: Chunk) -> Lexeme
         requires sound { IsSound self.old }
         requires stands { IsPlainTextHere self.old.text.now self.old found }
         requires none { found.len ≡ 0 }
@@ -1172,12 +961,7 @@ impl<'a> Reader<'a> {
         ensures mark { IsMark (token_view result.1) }
         ensures passed { IsPassedBy (self.old.at + (found.len + found.stop_len)) self.old self.new × (self.new.stage ≡ Stage.Onward) }
     {
-        let begin = self.at + found.len;
-        let end = begin + found.stop_len;
-        let token = found.stop.token();
-        self.nesting.pass(&token);
-        self.step_to(end, Before::Other);
-        (begin, token, end)
+        self.take_chunk_end(found)
     }
 
     /// Takes the keyword or symbol of `len` bytes here.
@@ -1191,10 +975,14 @@ impl<'a> Reader<'a> {
         ensures code { IsInCode self.new → IsAtCode self.old.text.now self.new }
         ensures taken { IsTaken len self.old self.new }
     {
-        let begin = self.at;
-        let token = token_in(&self.nesting, terminal);
-        self.pass_token(&token, len);
-        (begin, token, begin + len)
+        let token = match terminal {
+            Terminal::ClosingCurly => match self.nesting.mode() {
+                LexerMode::AtTop => Token::FStringExprEnd,
+                _ => Token::ClosingCurly,
+            },
+            _ => own_token(terminal),
+        };
+        self.take_token(token, len)
     }
 
     /// The value of the integer here if it has one digit; `None` for any other word.
@@ -1228,10 +1016,7 @@ impl<'a> Reader<'a> {
         ensures code { IsAtCode self.new.text.now self.new }
         ensures taken { IsTaken 1 self.old self.new }
     {
-        let begin = self.at;
-        let token = digit_token(digit);
-        self.pass_token(&token, 1);
-        (begin, token, begin + 1)
+        self.take_token(digit_token(digit), 1)
     }
 
     /// Whether the word here is a number, and not a 0 before more digits.
@@ -1267,114 +1052,85 @@ impl<'a> Reader<'a> {
         ensures code { OnOk result (IsAtCode self.new.text.now self.new) }
         ensures taken { OnOk result (IsTaken word.len self.old self.new) }
     {
-        let begin = self.at;
-        let rest = &self.text[begin..];
+        let rest = &self.text[self.at..];
         let token = number_token(self.alloc, word.class, &rest[..word.len])?;
-        self.pass_token(&token, word.len);
-        Ok((begin, token, begin + word.len))
+        Ok(self.take_token(token, word.len))
     }
 
-    /// Takes the bang of an f-string expression here.
-    #[inline(always)]
-    pub fn take_bang(&mut self) -> Lexeme
-        requires sound { IsSound self.old }
-        requires stands { IsBangHere self.old.text.now self.old }
-        ensures text { self.new.text ≡ self.old.text }
-        ensures ahead { TakesNext self.old (Some result) self.new }
-        ensures code { IsAtCode self.new.text.now self.new }
-        ensures taken { IsTaken 1 self.old self.new }
-    {
-        let begin = self.at;
-        let token = Token::FStringBang;
-        self.pass_token(&token, 1);
-        (begin, token, begin + 1)
-    }
-
-    /// Reads the literal whose opener is here. The `run` bytes after the opener are known.
-    fn read_opened(&mut self, opener: Word, run: usize) -> Result<Option<Lexeme>, AllocError>
+    /// Takes the string or bytes literal whose opener is here, or stops at its fault. The `run` bytes after
+    /// the opener are known.
+    fn read_literal(&mut self, opener: Word, run: usize) -> Result<Option<Lexeme>, AllocError>
         requires sound { IsSound self.old }
         requires found { IsFoundAt self.old.text.now self.old (record { found = Found.Literal; word = opener; run = run }) }
         ensures text { self.new.text ≡ self.old.text }
         ensures ahead { IfOk result (λ given. TakesNext self.old given self.new) }
+        ensures end { IfOk result (λ given. given ≡ None → IsAtEnd self.old.text.now self.new) }
         ensures memory { OnErr result (HasSomething self.old) }
-        ensures less { OnOk result (left_to_read self.old.text.now self.new self.new.stage < left_to_read self.old.text.now self.old self.old.stage) }
         ensures reads { OnOk result (HasRead self.old.text.now self.new) }
     {
-        match opener.class {
-            Class::Opener {
-                kind,
-                is_raw,
-                quote,
-            } => self.read_literal(kind, is_raw, quote, opener.len, run),
-            _ => unreachable!(),
-        }
+        let Class::Opener {
+            kind,
+            is_raw,
+            quote,
+        } = opener.class
+        else {
+            unreachable!()
+        };
+        let mode = self.nesting.mode();
+        let rest = &self.text[self.at..];
+        let step = literal_piece(
+            &mut self.reads,
+            self.alloc,
+            mode,
+            kind,
+            is_raw,
+            quote,
+            opener.len,
+            run,
+            &rest[opener.len..],
+        )?;
+        Ok(self.take(step))
     }
 
-    /// Reads the f-string text here, of which `run` bytes are known.
+    /// Takes the f-string text here up to its first stop, or stops at its fault. Its first `run` bytes are
+    /// known.
     fn read_text(&mut self, run: usize) -> Result<Option<Lexeme>, AllocError>
         requires sound { IsSound self.old }
         requires here { IsTextRun self.old.text.now run self.old }
         requires peeked { HasPeeked self.old.text.now run (8 * run + 4) self.old }
         ensures text { self.new.text ≡ self.old.text }
         ensures ahead { IfOk result (λ given. TakesNext self.old given self.new) }
-        ensures memory { OnErr result (HasSomething self.old) }
-        ensures less { OnOk result (left_to_read self.old.text.now self.new self.new.stage < left_to_read self.old.text.now self.old self.old.stage) }
-        ensures reads { OnOk result (HasRead self.old.text.now self.new) }
-    {
-        match self.nesting.mode() {
-            LexerMode::InText(opening) => self.read_chunk(opening, run),
-            _ => unreachable!(),
-        }
-    }
-
-    /// Reads what lookahead has found. Returns its lexeme; `None` where it has none, or is a fault.
-    #[inline(always)]
-    fn read_found(&mut self, lookahead: Lookahead) -> Result<Option<Lexeme>, AllocError>
-        requires sound { IsSound self.old }
-        requires found { IsFoundAt self.old.text.now self.old lookahead }
-        ensures text { self.new.text ≡ self.old.text }
-        ensures ahead { IfOk result (λ given. TakesNext self.old given self.new) }
-        ensures memory { OnErr result (HasSomething self.old) }
-        ensures less { OnOk result (2 * left_to_read self.old.text.now self.new self.new.stage < 2 * left_to_read self.old.text.now self.old self.old.stage + left_to_look lookahead.found) }
-        ensures reads { OnOk result (HasRead self.old.text.now self.new) }
-    {
-        match lookahead.found {
-            Found::Named | Found::Unnamed => self.read_word(lookahead.word),
-            Found::Wordless if self.at == self.text.len() => Ok(Some(self.close())),
-            Found::Wordless => self.read_wordless(),
-            Found::Literal => self.read_opened(lookahead.word, lookahead.run),
-            Found::Text => self.read_text(lookahead.run),
-            Found::Nothing | Found::All => Ok(None),
-        }
-    }
-
-    /// The next lexeme of the text, which begins with what lookahead has found; `None` where none is
-    /// left, but maybe the text's fault. Don't use the reader after an `AllocError`.
-    pub fn next(&mut self, lookahead: Lookahead) -> Result<Option<Lexeme>, AllocError>
-        requires sound { IsSound self.old }
-        requires found { IsFoundAt self.old.text.now self.old lookahead }
-        ensures text { self.new.text ≡ self.old.text }
-        ensures next { IfOk result (λ given. TakesNext self.old given self.new) }
         ensures end { IfOk result (λ given. given ≡ None → IsAtEnd self.old.text.now self.new) }
         ensures memory { OnErr result (HasSomething self.old) }
         ensures reads { OnOk result (HasRead self.old.text.now self.new) }
     {
-        let mut here = lookahead;
-        loop {
-            if let Some(lexeme) = self.read_found(here)? {
-                return Ok(Some(lexeme));
-            }
-            if let Some(lexeme) = self.pending.next(&mut self.reads, self.alloc, self.text)? {
-                return Ok(Some(lexeme));
-            }
-            match self.stage {
-                Stage::Begin => {
-                    self.read_first_margin()?;
-                    here.found = Found::All;
-                }
-                Stage::Onward => here = self.look(),
-                Stage::Fault { .. } | Stage::Closed => return Ok(None),
-            }
+        let LexerMode::InText(opening) = self.nesting.mode() else {
+            unreachable!()
+        };
+        let rest = &self.text[self.at..];
+        let step = chunk_from(&mut self.reads, self.alloc, opening, run, rest)?;
+        Ok(self.take(step))
+    }
+
+    /// Reads what lookahead has found. Returns its lexeme; `None` where it is a fault, or the text is at
+    /// its end. Don't use the reader after an `AllocError`.
+    pub fn read(&mut self, lookahead: Lookahead) -> Result<Option<Lexeme>, AllocError>
+        requires sound { IsSound self.old }
+        requires found { IsFoundAt self.old.text.now self.old lookahead }
+        requires looked { IsLooked self.old.text.now self.old lookahead.word lookahead.found }
+        ensures text { self.new.text ≡ self.old.text }
+        ensures ahead { IfOk result (λ given. TakesNext self.old given self.new) }
+        ensures end { IfOk result (λ given. given ≡ None → IsAtEnd self.old.text.now self.new) }
+        ensures memory { OnErr result (HasSomething self.old) }
+        ensures reads { OnOk result (HasRead self.old.text.now self.new) }
+    {
+        match lookahead.found {
+            Found::Word => self.refuse_word(lookahead.word),
+            Found::Wordless if self.at == self.text.len() => Ok(Some(self.close())),
+            Found::Wordless => self.read_wordless(),
+            Found::Literal => self.read_literal(lookahead.word, lookahead.run),
+            Found::Text => self.read_text(lookahead.run),
+            Found::Nothing | Found::All => Ok(None),
         }
     }
 }

@@ -6,20 +6,22 @@ use Rattle.std.specs.Str.{IsCharBoundary}
 use Rattle.starlark_grammar.specs.Reading.{outcome}
 use Rattle.starlark_grammar.specs.Tokens.{Spanned}
 use Rattle.starlark_grammar.specs.Words.{Text, begins, is_name_start}
+use Rattle.starlark_grammar.specs.declared.class.Class.{Class}
 use Rattle.starlark_grammar.specs.declared.class.Class.TheVariants as class
 use Rattle.starlark_grammar.proofs.Order.Inside.{lexemes_few}
 use Rattle.starlark_reader.specs.Inner.Pending.{pending_lexemes}
-use Rattle.starlark_reader.specs.Inner.Reader.{IsAhead, IsAheadAfter, IsAheadPast, IsAtCode, IsInCode, IsSomething, IsText, IsWordHere, newline_if}
+use Rattle.starlark_reader.specs.Inner.Reader.{IsAhead, IsAheadAfter, IsAheadPast, IsAtCode, IsAtEnd, IsInCode, IsSomething, IsText, IsWordHere, KeepsAhead, left_to_read, newline_if}
 use Rattle.starlark_reader.specs.Inner.ReadBounds.{HasLooked, HasLookedHere, HasRead, IsMarginRead, IsTaken}
 use Rattle.starlark_reader.specs.declared.reader.Reader.{Reader}
 use Rattle.starlark_reader.specs.declared.reader.Stage.TheVariants as stages
+use Rattle.starlark_reader.proofs.TakenPieces.PieceTaken.{left_onward}
 use Rattle.starlark_reader.proofs.TakenPieces.ReaderReads.{line_reads}
 use Rattle.starlark_syntax.proofs.LexerItems.{one_more}
-use Rattle.starlark_syntax.proofs.LexerReads.{goes_on, nothing_found, nothing_is, nothing_kept, peeked_after, peeked_more, peeked_taken, word_inside}
-use Rattle.starlark_syntax.proofs.LexerStates.{IsGoingOn, IsSameText, same_lexing}
+use Rattle.starlark_syntax.proofs.LexerReads.{goes_on, most_few, nothing_found, nothing_is, nothing_kept, peeked_after, peeked_more, peeked_taken, word_inside}
+use Rattle.starlark_syntax.proofs.LexerStates.{IsGoingOn, same_lexing, same_text}
 use Rattle.starlark_syntax.proofs.PlainLexemes.{newline_passed, passed_same}
-use Rattle.starlark_syntax.specs.Inner.LexerStates.{HasPassed, HasPassedNext, IsAtWord, IsLexing, IsLexingIn, IsTakenNext, IsUnnamed, is_out_of_memory, left_in, passed_count, plain_mark, view_of}
-use Rattle.starlark_reader.specs.Inner.Lookaheads.{HasPeeked, IsFound, IsFoundAt, is_nothing}
+use Rattle.starlark_syntax.specs.Inner.LexerStates.{HasGoneOn, HasPassed, HasPassedNext, IsAtWord, IsLexing, IsLexingIn, IsTakenNext, IsUnnamed, StateView, is_out_of_memory, left_in, left_to_pass, passed_count, plain_mark, view_of}
+use Rattle.starlark_reader.specs.Inner.Lookaheads.{HasPeeked, IsFound, IsFoundAt, is_nothing, is_slow, most_peeked}
 use Rattle.starlark_syntax.specs.declared.lexer_state.FastPath.{FastPath}
 use Rattle.starlark_syntax.specs.declared.lexer_state.FastPath.TheVariants as fast
 use Rattle.starlark_syntax.specs.declared.lexer_state.LexerState.{LexerState}
@@ -29,6 +31,7 @@ use Rattle.starlark_syntax.specs.declared.plain_lexeme.PlainKind.TheVariants as 
 use Rattle.starlark_token.specs.Lexemes.{shown_lexeme}
 use Rattle.starlark_token.specs.TokenViews.{TokenView}
 use Rattle.starlark_token.specs.declared.tokens.Token.{Token}
+use Rattle.starlark_words.specs.Inner.ScannedWords.{begins_mark}
 use Rattle.starlark_words.specs.declared.scanner.word.Word.{Word}
 
 -- the reader took something
@@ -57,53 +60,68 @@ past_lexing old lexeme reader it same text going past is =
     (text, (λ on. (omega (arith, further.0, length-map (outcome old.reader.text.now).lexemes shown_lexeme), rw further.1 past.2)), goes_on it.found old.has_ended going, (λ on. is)) in
     same_lexing old.reader.text.now (record old { reader = reader; yielded_count = old.yielded_count + 1; lookahead = it }) (ap (λ t. t.now) same) lexing
 
+-- no error has ended the lexer where it may look ahead
+pub still_going : (state : LexerState) → IsLexing state → is_nothing state.lookahead.found ≡ true → state.has_ended ≡ false
+still_going state lexing nothing = (nothing_found state.reader.text.now state.reader state.has_ended state.lookahead nothing lexing.2 lexing.3).0
+
 -- the scanner has found a word
-pub at_word : (first state : LexerState) (mid : Reader) (word : Word) → mid.text ≡ state.reader.text → IsLexing first → IsGoingOn first state → is_nothing state.lookahead.found ≡ true → HasLooked word.len ((5 * word.len - 4) + 2) state.reader mid
-    → IsAhead state.reader.text.now mid mid.stage (left_in state) (outcome state.reader.text.now).fault → IsWordHere mid.text.now mid word → IsAtWord (record state { reader = mid }) word
-at_word first state mid word same lexing on nothing looked ahead stands =
+pub at_word : (state : LexerState) (mid : Reader) (word : Word) → mid.text ≡ state.reader.text → IsLexing state → is_nothing state.lookahead.found ≡ true → HasLooked word.len ((5 * word.len - 4) + 2) state.reader mid → KeepsAhead state.reader mid → IsWordHere mid.text.now mid word
+    → IsAtWord (record state { reader = mid }) word
+at_word state mid word same lexing nothing looked keeps stands =
     let text = ap (λ t. t.now) same in
-    let quick = nothing_found state.reader.text.now state.reader state.has_ended state.lookahead nothing on.4 on.5 in
-    let inv = lexing.1 (sym on.2 ∙ quick.0) in
-    let here = subst (λ (t : Text). IsAhead t mid mid.stage (drop state.yielded_count (map shown_lexeme (outcome t).lexemes)) (outcome t).fault) (sym text) ahead in
+    let quick = nothing_found state.reader.text.now state.reader state.has_ended state.lookahead nothing lexing.2 lexing.3 in
+    let inv = lexing.1 quick.0 in
+    let here = subst (λ (t : Text). IsAhead t mid mid.stage (drop state.yielded_count (map shown_lexeme (outcome t).lexemes)) (outcome t).fault) (sym text) (keeps _ _ inv.1) in
     let inside = word_inside mid.text.now mid _ _ word.class word.len stands.stage here (sym stands.front) in
     let peeked = peeked_after state.reader.text.now word.len ((5 * word.len - 4) + 2) (5 * word.len - 2) state.reader mid quick.1.stage quick.2 looked (omega (arith, inside.0)) in
     record {
-      text = rw (same, on.0) lexing.0;
+      text = rw same lexing.0;
       going = quick.0;
-      few = rw (same, on.0, on.1) inv.0;
+      few = rw same inv.0;
       ahead = here;
       stands = stands;
       lookahead = nothing_is state.lookahead.found nothing;
       read = subst (λ (t : Text). HasPeeked t word.len (5 * word.len - 2) mid) (sym text) peeked;
     }
 
--- where the fast path doesn't pass it, it is stored
-pub word_found : (state : LexerState) (word : Word) → IsAtWord state word → HasPassedNext state fast.Undecided (record state { lookahead = record state.lookahead { found = found.Named; word = word } })
-word_found state word at =
-    let none : state.yielded_count + 0 ≡ state.yielded_count = omega (arith) in
-    record { passed = tt; lexing = (at.text, (λ on. (at.few, at.ahead)), at.going, (λ goes. (at.stands, at.read))); after = rw (at.going, none) refl }
-
 -- where the first two bytes tell no word
-pub unnamed_here : (first state : LexerState) (mid : Reader) → mid.text ≡ state.reader.text → IsLexing first → IsGoingOn first state → is_nothing state.lookahead.found ≡ true → HasLooked 2 2 state.reader mid
-    → IsAhead state.reader.text.now mid mid.stage (left_in state) (outcome state.reader.text.now).fault → IsAtCode mid.text.now mid → begins is_name_start (drop mid.at mid.text.now) ≡ false → IsUnnamed (record state { reader = mid })
-unnamed_here first state mid same lexing on nothing looked ahead code unnamed =
+pub unnamed_here : (state : LexerState) (mid : Reader) → mid.text ≡ state.reader.text → IsLexing state → is_nothing state.lookahead.found ≡ true → HasLooked 2 2 state.reader mid → KeepsAhead state.reader mid → IsAtCode mid.text.now mid → begins is_name_start (drop mid.at mid.text.now) ≡ false → begins_mark (drop mid.at mid.text.now) ≡ false
+    → IsUnnamed (record state { reader = mid })
+unnamed_here state mid same lexing nothing looked keeps code unnamed marks =
     let text = ap (λ t. t.now) same in
-    let quick = nothing_found state.reader.text.now state.reader state.has_ended state.lookahead nothing on.4 on.5 in
-    let inv = lexing.1 (sym on.2 ∙ quick.0) in
+    let quick = nothing_found state.reader.text.now state.reader state.has_ended state.lookahead nothing lexing.2 lexing.3 in
+    let inv = lexing.1 quick.0 in
     record {
-      text = rw (same, on.0) lexing.0;
+      text = rw same lexing.0;
       going = quick.0;
-      few = rw (same, on.0, on.1) inv.0;
-      ahead = subst (λ (t : Text). IsAhead t mid mid.stage (drop state.yielded_count (map shown_lexeme (outcome t).lexemes)) (outcome t).fault) (sym text) ahead;
+      few = rw same inv.0;
+      ahead = subst (λ (t : Text). IsAhead t mid mid.stage (drop state.yielded_count (map shown_lexeme (outcome t).lexemes)) (outcome t).fault) (sym text) (keeps _ _ inv.1);
       code = code;
       unnamed = unnamed;
+      marks = marks;
+      lookahead = nothing_is state.lookahead.found nothing;
       read = subst (λ (t : Text). HasPeeked t 2 2 mid) (sym text) (peeked_after state.reader.text.now 2 2 2 state.reader mid quick.1.stage quick.2 looked (omega arith));
     }
 
--- a word that was found stands at the reader's offset
-pub named_here : (state : LexerState) (word : Word) → IsLexing state → state.has_ended ≡ false → state.lookahead.found ≡ found.Named → state.lookahead.word ≡ word
-    → IsWordHere state.reader.text.now state.reader word × HasPeeked state.reader.text.now word.len (5 * word.len - 2) state.reader
-named_here state word lexing going is same = subst (λ w. IsWordHere state.reader.text.now state.reader w × HasPeeked state.reader.text.now w.len (5 * w.len - 2) state.reader) same (subst (IsFound state.reader.text.now state.reader state.lookahead.word state.lookahead.run) is (lexing.3 going))
+-- what was found is stored, where the fast path doesn't pass it
+pub word_stored : (state : LexerState) (reader : Reader) (word : Word) → reader.text ≡ state.reader.text → IsText state.reader.text.now → state.has_ended ≡ false → state.yielded_count ≤ length (outcome state.reader.text.now).lexemes → IsAhead state.reader.text.now reader reader.stage (left_in state) (outcome state.reader.text.now).fault
+    → IsWordHere state.reader.text.now reader word → is_slow word.class ≡ true → HasPeeked state.reader.text.now word.len (most_peeked word) reader → HasPassedNext state fast.Undecided (record state { reader = reader; lookahead = record state.lookahead { found = found.Word; word = word } })
+word_stored state reader word same text going few ahead here slow peeked =
+    let none : state.yielded_count + 0 ≡ state.yielded_count = omega (arith) in
+    record {
+      passed = record { some = λ e. cc; end = λ e. cc };
+      lexing = same_lexing state.reader.text.now (record state { reader = reader; lookahead = record state.lookahead { found = found.Word; word = word } }) (ap (λ t. t.now) same) (text, (λ on. (few, ahead)), going, (λ goes. (here, slow, peeked)));
+      after = rw (same, going, none) refl;
+    }
+
+pub word_found : (state : LexerState) (word : Word) → IsAtWord state word → is_slow word.class ≡ true → HasPassedNext state fast.Undecided (record state { lookahead = record state.lookahead { found = found.Word; word = word } })
+word_found state word at slow =
+    word_stored state state.reader word refl at.text at.going at.few at.ahead at.stands slow (at.read.0, at.read.1, (at.read.2.0, omega (arith, at.read.2.1, (most_few word).0)))
+
+-- a word that was stored stands at the reader's offset
+pub word_here : (state : LexerState) (word : Word) → IsLexing state → state.has_ended ≡ false → state.lookahead.found ≡ found.Word → state.lookahead.word ≡ word
+    → IsWordHere state.reader.text.now state.reader word × (is_slow word.class ≡ true) × HasPeeked state.reader.text.now word.len (most_peeked word) state.reader
+word_here state word lexing going is same = subst (λ w. IsWordHere state.reader.text.now state.reader w × (is_slow w.class ≡ true) × HasPeeked state.reader.text.now w.len (most_peeked w) state.reader) same (subst (IsFound state.reader.text.now state.reader state.lookahead.word state.lookahead.run) is (lexing.3 going))
 
 -- so it is after a literal without escapes
 pub plain_after : {A E : Type 0} (taken : Result A E) (old mid new : Reader) (len body : ℕ) → mid.text ≡ old.text → new.text ≡ mid.text → HasPeeked old.text.now len (5 * len - 2) old → HasLookedHere (body + 1) (6 * body + 3) old mid
@@ -113,21 +131,49 @@ plain_after (Ok given) old mid new len body same again peeked looked code passed
     (code, subst (λ (t : Text). HasRead t new) (sym (ap (λ t. t.now) (again ∙ same))) (peeked_taken old.text.now (len + body + 1) (5 * len + 6 * body + 3) (len + body + 1) mid new more (omega arith) (omega arith) (passed.1, passed.2)))
 plain_after (Err error) old mid new len body same again peeked looked code passed = tt
 
--- after a newline that doesn't count it goes on
-pub line_end_passed : (first state : LexerState) (mid new : Reader) (len : ℕ) → mid.text ≡ state.reader.text → new.text ≡ mid.text → IsGoingOn first state
-    → IsAtWord (record state { reader = mid }) (record { class = class.LineEnd; len = len }) → IsAhead mid.text.now new new.stage (left_in (record state { reader = mid })) (outcome mid.text.now).fault → IsAtCode mid.text.now new → IsTaken len mid new
-    → IsGoingOn first (record state { reader = new })
-line_end_passed first state mid new len same again on at ahead code taken =
-    let text = sym (ap (λ t. t.now) again) in
-    let read = peeked_taken mid.text.now len (5 * len - 2) len mid new at.read (omega arith) (omega arith) (taken.1, taken.2) in (
-      again ∙ same ∙ on.0,
-      on.1,
-      on.2,
-      (λ going. subst (λ (t : Text). IsAhead t new new.stage (drop state.yielded_count (map shown_lexeme (outcome t).lexemes)) (outcome t).fault) text ahead),
-      on.4,
-      (λ going. subst (λ (t : Text). IsFoundAt t new state.lookahead) text (nothing_kept mid.text.now new state.lookahead at.lookahead code read)),
-      (λ ended. let both : true ≡ false = sym ended ∙ at.going in cc),
-    )
+-- the measure while the reader goes on
+pub left_on : (text : Text) (reader : Reader) → reader.stage ≡ stages.Onward → left_to_read text reader reader.stage ≡ length text - reader.at + 2
+left_on text reader onward = ap (left_to_read text reader) onward
+
+-- what has no lexeme was passed
+pub word_passed : (state : LexerState) (new : Reader) (len most : ℕ) → new.text ≡ state.reader.text → IsText state.reader.text.now → state.has_ended ≡ false → state.yielded_count ≤ length (outcome state.reader.text.now).lexemes → state.lookahead.found ≡ found.Nothing → state.reader.stage ≡ stages.Onward
+    → HasPeeked state.reader.text.now len most state.reader → most ≤ 10 * len → IsAhead state.reader.text.now new new.stage (left_in state) (outcome state.reader.text.now).fault → IsAtCode state.reader.text.now new → IsTaken len state.reader new → HasGoneOn state (record state { reader = new })
+word_passed state new len most same text going few nothing onward peeked enough ahead code taken =
+    let text_now = state.reader.text.now in
+    let read = peeked_taken text_now len most len state.reader new peeked (omega arith) enough (taken.1, taken.2) in
+    let inside = (left_onward text_now new _ _ taken.2 ahead).is_left.1.inside in
+    let left : left_to_read text_now new new.stage < left_to_read text_now state.reader state.reader.stage = omega (arith, left_on text_now new taken.2, left_on text_now state.reader onward, taken.0, taken.1.0, inside) in
+    record {
+      lexing = same_lexing text_now (record state { reader = new }) (ap (λ t. t.now) same) (text, (λ on. (few, ahead)), goes_on state.lookahead.found state.has_ended going, (λ on. nothing_kept text_now new state.lookahead nothing code read));
+      after = rw same refl;
+      less = rw same (omega (arith, left));
+    }
+
+-- after what the reader looked at
+pub gone_from : (state new : LexerState) (reader : Reader) → reader.text ≡ state.reader.text → left_to_read state.reader.text.now reader reader.stage ≤ left_to_read state.reader.text.now state.reader state.reader.stage → HasGoneOn (record state { reader = reader }) new → HasGoneOn state new
+gone_from state new reader same less gone =
+    let left = gone.less in
+    let fewer : left_to_read reader.text.now reader reader.stage ≤ left_to_read state.reader.text.now state.reader state.reader.stage = subst (λ (t : Text). left_to_read t reader reader.stage ≤ left_to_read state.reader.text.now state.reader state.reader.stage) (sym (ap (λ t. t.now) same)) less in
+    record { lexing = gone.lexing; after = gone.after ∙ rw same refl; less = omega (arith, left, fewer) }
+
+-- after it the lexer goes on
+pub gone_on : (first state new : LexerState) → IsGoingOn first state → state.has_ended ≡ false → HasGoneOn state new → IsGoingOn first new
+gone_on first state new on going gone =
+    let before = same_text first state state.reader on refl in
+    let was : state.has_ended ≡ first.has_ended = ap (λ (v : StateView). v.has_ended) on.same in
+    let goes : new.has_ended ≡ false = ap (λ (v : StateView). v.has_ended) gone.after ∙ going in
+    record {
+      lexing = gone.lexing;
+      same = gone.after ∙ rw (before.0, before.1, was) refl;
+      ended = λ ended. (let both : true ≡ false = sym ended ∙ goes in cc);
+    }
+
+-- what was found in code, and has no lexeme
+pub found_passed : (first state : LexerState) (mid new : Reader) (it : Class) (len : ℕ) → IsGoingOn first state → mid.text ≡ state.reader.text → new.text ≡ mid.text → left_to_read state.reader.text.now mid mid.stage ≤ left_to_read state.reader.text.now state.reader state.reader.stage → IsAtWord (record state { reader = mid }) (record { class = it; len = len })
+    → IsAhead mid.text.now new new.stage (left_in (record state { reader = mid })) (outcome mid.text.now).fault → IsAtCode mid.text.now new → IsTaken len mid new → IsGoingOn first (record state { reader = new }) × (left_to_pass (record state { reader = new }) < left_to_pass state)
+found_passed first state mid new it len on same again less at ahead code taken =
+    let gone = gone_from state (record state { reader = new }) mid same less (word_passed (record state { reader = mid }) new len (5 * len - 2) again at.text at.going at.few at.lookahead at.stands.stage at.read (omega arith) ahead code taken) in
+    (gone_on first state (record state { reader = new }) on at.going gone, gone.less)
 
 -- what was read of a newline that counts, and of the margin after it
 margin_read : (state : LexerState) (len : ℕ) (new : Reader) → IsAtWord state (record { class = class.LineEnd; len = len }) → IsMarginRead state.reader.text.now len state.reader new new.stage → HasRead state.reader.text.now new
@@ -159,22 +205,29 @@ plain_newline state len new same at last margin onward is =
 
 -- the margin after a newline has a fault
 pub faulty_margin : (state : LexerState) (len : ℕ) (new : Reader) → new.text ≡ state.reader.text → IsAtWord state (record { class = class.LineEnd; len = len }) → IsMarginRead state.reader.text.now len state.reader new new.stage
-    → IsAhead state.reader.text.now new new.stage (left_in state) (outcome state.reader.text.now).fault → HasPassedNext state fast.Undecided (record state { reader = new; lookahead = record state.lookahead { found = found.All } })
-faulty_margin state len new same at margin ahead =
+    → IsAhead state.reader.text.now new new.stage (left_in state) (outcome state.reader.text.now).fault → IsAtEnd state.reader.text.now new → HasPassedNext state fast.Undecided (record state { reader = new; lookahead = record state.lookahead { found = found.All } })
+faulty_margin state len new same at margin ahead end =
     let none : state.yielded_count + 0 ≡ state.yielded_count = omega (arith) in
-    record { passed = tt; lexing = same_lexing state.reader.text.now (record state { reader = new; lookahead = record state.lookahead { found = found.All } }) (ap (λ t. t.now) same) (at.text, (λ on. (at.few, ahead)), tt, (λ on. margin_read state len new at margin)); after = rw (same, at.going, none) refl }
+    record {
+      passed = record { some = λ e. cc; end = λ e. subst (λ (t : Text). IsAtEnd t new) (sym (ap (λ t. t.now) same)) end };
+      lexing = same_lexing state.reader.text.now (record state { reader = new; lookahead = record state.lookahead { found = found.All } }) (ap (λ t. t.now) same) (at.text, (λ on. (at.few, ahead)), tt, (λ on. margin_read state len new at margin));
+      after = rw (same, at.going, none) refl;
+    }
 
--- what the fast path passed after line ends that don't count, it passed of the lexer before them
+-- what the fast path passed after what has no lexeme, it passed of the lexer before that
 pub record HasPassedSince (first : LexerState) (found : FastPath) (new : LexerState) : Type 0 where
   pub ended : first.has_ended ≡ true → (found ≡ fast.Undecided) × (new ≡ first)
   pub passed : first.has_ended ≡ false → HasPassed first found new
   pub lexing : IsLexing new
   pub after : view_of new ≡ record (view_of first) { yielded_count = first.yielded_count + passed_count found; has_ended = first.has_ended || is_out_of_memory found; reads = new.reader.reads }
 
-pub passed_since : (first mid : LexerState) (found : FastPath) (new : LexerState) → IsSameText first mid → first.has_ended ≡ false → HasPassedNext mid found new → HasPassedSince first found new
-passed_since first mid found new same going is = record {
-  ended = λ ended. (let both : true ≡ false = sym ended ∙ going in cc);
-  passed = λ on. passed_same first mid found new same is.passed;
-  lexing = is.lexing;
-  after = rw (going, sym same.0, sym same.1) is.after;
-}
+pub passed_since : (first state : LexerState) (reader : Reader) (found : FastPath) (new : LexerState) → IsGoingOn first state → state.has_ended ≡ false → reader.text ≡ state.reader.text → HasPassedNext (record state { reader = reader }) found new → HasPassedSince first found new
+passed_since first state reader found new on going same is =
+    let before = same_text first state reader on same in
+    let goes : first.has_ended ≡ false = sym (ap (λ (v : StateView). v.has_ended) on.same) ∙ going in
+    record {
+      ended = λ ended. (let both : true ≡ false = sym ended ∙ goes in cc);
+      passed = λ on. passed_same first (record state { reader = reader }) found new before is.passed;
+      lexing = is.lexing;
+      after = rw (goes, sym before.0, sym before.1) is.after;
+    }

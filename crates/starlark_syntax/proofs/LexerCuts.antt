@@ -1,5 +1,5 @@
 -- Where a lexer may cut its text.
-use Rattle.std.proofs.Common.{◌≡◌, ◌<◌, ◌+◌, ◌∙◌, ℕ, Bool, false, true, ap, refl, sym, subst, length, map, take, arith, IfSome, None, Some, Ok, Err}
+use Rattle.std.proofs.Common.{◌≡◌, ◌<◌, ◌+◌, ◌∙◌, ℕ, Bool, false, true, ap, refl, sym, subst, length, map, take, arith, IfSome, None, Some, Ok, rules}
 use Rattle.std.proofs.lemmas.Bool.{and_parts, lt-ltb, ltb-true}
 use Rattle.std.proofs.lemmas.List.{length-drop, length-map}
 use Rattle.std.specs.Prelude.{◌&&◌, ◌||◌, if◌then◌else◌, nat_lt, not, OnOk, Option, Result}
@@ -16,7 +16,7 @@ use Rattle.starlark_reader.specs.declared.reader.Before.TheVariants as before
 use Rattle.starlark_reader.specs.declared.reader.Reader.{Reader}
 use Rattle.starlark_reader.specs.declared.reader.Stage.{Stage}
 use Rattle.starlark_reader.specs.declared.reader.Stage.TheVariants as stages
-use Rattle.starlark_syntax.proofs.LexedTexts.HeldCuts.{kept_some}
+use Rattle.starlark_syntax.proofs.LexedTexts.KeptCuts.{kept_some}
 use Rattle.starlark_syntax.specs.CutAfter.{IsCutAfter, KnowsCut}
 use Rattle.starlark_syntax.specs.Inner.LexerStates.{HasAnswered, IsLexing, StateView, known_cut, left_in, lexer_view, reached_cut, view_of}
 use Rattle.starlark_syntax.specs.Lexer.{is_ended_by, yielded_by}
@@ -49,11 +49,6 @@ unfolding known_cut
 known_is state = refl
 
 reached_is : (text : Text) (reader : Reader) (stage : Stage) (before : Before) (at : ℕ) → reader.stage ≡ stage → reader.before ≡ before → reached_cut text reader stage before ≡ Some at → IsReached reader at × (0 < at) × (at < length text)
-reached_is text reader stages.Begin before at on layout is = cc
-reached_is text reader (stages.Fault begin fault end) before at on layout is = cc
-reached_is text reader stages.Closed before at on layout is = cc
-reached_is text reader stages.Onward before.Gap at on layout is = cc
-reached_is text reader stages.Onward before.Other at on layout is = cc
 reached_is text reader stages.Onward before.Layout at on layout is = by (reader.pending.is_flat && nat_lt 0 reader.pending.from && nat_lt reader.pending.from (length text)) refl is
   where
     from : ℕ
@@ -65,9 +60,8 @@ reached_is text reader stages.Onward before.Layout at on layout is = by (reader.
         let place : from ≡ at = cc in
         let both = and_parts (reader.pending.is_flat && nat_lt 0 from) (nat_lt from (length text)) e in
         let parts = and_parts reader.pending.is_flat (nat_lt 0 from) both.0 in
-        let first = ltb-true 0 from parts.1 in
-        let inside = ltb-true from (length text) both.1 in
-        (((on, layout, parts.0), sym place), omega (arith, first, place), omega (arith, inside, place))
+        (((on, layout, parts.0), sym place), omega (arith, ltb-true 0 from parts.1, place), omega (arith, ltb-true from (length text) both.1, place))
+reached_is text reader stage before at on layout is = cc
 
 -- the reader has reached each cut that is known
 pub known_reached : (state : LexerState) (at : ℕ) → known_cut state ≡ Some at → (state.has_ended ≡ false) × (IsReached state.reader at × (0 < at) × (at < length state.reader.text.now))
@@ -77,18 +71,12 @@ known_reached state at is = by state.has_ended (nat_lt 0 state.yielded_count) re
     found = reached_cut state.reader.text.now state.reader state.reader.stage state.reader.before
 
     by : (ended some : Bool) → state.has_ended ≡ ended → (if not ended && some then found else None) ≡ Some at → (state.has_ended ≡ false) × (IsReached state.reader at × (0 < at) × (at < length state.reader.text.now))
-    by true some e same = cc
-    by false false e same = cc
     by false true e same = (e, reached_is state.reader.text.now state.reader state.reader.stage state.reader.before at refl refl same)
+    by ended some e same = cc
 
 -- each cut that the reader has reached after a lexeme is known
 cut_known : (state : LexerState) (at : ℕ) → state.has_ended ≡ false → 0 < state.yielded_count → IsReached state.reader at → 0 < at → at < length state.reader.text.now → known_cut state ≡ Some at
-cut_known state at going some reached first inside =
-    let place : at ≡ state.reader.pending.from = reached.1 in
-    let yielded = lt-ltb 0 state.yielded_count some in
-    let after_start = lt-ltb 0 state.reader.pending.from (omega (arith, first, place)) in
-    let before_end = lt-ltb state.reader.pending.from (length state.reader.text.now) (omega (arith, inside, place)) in
-    known_is state ∙ rw (going, yielded, reached.0.0, reached.0.1, reached.0.2, after_start, before_end) (ap Some (sym place))
+cut_known state at going some reached first inside = search (rules, lt-ltb, known_is)
 
 no_cut_yet : (state : LexerState) → state.yielded_count ≡ 0 → known_cut state ≡ None
 no_cut_yet state none = known_is state ∙ rw none (by state.has_ended)
@@ -99,25 +87,21 @@ no_cut_yet state none = known_is state ∙ rw none (by state.has_ended)
 
 pub fresh_view : (state : LexerState) (text : Text) (file : SourceFile) → view_of state ≡ record { text = text; yielded_count = 0; has_ended = false; reads = 0 }
     → lexer_view state file false ≡ record { text = text; code_map = file; yielded_count = 0; has_ended = false; reads = 0; cut = None }
-fresh_view state text file is =
-    ap (λ (v : StateView). record { text = v.text; code_map = file; yielded_count = v.yielded_count; has_ended = v.has_ended && true; reads = v.reads; cut = known_cut state }) is
-    ∙ ap (λ cut. record { text = text; code_map = file; yielded_count = 0; has_ended = false; reads = 0; cut = cut }) (no_cut_yet state (ap (λ (v : StateView). v.yielded_count) is))
+fresh_view state text file is = search (rules, no_cut_yet)
 
 -- After a lexeme
 
 pub knows_cut : (old new : LexerState) (lexeme : Spanned TokenView) (fault : Option (Spanned Fault)) → IsLexing old → old.has_ended ≡ false → IsAheadPast old.reader.text.now lexeme new.reader (left_in old) fault
     → new.reader.text.now ≡ old.reader.text.now → new.yielded_count ≡ old.yielded_count + 1 → new.has_ended ≡ false → KnowsCut new.reader.text.now new.yielded_count (known_cut new)
 knows_cut old new lexeme fault lexing going past text count goes = λ at cut.
-    let counted = subst (λ (t : Text). length (without_closing (outcome (take at t)).lexemes) ≡ new.yielded_count) text cut.lexemes in
-    let left = ap length past.1 in
     let before : IsCutBefore old.reader.text.now at (length past.0) = record {
       inside = subst (λ (t : Text). at < length t) text cut.inside;
       is_kept = subst (λ (t : Text). is_kept_cut t at ≡ true) text cut.is_kept;
       count = omega (
         arith,
-        counted,
+        subst (λ (t : Text). length (without_closing (outcome (take at t)).lexemes) ≡ new.yielded_count) text cut.lexemes,
         count,
-        left,
+        ap length past.1,
         (lexing.1 going).0,
         length-drop old.yielded_count (map shown_lexeme (outcome old.reader.text.now).lexemes),
         length-map (outcome old.reader.text.now).lexemes shown_lexeme,
@@ -128,7 +112,6 @@ knows_cut old new lexeme fault lexing going past text count goes = λ at cut.
 pub answers_cut : (old : LexerState) (answer : Option (Result (ℕ × Token × ℕ) (OrMemory (Diagnosed ErrorKind)))) (new : LexerState) → IsLexing old → old.has_ended ≡ false → HasAnswered old answer new
     → view_of new ≡ record (view_of old) { yielded_count = old.yielded_count + yielded_by answer; has_ended = old.has_ended || is_ended_by answer; reads = new.reader.reads }
     → IfSome answer (λ item. OnOk item (KnowsCut new.reader.text.now new.yielded_count (known_cut new)))
-answers_cut old None new lexing going is after = tt
-answers_cut old (Some (Err refused)) new lexing going is after = tt
 answers_cut old (Some (Ok lexeme)) new lexing going is after =
     knows_cut old new (lexeme_view lexeme) (outcome old.reader.text.now).fault lexing going is (ap (λ (v : StateView). v.text) after) (ap (λ (v : StateView). v.yielded_count) after) (ap (λ (v : StateView). v.has_ended) after ∙ ap (λ b. b || false) going)
+answers_cut old answer new lexing going is after = tt

@@ -28,10 +28,10 @@ abbrev given : Lexeme → LexerItem
 given lexeme = Given (shown_lexeme lexeme)
 
 given_at : (ls : List Lexeme) (h : ℕ) (x : Spanned TokenView) (more : List (Spanned TokenView)) (rest : List LexerItem) → drop h (map shown_lexeme ls) ≡ x ∷ more → slice_get (map given ls ++ rest) h ≡ Some (Given x)
-given_at [] zero x more rest e = cc
-given_at [] (suc h) x more rest e = cc
 given_at (l ∷ ls) zero x more rest e = let same : shown_lexeme l ≡ x = cc in ap (λ v. Some (Given v)) same
 given_at (l ∷ ls) (suc h) x more rest e = given_at ls h x more rest e
+given_at [] zero x more rest e = cc
+given_at [] (suc h) x more rest e = cc
 
 after_all : (ls : List Lexeme) (h : ℕ) (rest : List LexerItem) → h ≤ length ls → drop h (map shown_lexeme ls) ≡ [] → slice_get (map given ls ++ rest) h ≡ slice_get rest 0
 after_all [] zero rest inside e = refl
@@ -40,13 +40,13 @@ after_all (l ∷ ls) zero rest inside e = cc
 after_all (l ∷ ls) (suc h) rest inside e = after_all ls h rest (omega (arith, inside)) e
 
 pub one_more : {A : Type 0} (xs : List A) (h : ℕ) (x : A) (more : List A) → drop h xs ≡ x ∷ more → (h + 1 ≤ length xs) × (drop (h + 1) xs ≡ more)
-one_more [] zero x more e = cc
-one_more [] (suc h) x more e = cc
 one_more (y ∷ ys) zero x more e = (omega arith, let same : ys ≡ more = cc in same)
 one_more (y ∷ ys) (suc h) x more e =
     let further = one_more ys h x more e in
     let next : suc h + 1 ≡ suc (h + 1) = omega arith in
     (omega (arith, further.0), ap (λ n. drop n (y ∷ ys)) next ∙ further.1)
+one_more [] zero x more e = cc
+one_more [] (suc h) x more e = cc
 
 pub lexeme_item : (text : Text) (h : ℕ) (x : Spanned TokenView) (more : List (Spanned TokenView)) → drop h (map shown_lexeme (outcome text).lexemes) ≡ x ∷ more → slice_get (items text) h ≡ Some (Given x)
 unfolding items
@@ -69,10 +69,10 @@ some_item text h inside some = by_rest (drop h (map shown_lexeme (outcome text).
     by_rest [] e None has = absurd (some e has)
 
 one_within : (P : ℕ → ℕ → Type 0) (ls : List Lexeme) (h : ℕ) (x : Spanned TokenView) (more : List (Spanned TokenView)) → AllByRecursion (λ (l : Lexeme). P l.begin l.end) ls → drop h (map shown_lexeme ls) ≡ x ∷ more → P x.begin x.end
-one_within P [] zero x more all e = cc
-one_within P [] (suc h) x more all e = cc
 one_within P (l ∷ ls) zero x more all e = let same : shown_lexeme l ≡ x = cc in subst (λ (s : Spanned TokenView). P s.begin s.end) same all.0
 one_within P (l ∷ ls) (suc h) x more all e = one_within P ls h x more all.1 e
+one_within P [] zero x more all e = cc
+one_within P [] (suc h) x more all e = cc
 
 pub lexeme_within : (text : Text) (h : ℕ) (x : Spanned TokenView) (more : List (Spanned TokenView)) → length text < 2 ^ 32 → drop h (map shown_lexeme (outcome text).lexemes) ≡ x ∷ more → IsWithin text x.begin x.end
 lexeme_within text h x more short e =
@@ -85,9 +85,8 @@ ItemBetween text (Given lexeme) = IsCharBoundary text lexeme.begin × IsCharBoun
 ItemBetween text (Refused fault) = AtBoundaries text fault
 
 fault_between : (text : Text) (fault : Option (Spanned Fault)) (h : ℕ) → IfSome fault (AtBoundaries text) → IfSome (slice_get (map Refused (option_to_list fault)) h) (ItemBetween text)
-fault_between text None h edges = tt
 fault_between text (Some fault) zero edges = edges
-fault_between text (Some fault) (suc h) edges = tt
+fault_between text fault h edges = tt
 
 all_between : (text : Text) (ls : List Lexeme) (rest : List LexerItem) (h : ℕ) → AllByRecursion (AtBoundaries text) ls → ((k : ℕ) → IfSome (slice_get rest k) (ItemBetween text))
     → IfSome (slice_get (map given ls ++ rest) h) (ItemBetween text)
@@ -109,14 +108,11 @@ refused_between text fault utf8 has = subst (λ (found : Option (Spanned Fault))
 -- so is what is answered for it
 answer_between : (text : Text) (file : SourceFile) (item : Option LexerItem) (answer : Option (Result (ℕ × Token × ℕ) (OrMemory (Diagnosed ErrorKind)))) → IfSome item (ItemBetween text) → AnswersNext file item answer → AnswersBetween text answer
 answer_between text file None None between is = tt
-answer_between text file None (Some answer) between is = absurd is
-answer_between text file (Some item) None between is = absurd is
 answer_between text file (Some item) (Some (Err Memory)) between is = tt
 answer_between text file (Some (Given lexeme)) (Some (Ok found)) between is = subst (λ (s : Spanned TokenView). IsCharBoundary text s.begin × IsCharBoundary text s.end) (sym is) between
-answer_between text file (Some (Given lexeme)) (Some (Err (Error exception))) between is = absurd is
-answer_between text file (Some (Refused fault)) (Some (Ok found)) between is = absurd is
 answer_between text file (Some (Refused fault)) (Some (Err (Error exception))) between is =
     subst (λ (d : Diagnosed ErrorKind). IfSome d.span (λ place. IsCharBoundary text place.span.begin × IsCharBoundary text place.span.end)) (sym is.2) between
+answer_between text file item answer between is = absurd is
 
 pub next_between : (text : Text) (file : SourceFile) (h : ℕ) (answer : Option (Result (ℕ × Token × ℕ) (OrMemory (Diagnosed ErrorKind)))) → IsUtf8 text → AnswersNext file (slice_get (items text) h) answer → AnswersBetween text answer
 next_between text file h answer utf8 is = answer_between text file (slice_get (items text) h) answer (item_between text h utf8) is

@@ -1,5 +1,5 @@
 -- What lookahead has found, and what it reads.
-use Rattle.std.proofs.Common.{◌≡◌, ◌≢◌, ◌≤◌, ◌<◌, ◌+◌, ◌-◌, ◌*◌, Bool, List, Option, Some, true, false, ℕ, drop, ap, length, refl, subst, sym, arith}
+use Rattle.std.proofs.Common.{rules, ◌≡◌, if◌then◌else◌, ◌≢◌, ◌≤◌, ◌<◌, ◌+◌, ◌-◌, ◌*◌, Bool, List, Option, Some, true, false, ℕ, drop, ap, length, refl, subst, sym, arith}
 use Rattle.std.proofs.lemmas.List.{length-drop, length-take}
 use Rattle.starlark_grammar.specs.Front.{language_front}
 use Rattle.starlark_grammar.specs.Tokens.{Fault, Spanned}
@@ -13,7 +13,7 @@ use Rattle.starlark_token.specs.TokenViews.{TokenView}
 use Rattle.starlark_words.specs.Inner.LiteralViews.{single_literal}
 use Rattle.starlark_words.specs.Inner.PlainRuns.{IsRun}
 use Rattle.starlark_words.specs.declared.scanner.word.Word.{Word}
-use Rattle.starlark_reader.specs.Inner.Lookaheads.{HasPeeked, IsFound, IsFoundAt, IsOpened, IsTextRun, is_nothing}
+use Rattle.starlark_reader.specs.Inner.Lookaheads.{HasPeeked, IsFound, IsFoundAt, IsOpened, IsTextRun, is_nothing, is_opener, is_slow, most_peeked}
 use Rattle.starlark_reader.specs.Inner.Pending.{IsPending, owed}
 use Rattle.starlark_reader.specs.Inner.Reader.{IsAhead, IsAtCode, IsAtEnd, IsInCode, IsOver, IsWordHere}
 use Rattle.starlark_reader.specs.Inner.ReadBounds.{HasLooked, HasLookedHere, HasRead, HasReadAt, HasStarted, IsPassedBy}
@@ -24,6 +24,7 @@ use Rattle.starlark_reader.specs.declared.reader.LineEnd.{LineEnd}
 use Rattle.starlark_reader.specs.declared.reader.LineEnd.TheVariants as line_end
 use Rattle.starlark_reader.specs.declared.reader.Reader.{Reader}
 use Rattle.starlark_reader.specs.declared.reader.Stage.TheVariants as stages
+use Rattle.starlark_words.specs.Inner.ScannedWords.{is_common}
 use Rattle.starlark_reader.proofs.TakenPieces.CodePlaces.{word_len, word_some}
 use Rattle.starlark_reader.proofs.TakenPieces.PieceTaken.{left_onward}
 use Rattle.starlark_reader.proofs.TakenPieces.ReaderReads.{onward_reads}
@@ -35,9 +36,7 @@ pub word_inside : (text : Text) (reader : Reader) (lexemes : List (Spanned Token
     → language_front (drop reader.at text) ≡ Some (class, len) → (1 ≤ len) × (reader.at + len ≤ length text)
 word_inside text reader lexemes fault class len onward ahead front =
     let inside = (left_onward text reader lexemes fault onward ahead).is_left.1.inside in
-    let whole = word_len (drop reader.at text) class len front in
-    let within = length-take len (drop reader.at text) in
-    (word_some (drop reader.at text) class len front, omega (arith, inside, whole, within, length-drop reader.at text))
+    (word_some (drop reader.at text) class len front, omega (arith, inside, word_len (drop reader.at text) class len front, length-take len (drop reader.at text), length-drop reader.at text))
 
 -- Reads of bytes after the offset
 
@@ -71,23 +70,20 @@ pub peeked_begun : (text : Text) (len : ℕ) (old new : Reader) → 1 ≤ len �
 peeked_begun text len old new some peeked begun =
     subst (HasReadAt text new) (sym begun.2) (omega (arith, peeked.1.0, peeked.2.0, begun.1, begun.4.0), omega (arith, some, peeked.1.1, peeked.2.1, begun.0, begun.3, begun.4.1))
 
+-- the bounds of a word's reads
+pub most_few : (word : Word) → (5 * word.len - 2 ≤ most_peeked word) × (most_peeked word ≤ 5 * word.len + 3)
+most_few word = go (is_opener word.class)
+  where
+    go : (opens : Bool) → (5 * word.len - 2 ≤ (if opens then 5 * word.len - 2 else 5 * word.len + 3)) × ((if opens then 5 * word.len - 2 else 5 * word.len + 3) ≤ 5 * word.len + 3)
+    go true = (omega arith, omega arith)
+    go false = (omega arith, omega arith)
+
 -- What is found
 
 -- a run lies inside of the text
 opened_inside : (it : Class) (rest : Text) (run : ℕ) → IsOpened it rest run → run ≤ length rest
 opened_inside (class.Opener kind is_raw quote) rest run is = is.1.boundary.0
-opened_inside class.Skipped rest run is = absurd is
-opened_inside class.LineEnd rest run is = absurd is
-opened_inside class.Comment rest run is = absurd is
-opened_inside class.Tabs rest run is = absurd is
-opened_inside class.Reserved rest run is = absurd is
-opened_inside class.Identifier rest run is = absurd is
-opened_inside class.Decimal rest run is = absurd is
-opened_inside class.Hexadecimal rest run is = absurd is
-opened_inside class.Octal rest run is = absurd is
-opened_inside class.Binary rest run is = absurd is
-opened_inside class.Float rest run is = absurd is
-opened_inside (class.Fixed terminal) rest run is = absurd is
+opened_inside it rest run is = absurd is
 
 -- all reads are few
 pub found_few : (text : Text) (reader : Reader) (it : Lookahead) (lexemes : List (Spanned TokenView)) (fault : Option (Spanned Fault)) → IsAhead text reader reader.stage lexemes fault → IsFoundAt text reader it
@@ -96,12 +92,9 @@ found_few text reader it lexemes fault ahead is whole = go it.found is
   where
     go : (now : Found) → IsFound text reader it.word it.run now → reader.reads ≤ 16 * (length text + 1)
     go found.Nothing is = whole is.1
-    go found.Named is =
+    go found.Word is =
         let inside = word_inside text reader lexemes fault it.word.class it.word.len is.0.stage ahead (sym is.0.front) in
-        omega (arith, inside.1, peeked_few text it.word.len (5 * it.word.len - 2) reader is.1)
-    go found.Unnamed is =
-        let inside = word_inside text reader lexemes fault it.word.class it.word.len is.0.stage ahead (sym is.0.front) in
-        omega (arith, inside.1, peeked_few text it.word.len (5 * it.word.len + 3) reader is.1)
+        omega (arith, inside.1, (most_few it.word).1, peeked_few text it.word.len (most_peeked it.word) reader is.2)
     go found.Wordless is =
         let inside = (left_onward text reader lexemes fault is.0.stage ahead).is_left.1.inside in
         omega (arith, inside, peeked_few text 0 3 reader is.2)
@@ -110,20 +103,14 @@ found_few text reader it lexemes fault ahead is whole = go it.found is
         let run = opened_inside it.word.class (drop it.word.len (drop reader.at text)) it.run is.1 in
         omega (arith, inside.1, run, length-drop it.word.len (drop reader.at text), length-drop reader.at text, peeked_few text (it.word.len + it.run) (5 * it.word.len + 8 * it.run + 3) reader is.2)
     go found.Text is =
-        let inside = (left_onward text reader lexemes fault is.0.stage ahead).is_left.1.inside in
-        omega (arith, inside, is.0.run.boundary.0, length-drop reader.at text, peeked_few text it.run (8 * it.run + 4) reader is.1)
+        omega (arith, (left_onward text reader lexemes fault is.0.stage ahead).is_left.1.inside, is.0.run.boundary.0, length-drop reader.at text, peeked_few text it.run (8 * it.run + 4) reader is.1)
     go found.All is = whole is
 
 -- the opener of a literal that isn't plain, and the run after it
 pub opened_found : (old new : Reader) (it : LiteralKind) (is_raw : Bool) (quote : Quote) (len run : ℕ) → it ≢ OfFString → new.text ≡ old.text → HasPeeked old.text.now len (5 * len - 2) old
     → IsWordHere new.text.now new (record { class = class.Opener it is_raw quote; len = len }) → IsRun (single_literal it is_raw quote) (drop len (drop new.at new.text.now)) run × HasLookedHere run (6 * run + 3) old new
     → IsFound old.text.now new (record { class = class.Opener it is_raw quote; len = len }) run found.Literal
-opened_found old new it is_raw quote len run other same peeked here known =
-    let text : new.text.now ≡ old.text.now = ap (λ t. t.now) same in (
-      subst (λ (t : Text). IsWordHere t new (record { class = class.Opener it is_raw quote; len = len })) text here,
-      (other, subst (λ (t : Text). IsRun (single_literal it is_raw quote) (drop len (drop new.at t)) run) text known.0),
-      peeked_more old.text.now len (5 * len - 2) run (6 * run + 3) (len + run) (5 * len + 8 * run + 3) old new peeked known.1 (omega arith) (omega arith),
-    )
+opened_found old new it is_raw quote len run other same peeked here known = search (rules, peeked_more)
 
 -- at the end of a text nothing is found
 pub end_read : (text : Text) (reader : Reader) (it : Lookahead) → IsAtEnd text reader → IsFoundAt text reader it → HasRead text reader
@@ -131,25 +118,29 @@ end_read text reader it end is = go it.found is
   where
     go : (now : Found) → IsFound text reader it.word it.run now → HasRead text reader
     go found.Nothing is = is.1
-    go found.Named is = absurd (subst IsOver is.0.stage end.1)
-    go found.Unnamed is = absurd (subst IsOver is.0.stage end.1)
-    go found.Wordless is = absurd (subst IsOver is.0.stage end.1)
-    go found.Literal is = absurd (subst IsOver is.0.stage end.1)
-    go found.Text is = absurd (subst IsOver is.0.stage end.1)
     go found.All is = is
+    go now is = absurd (subst IsOver is.0.stage end.1)
+
+-- a word that its first two bytes don't tell
+pub slow_word : (word : Word) → is_common word.class ≡ false → word.class ≢ class.Skipped → (is_slow word.class ≡ true) × (5 * word.len + 3 ≤ most_peeked word)
+slow_word word = go word.class
+  where
+    go : (it : Class) → is_common it ≡ false → it ≢ class.Skipped → (is_slow it ≡ true) × (5 * word.len + 3 ≤ most_peeked (record { class = it; len = word.len }))
+    go class.Skipped common other = absurd (other refl)
+    go class.LineEnd common other = cc
+    go (class.Opener kind is_raw quote) common other = cc
+    go class.Reserved common other = cc
+    go class.Identifier common other = cc
+    go (class.Fixed terminal) common other = cc
+    go it common other = (refl, omega arith)
 
 -- where the reader gives the lexeme
 pub all_read : (text : Text) (reader : Reader) (it : Lookahead) → it.found ≡ found.All → IsFoundAt text reader it → HasRead text reader
 all_read text reader it all is = subst (IsFound text reader it.word it.run) all is
 
 pub goes_on : (it : Found) (has_ended : Bool) → has_ended ≡ false → GoesOn it has_ended
-goes_on found.Nothing has_ended e = e
-goes_on found.Named has_ended e = e
-goes_on found.Unnamed has_ended e = e
-goes_on found.Wordless has_ended e = e
-goes_on found.Literal has_ended e = e
-goes_on found.Text has_ended e = e
 goes_on found.All has_ended e = tt
+goes_on it has_ended e = e
 
 -- the reader may borrow another text
 module _ (text : Text) (reader over : Reader) where
@@ -161,8 +152,7 @@ module _ (text : Text) (reader over : Reader) where
     where
       go : (now : Found) → IsFound text reader it.word it.run now → IsFound text (record reader { text = over.text }) it.word it.run now
       go found.Nothing is = (over_code text reader over is.0, over_reads text reader over reader.stage is.1)
-      go found.Named is = (over_word it.word is.0, is.1)
-      go found.Unnamed is = (over_word it.word is.0, is.1)
+      go found.Word is = (over_word it.word is.0, is.1, is.2)
       go found.Wordless is = (over_code text reader over is.0, is.1, is.2)
       go found.Literal is = (over_word it.word is.0, is.1, is.2)
       go found.Text is = (record { opening = is.0.opening; stage = is.0.stage; idle = is.0.idle; inside = is.0.inside; run = is.0.run }, is.1)
@@ -174,21 +164,11 @@ nothing_found text reader has_ended it = go it.found
   where
     go : (now : Found) → is_nothing now ≡ true → GoesOn now has_ended → (has_ended ≡ false → IsFound text reader it.word it.run now) → (has_ended ≡ false) × IsAtCode text reader × HasRead text reader
     go found.Nothing quick goes is = (goes, (is goes).0, (is goes).1)
-    go found.Named quick goes is = cc
-    go found.Unnamed quick goes is = cc
-    go found.Wordless quick goes is = cc
-    go found.Literal quick goes is = cc
-    go found.Text quick goes is = cc
-    go found.All quick goes is = cc
+    go now quick goes is = cc
 
 pub nothing_is : (it : Found) → is_nothing it ≡ true → it ≡ found.Nothing
 nothing_is found.Nothing nothing = refl
-nothing_is found.Named nothing = cc
-nothing_is found.Unnamed nothing = cc
-nothing_is found.Wordless nothing = cc
-nothing_is found.Literal nothing = cc
-nothing_is found.Text nothing = cc
-nothing_is found.All nothing = cc
+nothing_is it nothing = cc
 
 pub nothing_kept : (text : Text) (reader : Reader) (it : Lookahead) → it.found ≡ found.Nothing → IsAtCode text reader → HasRead text reader → IsFoundAt text reader it
 nothing_kept text reader it nothing code has = subst (IsFound text reader it.word it.run) (sym nothing) (code, has)
@@ -196,21 +176,13 @@ nothing_kept text reader it nothing code has = subst (IsFound text reader it.wor
 -- what is found out after a lexeme
 pub found_out : (text : Text) (reader : Reader) (word : Word) (run : ℕ) (it : Found) → IsFoundOut reader it → IsPending text reader.pending → HasRead text reader → IsFound text reader word run it
 found_out text reader word run found.Nothing is pending has = (is text pending, has)
-found_out text reader word run found.Named is pending has = absurd is
-found_out text reader word run found.Unnamed is pending has = absurd is
-found_out text reader word run found.Wordless is pending has = absurd is
-found_out text reader word run found.Literal is pending has = absurd is
-found_out text reader word run found.Text is pending has = absurd is
 found_out text reader word run found.All is pending has = has
+found_out text reader word run it is pending has = absurd is
 
 pub found_in_code : (text : Text) (reader : Reader) (word : Word) (run : ℕ) (it : Found) → IsFoundInCode reader it → (IsInCode reader → IsAtCode text reader) → HasRead text reader → IsFound text reader word run it
 found_in_code text reader word run found.Nothing is code has = (code is, has)
-found_in_code text reader word run found.Named is code has = absurd is
-found_in_code text reader word run found.Unnamed is code has = absurd is
-found_in_code text reader word run found.Wordless is code has = absurd is
-found_in_code text reader word run found.Literal is code has = absurd is
-found_in_code text reader word run found.Text is code has = absurd is
 found_in_code text reader word run found.All is code has = has
+found_in_code text reader word run it is code has = absurd is
 
 -- a line end that counts isn't passed
 pub newline_counts : (it : LineEnd) → it ≡ line_end.Newline → it ≡ line_end.Passed → ⊥
@@ -246,8 +218,7 @@ counted_found text true len old new it same none counted few more is = go it.fou
 
     go : (now : Found) → IsFound text old it.word it.run now → IsFound text new it.word it.run now
     go found.Nothing is = (code is.0, more is.1)
-    go found.Named is = (word is.0, peeked it.word.len (5 * it.word.len - 2) is.1)
-    go found.Unnamed is = (word is.0, peeked it.word.len (5 * it.word.len + 3) is.1)
+    go found.Word is = (word is.0, is.1, peeked it.word.len (most_peeked it.word) is.2)
     go found.Wordless is = (code is.0, rw rest at is.1, peeked 0 3 is.2)
     go found.Literal is = (word is.0, rw rest at is.1, peeked (it.word.len + it.run) (5 * it.word.len + 8 * it.run + 3) is.2)
     go found.Text is = (subst (λ (reader : Reader). IsTextRun text it.run reader) (sym same) (record { opening = is.0.opening; stage = is.0.stage; idle = is.0.idle; inside = is.0.inside; run = is.0.run }), peeked it.run (8 * it.run + 4) is.1)

@@ -8,10 +8,7 @@ use Rattle.std.proofs.lemmas.List.{length-drop, length-map}
 use Rattle.starlark_token.specs.TokenViews.{TokenView}
 use Rattle.starlark_grammar.proofs.Order.Inside.{fault_within}
 use Rattle.starlark_grammar.specs.Reading.{outcome}
-use Rattle.starlark_reader.specs.Inner.Reader.{IsAhead}
 use Rattle.starlark_syntax.specs.Inner.LexerStates.{HasAnswered, HasGivenNext, HasThrown, IsLexing, IsLexingIn, StateView, has_fault, left_in, view_of}
-use Rattle.starlark_reader.specs.Inner.Lookaheads.{IsFoundAt}
-use Rattle.starlark_syntax.specs.Inner.Looked.{GoesOn}
 use Rattle.starlark_reader.specs.Inner.Reader.{IsAtEnd, IsLeft, IsOver, IsRaw, IsSomething, IsSound, is_fault}
 use Rattle.starlark_reader.proofs.TakenPieces.NextLexeme.{nothing_next}
 use Rattle.starlark_reader.proofs.NextLines.{restart_inside}
@@ -42,35 +39,28 @@ same_lexing text state same lexing = subst (λ (t : Text). IsLexingIn t state) (
 pub lexing_sound : (state : LexerState) → IsLexing state → state.has_ended ≡ false → IsSound state.reader
 lexing_sound state lexing going = record { text = lexing.0; ready = (_, _, (lexing.1 going).1) }
 
--- what holds after each line end that was passed
-abbrev pub IsGoingOn : LexerState → LexerState → Type 0
-IsGoingOn first now =
-    (now.reader.text ≡ first.reader.text) × (now.yielded_count ≡ first.yielded_count) × (now.has_ended ≡ first.has_ended)
-    × (now.has_ended ≡ false → IsAhead now.reader.text.now now.reader now.reader.stage (left_in now) (outcome now.reader.text.now).fault)
-    × GoesOn now.lookahead.found now.has_ended × (now.has_ended ≡ false → IsFoundAt now.reader.text.now now.reader now.lookahead)
-    × (now.has_ended ≡ true → now ≡ first)
-
-pub lexing_on : (first now : LexerState) → IsLexing first → IsGoingOn first now → IsLexing now
-lexing_on first now lexing on =
-    (rw on.0 lexing.0, (λ goes. (rw (on.0, on.1) (lexing.1 (sym on.2 ∙ goes)).0, on.3 goes)), on.4, on.5)
+-- what holds after all that has no lexeme was passed
+pub record IsGoingOn (first now : LexerState) : Type 0 where
+  pub lexing : IsLexing now
+  pub same : view_of now ≡ record (view_of first) { reads = now.reader.reads }
+  pub ended : now.has_ended ≡ true → now ≡ first
 
 -- the text and the number of yielded items are the same
 abbrev pub IsSameText : LexerState → LexerState → Type 0
 IsSameText first now = (now.reader.text.now ≡ first.reader.text.now) × (now.yielded_count ≡ first.yielded_count)
 
-pub same_text : (first mid now : LexerState) → IsGoingOn first mid → now.reader.text ≡ mid.reader.text → now.yielded_count ≡ mid.yielded_count → IsSameText first now
-same_text first mid now on text count = (rw (text, on.0) refl, count ∙ on.1)
+pub same_text : (first now : LexerState) (reader : Reader) → IsGoingOn first now → reader.text ≡ now.reader.text → IsSameText first (record now { reader = reader })
+same_text first now reader on same = (ap (λ t. t.now) same ∙ ap (λ (v : StateView). v.text) on.same, ap (λ (v : StateView). v.yielded_count) on.same)
 
 pub answered_same : (first now : LexerState) (answer : Option (Result (ℕ × Token × ℕ) (OrMemory (Diagnosed ErrorKind)))) (new : LexerState) → IsSameText first now → HasAnswered now answer new → HasAnswered first answer new
 answered_same first now None new same is = rw same.0 at is
-answered_same first now (Some (Ok lexeme)) new same is = rw (same.0, same.1) at is
 answered_same first now (Some (Err (Error exception))) new same is = is
-answered_same first now (Some (Err Memory)) new same is = rw (same.0, same.1) at is
+answered_same first now answer new same is = rw (same.0, same.1) at is
 
 pub given_same : (first now : LexerState) (item : Option (Result (ℕ × Token × ℕ) (OrMemory (Diagnosed ErrorKind)))) (new : LexerState) → IsSameText first now → HasGivenNext now item new → HasGivenNext first item new
 given_same first now item new same is = record { answer = answered_same first now item new same is.answer; lexing = is.lexing; after = rw (same.0, same.1) at is.after }
 
-or_false : (b : Bool) → (b || false) ≡ b
+pub or_false : (b : Bool) → (b || false) ≡ b
 or_false true = refl
 or_false false = refl
 
@@ -84,10 +74,9 @@ answers_item file state (Some (Err Memory)) new some few is = let item = some_it
 
 -- and lies in it
 pub answers_within : (state : LexerState) (answer : Option (Result (ℕ × Token × ℕ) (OrMemory (Diagnosed ErrorKind)))) (new : LexerState) → is_some answer ≡ true → length state.reader.text.now < 2 ^ 32 → HasAnswered state answer new → AnswersWithin state.reader.text.now answer
-answers_within state None new some short is = tt
 answers_within state (Some (Ok lexeme)) new some short is = lexeme_within state.reader.text.now state.yielded_count _ is.0 short is.1
 answers_within state (Some (Err (Error exception))) new some short is = absurd is
-answers_within state (Some (Err Memory)) new some short is = tt
+answers_within state answer new some short is = tt
 
 -- where there is out of memory, something was left
 pub refused_something : (state : LexerState) (refused : OrMemory (Diagnosed ErrorKind)) (new : LexerState) → HasAnswered state (Some (Err refused)) new → IsSomething (left_in state) (outcome state.reader.text.now).fault
@@ -138,10 +127,9 @@ fault_going state has = not-true state.has_ended (and_parts (not state.has_ended
 
 -- while no error has ended it, what was read is bounded
 read_at : (text : Text) (reader : Reader) (left : Outcome) (stage : Stage) → IsLeft text reader stage left → HasReadAt text reader stage → reader.reads ≤ most_reads text
-read_at text reader left stages.Begin is has = omega (arith, has.1)
 read_at text reader left stages.Onward is has = omega (arith, has.1, is.1.inside)
 read_at text reader left (stages.Fault begin fault end) is has = let read = (has.1 is.0 is.1).0 in omega (arith, read, restart_inside text (record { begin = begin; node = is.0; end = end }))
-read_at text reader left stages.Closed is has = omega (arith, has.1)
+read_at text reader left stage is has = omega (arith, has.1)
 
 pub lexing_read_in : (text : Text) (state : LexerState) → IsLexingIn text state → state.has_ended ≡ false → state.reader.reads ≤ most_reads text
 lexing_read_in text state lexing going =
@@ -156,9 +144,7 @@ pub answers_read : (old : LexerState) (answer : Option (Result (ℕ × Token × 
     → view_of new ≡ record (view_of old) { yielded_count = old.yielded_count + yielded_by answer; has_ended = old.has_ended || is_ended_by answer; reads = new.reader.reads } → HasReadFor old.reader.text.now answer new.reader.reads
 answers_read old None new some going is lexing after = cc
 answers_read old (Some (Ok lexeme)) new some going is lexing after =
-    let text : new.reader.text.now ≡ old.reader.text.now = ap (λ (v : StateView). v.text) after in
-    let goes : new.has_ended ≡ false = ap (λ (v : StateView). v.has_ended) after ∙ ap (λ b. b || false) going in
-    subst (λ (t : Text). new.reader.reads ≤ most_reads t) text (lexing_read new lexing goes)
+    subst (λ (t : Text). new.reader.reads ≤ most_reads t) (ap (λ (v : StateView). v.text) after) (lexing_read new lexing (ap (λ (v : StateView). v.has_ended) after ∙ ap (λ b. b || false) going))
 answers_read old (Some (Err (Error exception))) new some going is lexing after = absurd is
 answers_read old (Some (Err Memory)) new some going is lexing after = tt
 
@@ -168,13 +154,11 @@ pub at_end : (state : LexerState) → IsLexing state → state.has_ended ≡ fal
 at_end state lexing going end none = by state.reader.stage refl end.1 (sym (ap (λ ended. not ended && is_fault state.reader.stage) going) ∙ none)
   where
     by : (now : Stage) → state.reader.stage ≡ now → IsOver now → is_fault now ≡ false → (left_in state ≡ []) × ((outcome state.reader.text.now).fault ≡ None) × (length state.reader.text.now ≤ state.reader.reads)
-    by stages.Begin e over h = absurd over
-    by stages.Onward e over h = absurd over
     by (stages.Fault begin fault last) e over h = cc
     by stages.Closed e over h =
         let last = nothing_next state.reader.text.now state.reader state.reader (left_in state) (outcome state.reader.text.now).fault (record { at = refl; nesting = refl; levels = refl; before = refl }) end.0 refl e e (lexing.1 going).1 in
-        let read = subst (HasReadAt state.reader.text.now state.reader) e (end_read state.reader.text.now state.reader state.lookahead end (lexing.3 going)) in
-        (last.0, last.1, omega (arith, read.0, lexing.0.fits))
+        (last.0, last.1, omega (arith, (subst (HasReadAt state.reader.text.now state.reader) e (end_read state.reader.text.now state.reader state.lookahead end (lexing.3 going))).0, lexing.0.fits))
+    by now e over h = absurd over
 
 -- So nothing more is answered.
 pub ends_here : (file : SourceFile) (old : LexerState) (answer : Option (Result (ℕ × Token × ℕ) (OrMemory (Diagnosed ErrorKind)))) (new : LexerState) → is_some answer ≡ false → IsLexing new → old.has_ended ≡ false → HasAnswered old answer new

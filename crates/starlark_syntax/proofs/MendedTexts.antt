@@ -1,5 +1,5 @@
 -- Repairs in the copy of a text, and faults that are repaired.
-use Rattle.std.proofs.Common.{◌≡◌, ℕ, zero, suc, ◌+◌, ◌-◌, ◌==◌, Bool, true, false, List, [], ◌∷◌, ◌++◌, append_assoc, replicate, take, drop, refl, ap, subst, ◌∙◌, None, Some}
+use Rattle.std.proofs.Common.{◌≡◌, ℕ, zero, suc, ◌+◌, ◌-◌, ◌==◌, Bool, List, [], ◌∷◌, append_assoc, replicate, take, drop, refl, ap, subst, None, Some}
 use Rattle.std.specs.List.{prefix_len, repeat, replace_range}
 use Rattle.std.specs.Prelude.{◌&&◌, ◌||◌, Option, String, codes, if◌then◌else◌, nat_eq, not, string_bytes}
 use Rattle.std.specs.declared.alloc.Global.{Global}
@@ -23,8 +23,7 @@ repeated (suc n) b = ap (λ l. b ∷ l) (repeated n b)
 -- what stands in the place of a repair
 pub filled_is : (text repair : Text) (begin end : ℕ) → repair ≡ repeat (end - begin) (59 ∷ []) → replace_range text begin end repair ≡ filled begin end text
 filled_is text repair begin end is =
-    ap (λ (t : Text). (take begin text ++ t) ++ drop end text) (is ∙ repeated (end - begin) 59)
-    ∙ append_assoc (take begin text) (replicate (end - begin) 59) (drop end text)
+    rw (is, repeated (end - begin) 59) (append_assoc (take begin text) (replicate (end - begin) 59) (drop end text))
 
 -- without a copy the text is as it was
 pub uncopied : (text : Text) (copy : Option (String Global)) → ((it : String Global) → copy ≡ Some it → ⊥) → copied text copy ≡ text
@@ -33,15 +32,10 @@ uncopied text (Some it) none = absurd (none it refl)
 
 -- where a repair ends
 pub end_is : (text : Text) (begin end len : ℕ) (tab : Bool) → len ≡ (if tab then begin + prefix_len (nat_eq 9) (drop begin text) else end) → (fault : Spanned Fault) → IsPlaceOf fault begin end tab → len ≡ repair_end text fault
-end_is text begin end len tab is fault place =
-    let at = place.begins in
-    let last = place.ends in
-    is ∙ ap (λ n. if tab then n + prefix_len (nat_eq 9) (drop n text) else end) at
-    ∙ ap (λ n. if tab then fault.begin + prefix_len (nat_eq 9) (drop fault.begin text) else n) last
-    ∙ ap (λ b. if b then fault.begin + prefix_len (nat_eq 9) (drop fault.begin text) else fault.end) place.is_tab
+end_is text begin end len tab is fault place = rw (is, place.begins, place.ends, place.is_tab) refl
 
 -- the fault that there is, if there is one
-abbrev fault_of : Option Fault → Fault
+abbrev pub fault_of : Option Fault → Fault
 fault_of (Some node) = node
 fault_of None = grammar.Indentation
 
@@ -56,19 +50,7 @@ keeps_is text before found begin end fault follows_comment raw follows =
     goes keeps node = keeps ≡ keeps_line text before (record { begin = found.begin; node = node; end = found.end })
 
     by : (fault : LexemeError) (node : Fault) → fault_view fault ≡ Some node → goes (error_keeps_line text begin fault follows_comment) node
-    by error.Indentation node is = let same : grammar.Indentation ≡ node = cc in subst (goes false) same refl
     by (error.InvalidInput character) node is =
-        let same : fault_of (fault_view (error.InvalidInput character)) ≡ node = ap fault_of is in
-        subst (goes (error_keeps_line text begin (error.InvalidInput character) follows_comment)) same (ap (λ b. not (bytes_eq (string_bytes character) (codes "}")) && not b) follows)
-    by error.InvalidTab node is =
-        let same : grammar.InvalidTab ≡ node = cc in
-        subst (goes (error_keeps_line text begin error.InvalidTab follows_comment)) same (ap (λ n. not (n == 0 || begins_with_line_end (drop n text))) raw.0)
-    by error.UnfinishedStringLiteral node is = let same : grammar.UnfinishedStringLiteral ≡ node = cc in subst (goes false) same refl
-    by (error.InvalidEscapeSequence text) node is = let same : fault_of (fault_view (error.InvalidEscapeSequence text)) ≡ node = ap fault_of is in subst (goes false) same refl
-    by error.EmptyEscapeSequence node is = let same : grammar.EmptyEscapeSequence ≡ node = cc in subst (goes false) same refl
-    by (error.ReservedKeyword word) node is = let same : fault_of (fault_view (error.ReservedKeyword word)) ≡ node = ap fault_of is in subst (goes true) same refl
-    by (error.StartsZero word) node is = let same : fault_of (fault_view (error.StartsZero word)) ≡ node = ap fault_of is in subst (goes true) same refl
-    by (error.IntParse text) node is = cc
-    by error.CommentSpanComputedIncorrectly node is = cc
-    by (error.CannotParse text base) node is = cc
-    by error.UnfinishedFStringExpression node is = let same : grammar.UnfinishedFStringExpression ≡ node = cc in subst (goes false) same refl
+        subst (goes (error_keeps_line text begin (error.InvalidInput character) follows_comment)) (ap fault_of is) (ap (λ b. not (bytes_eq (string_bytes character) (codes "}")) && not b) follows)
+    by error.InvalidTab node is = subst (goes (error_keeps_line text begin error.InvalidTab follows_comment)) (ap fault_of is) (ap (λ n. not (n == 0 || begins_with_line_end (drop n text))) raw.0)
+    by fault node is = subst (goes (error_keeps_line text begin fault follows_comment)) (ap fault_of is) refl

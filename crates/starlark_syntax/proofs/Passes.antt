@@ -1,11 +1,10 @@
 -- A fault that was passed.
-use Rattle.std.proofs.Common.{◌≡◌, ℕ, ◌+◌, drop, ap, subst, ◌∙◌, None, Some}
-use Rattle.std.specs.Prelude.{Bool, Option}
+use Rattle.std.proofs.Common.{◌≡◌, ℕ, ◌+◌, drop, ap, subst, ◌∙◌, Some}
+use Rattle.std.specs.Prelude.{Bool}
 use Rattle.std.proofs.lemmas.Str.{IsCharBoundary-from_rest}
 use Rattle.std.specs.Str.{IsCharBoundary}
 use Rattle.starlark_base.specs.Diagnostics.{Diagnosed, place_in, unplaced, with_span}
 use Rattle.starlark_base.specs.Sources.{SourceFile}
-use Rattle.starlark_grammar.specs.Tokens as grammar
 use Rattle.starlark_grammar.specs.Tokens.{Fault, Spanned}
 use Rattle.starlark_grammar.specs.Words.{Text}
 use Rattle.starlark_reader.specs.Inner.Reader.{IsRaw}
@@ -20,27 +19,13 @@ use Rattle.starlark_words.specs.Inner.Reads.{AreReads}
 use Rattle.starlark_token.specs.Lexemes.{fault_view}
 use Rattle.starlark_token.specs.declared.lexeme_error.LexemeError.{LexemeError}
 use Rattle.starlark_token.specs.declared.lexeme_error.LexemeError.TheVariants as fault
+use Rattle.starlark_syntax.proofs.MendedTexts.{fault_of}
 use Rattle.starlark_syntax.proofs.LexedTexts.ReadParts.{raw_thrown}
-
--- the fault that there is, if there is one
-abbrev fault_of : Option Fault → Fault
-fault_of (Some node) = node
-fault_of None = grammar.Indentation
 
 -- the fault of a tab is that of the code
 pub tab_kind : (error : LexemeError) (node : Fault) → fault_view error ≡ Some node → is_tab_error error ≡ is_tab node
-tab_kind fault.Indentation node is = let same : grammar.Indentation ≡ node = cc in ap is_tab same
-tab_kind (fault.InvalidInput text) node is = let same : fault_of (fault_view (fault.InvalidInput text)) ≡ node = ap fault_of is in ap is_tab same
-tab_kind fault.InvalidTab node is = let same : grammar.InvalidTab ≡ node = cc in ap is_tab same
-tab_kind fault.UnfinishedStringLiteral node is = let same : grammar.UnfinishedStringLiteral ≡ node = cc in ap is_tab same
-tab_kind (fault.InvalidEscapeSequence text) node is = let same : fault_of (fault_view (fault.InvalidEscapeSequence text)) ≡ node = ap fault_of is in ap is_tab same
-tab_kind fault.EmptyEscapeSequence node is = let same : grammar.EmptyEscapeSequence ≡ node = cc in ap is_tab same
-tab_kind (fault.ReservedKeyword word) node is = let same : fault_of (fault_view (fault.ReservedKeyword word)) ≡ node = ap fault_of is in ap is_tab same
-tab_kind (fault.StartsZero word) node is = let same : fault_of (fault_view (fault.StartsZero word)) ≡ node = ap fault_of is in ap is_tab same
-tab_kind (fault.IntParse text) node is = cc
-tab_kind fault.CommentSpanComputedIncorrectly node is = cc
-tab_kind (fault.CannotParse text base) node is = cc
-tab_kind fault.UnfinishedFStringExpression node is = let same : grammar.UnfinishedFStringExpression ≡ node = cc in ap is_tab same
+tab_kind fault.InvalidTab node is = ap (λ found. is_tab (fault_of found)) is
+tab_kind error node is = ap (λ found. is_tab (fault_of found)) is
 
 -- what passing a fault leaves, by what was found out for it
 pub passes : (file : SourceFile) (text part : Text) (begin at : ℕ) (fault : Spanned Fault) (found : ℕ × LexemeError × ℕ) (tab : Bool) (reads : ℕ) (given : Diagnosed ErrorKind)
@@ -49,12 +34,10 @@ pub passes : (file : SourceFile) (text part : Text) (begin at : ℕ) (fault : Sp
     → given ≡ with_span (unplaced (Parser (Lexeme found.1))) (place_in file (record { begin = begin + found.0; end = begin + found.2 }))
     → HasPassed file text begin fault (record { fault = given; begin = begin + at; reads = reads })
 passes file text part begin at fault found tab reads given raw tab_is part_is restarts searches boundary start given_is =
-    let its_tab : tab ≡ is_tab fault.node = tab_is ∙ tab_kind found.1 fault.node raw.1 in
-    let its_place : IsPlaceOf fault found.0 found.2 tab = record { begins = raw.0; ends = raw.2; is_tab = its_tab } in
-    let restarted : at ≡ restart (drop begin text) fault = restarts fault its_place ∙ ap (λ (t : Text). restart t fault) part_is in
+    let its_place : IsPlaceOf fault found.0 found.2 tab = record { begins = raw.0; ends = raw.2; is_tab = (tab_is ∙ tab_kind found.1 fault.node raw.1) } in
     record {
       exception = raw_thrown file begin fault found given raw given_is;
-      from = ap (λ n. begin + n) restarted;
+      from = ap (λ n. begin + n) (restarts fault its_place ∙ ap (λ (t : Text). restart t fault) part_is);
       boundary = IsCharBoundary-from_rest text begin at start.0 (subst (λ (t : Text). IsCharBoundary t at) part_is boundary);
       reads = subst (λ (t : Text). AreReads 1 (search_reads t fault) 0 reads) part_is (searches fault its_place);
     }

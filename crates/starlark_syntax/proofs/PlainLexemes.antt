@@ -1,5 +1,5 @@
 -- Plain lexemes, as the fast path passes them.
-use Rattle.std.proofs.Common.{◌≡◌, ◌≤◌, ◌<◌, ◌+◌, ◌-◌, ◌^◌, ◌∷◌, ◌||◌, Bool, true, false, ℕ, List, [], Option, Some, None, Ok, Err, ap, arith, drop, length, refl, subst, sym, take, ◌∙◌}
+use Rattle.std.proofs.Common.{◌≡◌, ◌≢◌, ◌≤◌, ◌<◌, ◌+◌, ◌-◌, ◌^◌, ◌∷◌, ◌||◌, Bool, true, false, ℕ, List, [], Option, Some, None, Ok, Err, ap, arith, drop, length, refl, subst, sym, take, ◌∙◌}
 use Rattle.std.specs.Prelude.{◌&&◌, not, Result}
 use Rattle.std.specs.Option.{is_some}
 use Rattle.std.specs.Str.{IsCharBoundary, IsUtf8}
@@ -14,7 +14,7 @@ use Rattle.starlark_reader.specs.Inner.Reader.{IsAhead, IsAheadAfter, IsAheadPas
 use Rattle.starlark_reader.specs.declared.reader.Reader.{Reader}
 use Rattle.starlark_reader.specs.declared.reader.Stage.TheVariants as stages
 use Rattle.starlark_reader.proofs.TakenPieces.PieceTaken.{left_onward}
-use Rattle.starlark_syntax.specs.Inner.LexerStates.{HasAnswered, HasPassed, HasTaken, IsLexing, IsOfMark, is_out_of_memory, left_in, lexer_view, passed_as, passed_count, plain_fstring_text, plain_mark, plain_string}
+use Rattle.starlark_syntax.specs.Inner.LexerStates.{HasAnswered, HasPassed, HasPassedNext, HasPassedWaiting, HasTaken, IsLexing, IsOfMark, is_out_of_memory, left_in, lexer_view, passed_as, passed_count, plain_fstring_text, plain_mark, plain_string}
 use Rattle.starlark_syntax.specs.Lexer.{LexerView, most_reads}
 use Rattle.starlark_syntax.specs.PlainLexemes.{IsPlainIn, plain_token, plain_value, plain_view, token_of}
 use Rattle.starlark_syntax.specs.declared.error.kinds.ErrorKind.{ErrorKind}
@@ -148,29 +148,31 @@ mark_told state it lexeme new short few utf8 token is =
 -- a pending token was passed
 pub mark_passed : (state : LexerState) (it : Waiting) (lexeme : ℕ × Token × ℕ) (new : LexerState) → length state.reader.text.now < 2 ^ 32 → state.yielded_count ≤ length (outcome state.reader.text.now).lexemes → IsUtf8 state.reader.text.now
     → IsOfMark it (token_view lexeme.1) → HasAnswered state (Some (Ok lexeme)) new → HasPassed state (passed_as it lexeme.0 lexeme.2) new
-mark_passed state waiting.Nothing lexeme new short few utf8 token is = absurd token
-mark_passed state waiting.FStringText lexeme new short few utf8 token is = absurd token
 mark_passed state waiting.Indent lexeme new short few utf8 token is = mark_told state kind.Indent lexeme new short few utf8 (λ value. token) is
 mark_passed state waiting.Dedent lexeme new short few utf8 token is = mark_told state kind.Dedent lexeme new short few utf8 (λ value. token) is
 mark_passed state waiting.FStringExprStart lexeme new short few utf8 token is = mark_told state kind.FStringExprStart lexeme new short few utf8 (λ value. token) is
 mark_passed state waiting.FStringEnd lexeme new short few utf8 token is = mark_told state kind.FStringEnd lexeme new short few utf8 (λ value. token) is
+mark_passed state it lexeme new short few utf8 token is = absurd token
 
 -- it is one lexeme
 pub mark_counted : (it : Waiting) (view : TokenView) (begin end : ℕ) → IsOfMark it view → passed_count (passed_as it begin end) ≡ 1
-mark_counted waiting.Nothing view begin end token = absurd token
-mark_counted waiting.FStringText view begin end token = absurd token
 mark_counted waiting.Indent view begin end token = refl
 mark_counted waiting.Dedent view begin end token = refl
 mark_counted waiting.FStringExprStart view begin end token = refl
 mark_counted waiting.FStringEnd view begin end token = refl
+mark_counted it view begin end token = absurd token
 
-pub waiting_in_memory : (it : Waiting) (begin end : ℕ) → is_out_of_memory (passed_as it begin end) ≡ false
-waiting_in_memory waiting.Nothing begin end = refl
-waiting_in_memory waiting.Indent begin end = refl
-waiting_in_memory waiting.Dedent begin end = refl
-waiting_in_memory waiting.FStringText begin end = refl
-waiting_in_memory waiting.FStringExprStart begin end = refl
-waiting_in_memory waiting.FStringEnd begin end = refl
+pub waiting_in_memory : (it : Waiting) (view : TokenView) (begin end : ℕ) → IsOfMark it view → is_out_of_memory (passed_as it begin end) ≡ false
+waiting_in_memory waiting.OutOfMemory view begin end token = absurd token
+waiting_in_memory it view begin end token = refl
+
+-- what was passed is a lexeme, or has none
+pub lexeme_waits : (old : LexerState) (it : Waiting) (new : LexerState) → it ≢ waiting.Layout → HasPassedNext old (passed_as it new.passed_begin new.passed_end) new → HasPassedWaiting old it new
+lexeme_waits old waiting.Layout new other is = absurd (other refl)
+lexeme_waits old it new other is = is
+
+pub mark_waits : (it : Waiting) (view : TokenView) → IsOfMark it view → it ≢ waiting.Layout
+mark_waits it view token is = absurd (subst (λ (it : Waiting). IsOfMark it view) is token)
 
 -- a lexer that owes no error has ended where its state has
 pub whole_going : (state : LexerState) (file : SourceFile) (has_run_out : Bool) (lexer : LexerView) → has_run_out ≡ false → lexer_view state file has_run_out ≡ lexer → lexer.has_ended ≡ false → state.has_ended ≡ false

@@ -1,6 +1,6 @@
 -- The items of a text that is lexed on after its faults.
-use Rattle.std.proofs.Common.{◌≡◌, ℕ, zero, suc, ◌+◌, true, false, List, [], ◌∷◌, ◌++◌, map, drop, refl, ap, sym, ◌∙◌, arith, None, Some}
-use Rattle.std.proofs.lemmas.List.{append-nil, drop-map}
+use Rattle.std.proofs.Common.{◌≡◌, ℕ, zero, suc, ◌+◌, true, false, List, [], ◌∷◌, ◌++◌, map, drop, refl, ap, sym, zero-add, ◌∙◌, arith, None, Some}
+use Rattle.std.proofs.lemmas.List.{append-nil, drop-map, map-append}
 use Rattle.std.specs.Prelude.{Option}
 use Rattle.starlark_grammar.specs.Found as found
 use Rattle.starlark_grammar.specs.Found.{Item, found_after, found_past, passed_count}
@@ -8,6 +8,7 @@ use Rattle.starlark_grammar.specs.Reading.{outcome}
 use Rattle.starlark_grammar.specs.Repairs.{keeps_line, repaired}
 use Rattle.starlark_grammar.specs.Tokens.{Fault, Lexeme, Spanned, moved}
 use Rattle.starlark_grammar.specs.Words.{Text}
+use Rattle.starlark_grammar.proofs.Joining.Joined.{moved_both}
 use Rattle.starlark_grammar.proofs.Found.FoundItems.{by_keeps, faultless_found, found_after_lines, found_after_repairs}
 use Rattle.starlark_syntax.specs.Inner.RecoveryStates.{items_after, items_past, moved_item}
 use Rattle.starlark_syntax.specs.Recovery.{restart}
@@ -16,41 +17,26 @@ use Rattle.starlark_token.specs.Lexemes.{shown_lexeme}
 use Rattle.starlark_token.specs.TextItems.{Given, LexerItem, Refused}
 use Rattle.starlark_token.specs.TokenViews.{TokenView}
 
-map-append : {A B : Type 0} (f : A → B) (xs ys : List A) → map f (xs ++ ys) ≡ map f xs ++ map f ys
-map-append f [] ys = refl
-map-append f (x ∷ xs) ys = ap (λ l. f x ∷ l) (map-append f xs ys)
-
 -- moved twice is moved once
 moved_twice : (n m : ℕ) (item : LexerItem) → moved_item n (moved_item m item) ≡ moved_item (n + m) item
-moved_twice n m (Given lexeme) =
-    let begin : n + (m + lexeme.begin) ≡ n + m + lexeme.begin = omega arith in
-    let end : n + (m + lexeme.end) ≡ n + m + lexeme.end = omega arith in
-    ap (λ b. Given (record { begin = b; node = lexeme.node; end = n + (m + lexeme.end) })) begin ∙ ap (λ e. Given (record { begin = n + m + lexeme.begin; node = lexeme.node; end = e })) end
-moved_twice n m (Refused fault) =
-    let begin : n + (m + fault.begin) ≡ n + m + fault.begin = omega arith in
-    let end : n + (m + fault.end) ≡ n + m + fault.end = omega arith in
-    ap (λ b. Refused (record { begin = b; node = fault.node; end = n + (m + fault.end) })) begin ∙ ap (λ e. Refused (record { begin = n + m + fault.begin; node = fault.node; end = e })) end
+moved_twice n m (Given lexeme) = ap Given (moved_both n m (n + m) lexeme refl)
+moved_twice n m (Refused fault) = ap Refused (moved_both n m (n + m) fault refl)
 
 pub all_moved_twice : (n m : ℕ) (list : List LexerItem) → map (moved_item n) (map (moved_item m) list) ≡ map (moved_item (n + m)) list
 all_moved_twice n m [] = refl
-all_moved_twice n m (item ∷ more) =
-    ap (λ i. i ∷ map (moved_item n) (map (moved_item m) more)) (moved_twice n m item) ∙ ap (λ l. moved_item (n + m) item ∷ l) (all_moved_twice n m more)
+all_moved_twice n m (item ∷ more) = rw (moved_twice n m item, all_moved_twice n m more) refl
 
 -- moved by no byte is as it was
+pub unmoved : {A : Type 0} (x : Spanned A) → moved 0 x ≡ x
+unmoved x = rw (zero-add x.begin, zero-add x.end) refl
+
 moved_by_none : (item : LexerItem) → moved_item 0 item ≡ item
-moved_by_none (Given lexeme) =
-    let begin : 0 + lexeme.begin ≡ lexeme.begin = omega arith in
-    let end : 0 + lexeme.end ≡ lexeme.end = omega arith in
-    ap (λ b. Given (record { begin = b; node = lexeme.node; end = 0 + lexeme.end })) begin ∙ ap (λ e. Given (record { begin = lexeme.begin; node = lexeme.node; end = e })) end
-moved_by_none (Refused fault) =
-    let begin : 0 + fault.begin ≡ fault.begin = omega arith in
-    let end : 0 + fault.end ≡ fault.end = omega arith in
-    ap (λ b. Refused (record { begin = b; node = fault.node; end = 0 + fault.end })) begin ∙ ap (λ e. Refused (record { begin = fault.begin; node = fault.node; end = e })) end
+moved_by_none (Given lexeme) = ap Given (unmoved lexeme)
+moved_by_none (Refused fault) = ap Refused (unmoved fault)
 
 pub all_moved_by_none : (list : List LexerItem) → map (moved_item 0) list ≡ list
 all_moved_by_none [] = refl
-all_moved_by_none (item ∷ more) =
-    ap (λ i. i ∷ map (moved_item 0) more) (moved_by_none item) ∙ ap (λ l. item ∷ l) (all_moved_by_none more)
+all_moved_by_none (item ∷ more) = rw (moved_by_none item, all_moved_by_none more) refl
 
 -- What is left of a text: its lexemes but the first ones, and what is after them
 
@@ -89,10 +75,10 @@ shown_drop : (lexemes : List Lexeme) (k : ℕ) (x : Spanned TokenView) (more : L
 shown_drop lexemes k x more is = by lexemes k (sym (drop-map shown_lexeme k lexemes) ∙ is)
   where
     by : (lexemes : List Lexeme) (k : ℕ) → map shown_lexeme (drop k lexemes) ≡ x ∷ more → shown_given (drop k lexemes) ≡ Given x ∷ shown_given (drop (k + 1) lexemes)
-    by [] zero is = cc
-    by [] (suc k) is = cc
     by (lexeme ∷ lexemes) zero is = let same : shown_lexeme lexeme ≡ x = cc in ap (λ v. Given v ∷ shown_given lexemes) same
     by (lexeme ∷ lexemes) (suc k) is = let next : suc k + 1 ≡ suc (k + 1) = omega arith in by lexemes k is ∙ ap (λ n. Given x ∷ shown_given (drop n (lexeme ∷ lexemes))) (sym next)
+    by [] zero is = cc
+    by [] (suc k) is = cc
 
 none_shown : (lexemes : List Lexeme) (k : ℕ) → drop k (map shown_lexeme lexemes) ≡ [] → shown_given (drop k lexemes) ≡ []
 none_shown lexemes k none = by (drop k lexemes) (sym (drop-map shown_lexeme k lexemes) ∙ none)

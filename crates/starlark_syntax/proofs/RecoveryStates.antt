@@ -1,5 +1,5 @@
 -- A lexer that goes on after faults: what is left to it, before and after each answer.
-use Rattle.std.proofs.Common.{◌≡◌, ◌≤◌, ◌+◌, ◌-◌, ◌*◌, ℕ, false, List, [], ◌∷◌, map, length, drop, take, refl, ap, sym, subst, ◌∙◌, arith, Ok, Err, None, Some, IfSome}
+use Rattle.std.proofs.Common.{◌≡◌, ◌≤◌, ◌+◌, ◌-◌, ◌*◌, ℕ, false, List, [], ◌∷◌, map, length, drop, take, refl, ap, sym, subst, ◌∙◌, arith, Ok, Err, None, Some, IfSome, rules}
 use Rattle.std.proofs.lemmas.List.{length-drop}
 use Rattle.std.proofs.lemmas.Str.{IsCharBoundary-from_drop, IsCharBoundary-from_rest, IsUtf8-drop}
 use Rattle.std.specs.Result.{is_err}
@@ -34,7 +34,7 @@ use Rattle.starlark_grammar.specs.Tokens.{Fault, Lexeme, Spanned, moved}
 use Rattle.starlark_grammar.specs.Words.{Text}
 use Rattle.starlark_reader.specs.Inner.Reader.{IsSomething}
 use Rattle.starlark_reader.proofs.TakenPieces.SameTexts.{over_ahead, over_state}
-use Rattle.starlark_reader.specs.Inner.Reader.{IsText, history_of}
+use Rattle.starlark_reader.specs.Inner.Reader.{IsText}
 use Rattle.starlark_reader.specs.declared.reader.Reader.{Reader}
 use Rattle.starlark_syntax.proofs.LexerReads.{over_found}
 use Rattle.starlark_syntax.specs.Inner.LexerStates.{HasFound, IsAtFault, IsBegun, IsLexing, IsLexingIn, StateView}
@@ -50,33 +50,21 @@ use Rattle.starlark_token.specs.declared.tokens.Token.{Token}
 -- A state that was lent another text
 
 over_lexing : (part : Text) (old : LexerState) (over : Reader) → IsLexingIn part old → IsLexingIn part (record old { reader = record old.reader { text = over.text } })
-over_lexing part old over lexing = (
-  lexing.0,
-  (λ on. ((lexing.1 on).0, over_ahead part old.reader over old.reader.stage _ _ (lexing.1 on).1)),
-  lexing.2,
-  (λ on. over_found part old.reader over old.lookahead (lexing.3 on)),
-)
+over_lexing part old over lexing = search (rules, over_ahead, over_found)
 
 pub lent_lexing : (part : Text) (old lent over : LexerState) → over ≡ record lent { reader = record lent.reader { text = over.reader.text } } → lent ≡ old → over.reader.text.now ≡ part → IsLexingIn part old → IsLexing over
-lent_lexing part old lent over same is text lexing =
-    let whole : over ≡ record old { reader = record old.reader { text = over.reader.text } } = same ∙ ap (λ (s : LexerState). record s { reader = record s.reader { text = over.reader.text } }) is in
-    subst (λ (t : Text). IsLexingIn t over) (sym text) (subst (IsLexingIn part) (sym whole) (over_lexing part old over.reader lexing))
+lent_lexing part old lent over same is text lexing = search (rules, over_lexing)
 
 pub back_lexing : (part : Text) (state back : LexerState) → back ≡ record state { reader = record state.reader { text = back.reader.text } } → state.reader.text.now ≡ part → IsLexing state → IsLexingIn part back
 back_lexing part state back same text lexing = subst (IsLexingIn part) (sym same) (over_lexing part state back.reader (subst (λ (t : Text). IsLexingIn t state) text lexing))
 
 at_fault_back : (text : Text) (fault : Spanned Fault) (state back : LexerState) → back ≡ record state { reader = record state.reader { text = back.reader.text } } → IsAtFault text fault state → IsAtFault text fault back
-at_fault_back text fault state back same here =
-    let stores = here.stores in
-    let least = here.least in
-    let leaves = here.leaves in
-    subst (IsAtFault text fault) (sym same) (record { fits = here.fits; has = here.has; counted = here.counted; stores = λ untabbed. over_state text state.reader back.reader (history_of text) (stores untabbed); least = least; leaves = leaves })
+at_fault_back text fault state back same here = search (rules, over_state)
 
 pub found_back : (text : Text) (old lent new back : LexerState) (item : Option (Result (ℕ × Token × ℕ) (OrMemory (ℕ × LexemeError × ℕ)))) → lent.yielded_count ≡ old.yielded_count → back ≡ record new { reader = record new.reader { text = back.reader.text } }
     → HasFound text lent item new → HasFound text old item back
 found_back text old lent new back (Some (Ok lexeme)) count same is =
-    let reads : new.reader.reads ≡ back.reader.reads = sym (ap (λ (s : LexerState). s.reader.reads) same) in
-    (is.0, subst (λ n. drop n (map shown_lexeme (outcome text).lexemes) ≡ lexeme_view lexeme ∷ is.0) count is.1, subst (λ n. n ≤ most_reads text) reads is.2)
+    (is.0, subst (λ n. drop n (map shown_lexeme (outcome text).lexemes) ≡ lexeme_view lexeme ∷ is.0) count is.1, subst (λ n. n ≤ most_reads text) (sym (ap (λ (s : LexerState). s.reader.reads) same)) is.2)
 found_back text old lent new back (Some (Err Memory)) count same is = subst (λ n. IsSomething (drop n (map shown_lexeme (outcome text).lexemes)) (outcome text).fault) count is
 found_back text old lent new back (Some (Err (Error found))) count same is =
     let reads : new.reader.reads ≡ back.reader.reads = sym (ap (λ (s : LexerState). s.reader.reads) same) in (
@@ -86,9 +74,7 @@ found_back text old lent new back (Some (Err (Error found))) count same is =
       subst (HasReadToFault text) reads is.3,
       is.4,
     )
-found_back text old lent new back None count same is =
-    let reads : new.reader.reads ≡ back.reader.reads = sym (ap (λ (s : LexerState). s.reader.reads) same) in
-    (subst (λ n. drop n (map shown_lexeme (outcome text).lexemes) ≡ []) count is.0, is.1, subst (λ n. length text ≤ n) reads is.2, subst (λ n. n ≤ most_reads text) reads is.3)
+found_back text old lent new back None count same is = search rules
 
 -- The part
 
@@ -107,44 +93,24 @@ module _ (state : RecoveryState) (is : IsPart state) where
 
 -- reads so far, by those before the part and those in it
 pub on_reads : (text : Text) (begin to n earlier reads : ℕ) → begin + to ≤ length text → length text < 2 ^ 32 → HasReadBefore begin to n earlier → reads ≤ 16 * (length text - begin + 1) → AreReadsOn text n (more_reads earlier reads)
-on_reads text begin to n earlier reads inside fits before few = record {
-  few = omega (arith, inside, before.few);
-  least = omega (arith, inside, fits, before.few, before.least);
-  most = omega (arith, inside, before.most, few);
-}
+on_reads text begin to n earlier reads inside fits before few = search rules
 
 -- Where a repair is
 
 module _ (old : RecoveryState) (fault : Spanned Fault) (stopped : IsStopped old fault) (keeps : KeepsLine (part_of old) fault) where
   pub repair_inside : (old.begin + repair_end (part_of old) fault ≤ length (bytes_of old.mended)) × (old.begin + repair_end (part_of old) fault < 2 ^ 32)
-  repair_inside =
-      let is = stopped.is_part in
-      let len = is.len in
-      let fits = is.fits in
-      let bytes = repairs_have_bytes (part_of old) fault keeps in
-      (omega (arith, bytes.1, len, part_len old is, part_begins old is), omega (arith, fits, bytes.1, part_len old is, part_begins old is))
+  repair_inside = search (rules, repairs_have_bytes, part_len, part_begins)
 
   pub repair_ends : IsCharBoundary (bytes_of old.mended) (old.begin + repair_end (part_of old) fault)
   repair_ends =
       let is = stopped.is_part in
-      let len = is.len in
-      let begins = stopped.begins in
-      let ends = stopped.ends in
-      IsCharBoundary-from_rest (bytes_of old.mended) old.begin (repair_end (part_of old) fault) (omega (arith, len, part_begins old is)) (repair_boundary (part_of old) fault keeps (part_utf8 old is) begins ends)
+      IsCharBoundary-from_rest (bytes_of old.mended) old.begin (repair_end (part_of old) fault) (omega (arith, is.len, part_begins old is)) (repair_boundary (part_of old) fault keeps (part_utf8 old is) stopped.begins stopped.ends)
 
   pub repaired_ends : IsCharBoundary (repaired (part_of old) fault) (repair_end (part_of old) fault)
-  repaired_ends =
-      let is = stopped.is_part in
-      let begins = stopped.begins in
-      let ends = stopped.ends in
-      repaired_boundary (part_of old) fault keeps (part_utf8 old is) (repair_boundary (part_of old) fault keeps (part_utf8 old is) begins ends)
+  repaired_ends = repaired_boundary (part_of old) fault keeps (part_utf8 old stopped.is_part) (repair_boundary (part_of old) fault keeps (part_utf8 old stopped.is_part) stopped.begins stopped.ends)
 
 pub counted_few : (old : RecoveryState) (fault : Spanned Fault) → IsStopped old fault → old.state.yielded_count ≤ 2 ^ 34
-counted_few old fault stopped =
-    let here = stopped.here in
-    let counted = here.counted in
-    let fits = here.fits in
-    omega (arith, counted, lexemes_few (part_of old) fits)
+counted_few old fault stopped = omega (arith, stopped.here.counted, lexemes_few (part_of old) stopped.here.fits)
 
 -- a state is stopped at one fault
 pub one_fault : (text : Text) (fault other : Spanned Fault) → (outcome text).fault ≡ Some fault → (outcome text).fault ≡ Some other → fault ≡ other
@@ -161,10 +127,9 @@ pub repaired_utf8 : (old : RecoveryState) (fault : Spanned Fault) → IsStopped 
 unfolding repaired
 repaired_utf8 old fault stopped keeps mended text bytes =
     let is = stopped.is_part in
-    let len = is.len in
     let last = repair_end (part_of old) fault in
     let some = repairs_have_bytes (part_of old) fault keeps in
-    let inside : old.begin + last ≤ length (bytes_of old.mended) = omega (arith, some.1, len, part_len old is, part_begins old is) in
+    let inside : old.begin + last ≤ length (bytes_of old.mended) = omega (arith, some.1, is.len, part_len old is, part_begins old is) in
     let utf8 = mended_utf8 mended (subst IsUtf8 (sym (ap (λ t. t.now) text)) is.utf8) in
     let whole = begins_filled old.begin fault.begin last (bytes_of old.mended) (bytes_of mended) (whole_utf8 old is) utf8 bytes (omega (arith, inside, some.0)) (omega (arith, some.0)) inside is.whole in
     subst IsUtf8 (ap (λ (t : Text). drop old.begin t) bytes ∙ filled_drop old.begin fault.begin last (bytes_of old.mended) (omega (arith, inside, some.0))) (IsUtf8-drop (bytes_of mended) old.begin utf8 whole)
@@ -183,10 +148,7 @@ module _ (old : RecoveryState) (fault : Spanned Fault) (stopped : IsStopped old 
   has_bytes = repairs_have_bytes (part_of old) fault keeps
 
   inside : old.begin + last ≤ length (bytes_of old.mended)
-  inside =
-      let is = stopped.is_part in
-      let len = is.len in
-      omega (arith, has_bytes.1, len, part_len old is, part_begins old is)
+  inside = omega (arith, has_bytes.1, stopped.is_part.len, part_len old stopped.is_part, part_begins old stopped.is_part)
 
   part_is : part_of on ≡ repaired (part_of old) fault
   unfolding repaired
@@ -195,11 +157,10 @@ module _ (old : RecoveryState) (fault : Spanned Fault) (stopped : IsStopped old 
   is_part_on : IsPart on
   is_part_on =
       let is = stopped.is_part in
-      let len = is.len in
       record {
         fits = subst (λ t. length t < 2 ^ 32) (sym (ap (λ t. t.now) text)) is.fits;
         utf8 = subst IsUtf8 (sym (ap (λ t. t.now) text)) is.utf8;
-        len = ap (λ (t : Text). length t) bytes ∙ filled_len (old.begin + fault.begin) (old.begin + last) (bytes_of old.mended) (omega (arith, has_bytes.0)) inside ∙ len ∙ ap (λ t. length t.now) (sym text);
+        len = ap (λ (t : Text). length t) bytes ∙ filled_len (old.begin + fault.begin) (old.begin + last) (bytes_of old.mended) (omega (arith, has_bytes.0)) inside ∙ is.len ∙ ap (λ t. length t.now) (sym text);
         boundary = subst (λ (t : Text). IsCharBoundary t old.begin) (sym (ap (λ t. t.now) text)) is.boundary;
         whole = begins_filled old.begin fault.begin last (bytes_of old.mended) (bytes_of mended) (whole_utf8 old is) (mended_utf8 mended (subst IsUtf8 (sym (ap (λ t. t.now) text)) is.utf8)) bytes (omega (arith, inside, has_bytes.0)) (omega (arith, has_bytes.0)) inside is.whole;
         lexing = subst (λ (t : Text). IsLexingIn t state) (sym part_is) lexing;
@@ -207,24 +168,16 @@ module _ (old : RecoveryState) (fault : Spanned Fault) (stopped : IsStopped old 
       }
 
   reads_on : HasReadBefore old.begin last (old.fault_count + 1) earlier
-  reads_on =
-      let before = stopped.reads in
-      record {
-        few = omega (arith, before.few, stopped.after, has_bytes.0);
-        first = λ none. absurd (omega (arith, none));
-        least = omega (arith, reads, before.few, before.least, stopped.after, has_bytes.0, inside, stopped.is_part.fits, stopped.is_part.len);
-        most = omega (arith, reads, before.most);
-      }
+  reads_on = search (rules, has_bytes, inside)
 
   onward_on : IsOnward on
   onward_on =
       let same = stopped.mended.same in
-      let after = stopped.after in
       record {
         to = last;
         mended = record {
           inside = omega (arith, ap (λ (t : Text). length t) part_is, repaired_len (part_of old) fault keeps, has_bytes.1);
-          same = ap (λ (t : Text). drop last t) part_is ∙ same_after old.mended.text.now (part_of old) old.begin stopped.to fault keeps same (omega (arith, after, has_bytes.0)) ∙ ap (λ t. drop (old.begin + last) t.now) (sym text);
+          same = ap (λ (t : Text). drop last t) part_is ∙ same_after old.mended.text.now (part_of old) old.begin stopped.to fault keeps same (omega (arith, stopped.after, has_bytes.0)) ∙ ap (λ t. drop (old.begin + last) t.now) (sym text);
         };
         lexemes = subst (λ (t : Text). AllByRecursion (λ (lexeme : Lexeme). last ≤ lexeme.begin) (drop state.yielded_count (outcome t).lexemes)) (sym part_is)
             (subst (λ n. AllByRecursion (λ (lexeme : Lexeme). last ≤ lexeme.begin) (drop n (outcome (repaired (part_of old) fault)).lexemes)) (sym count) (left_later (part_of old) fault keeps));
@@ -236,17 +189,8 @@ module _ (old : RecoveryState) (fault : Spanned Fault) (stopped : IsStopped old 
 
   pub kept_on : (exception : Diagnosed ErrorKind) → IsException old.code_map (moved old.begin fault) exception → HasPassedOn old fault (Error exception) on
   kept_on exception throws =
-      let is = stopped.is_part in
-      let fits = is.fits in
-      let len = is.len in
-      let before = reads_on in
-      let now = lexing_read_in (repaired (part_of old) fault) state lexing going in
       let items : left_of on ≡ map (moved_item old.begin) (items_after (part_of old) fault) =
-      rw going (
-      ap (λ (t : Text). map (moved_item old.begin) (items_past state.yielded_count t)) part_is
-      ∙ ap (λ n. map (moved_item old.begin) (items_past n (repaired (part_of old) fault))) count
-      ∙ sym (ap (map (moved_item old.begin)) (items_repaired (part_of old) fault keeps.1))
-      ) in (
+      rw (going, part_is, count, items_repaired (part_of old) fault keeps.1) refl in (
         record { is_part = is_part_on; onward = λ goes. onward_on },
         going,
         throws,
@@ -254,8 +198,8 @@ module _ (old : RecoveryState) (fault : Spanned Fault) (stopped : IsStopped old 
         refl,
         text,
         refl,
-        on_reads old.mended.text.now old.begin last (old.fault_count + 1) earlier state.reader.reads (omega (arith, inside, len)) fits before
-            (omega (arith, now, repaired_len (part_of old) fault keeps, part_len old is)),
+        on_reads old.mended.text.now old.begin last (old.fault_count + 1) earlier state.reader.reads (omega (arith, inside, stopped.is_part.len)) stopped.is_part.fits reads_on
+            (omega (arith, lexing_read_in (repaired (part_of old) fault) state lexing going, repaired_len (part_of old) fault keeps, part_len old stopped.is_part)),
       )
 
 -- A fault that ends its line
@@ -287,9 +231,8 @@ module _ (old : RecoveryState) (fault : Spanned Fault) (stopped : IsStopped old 
   -- the line begins after all repairs
   after : (stopped.to + 1 ≤ from) × (from ≤ length (part_of old))
   after =
-      let less = stopped.less in
       let to = stopped.after in (
-        omega (arith, next_line_least (part_of old) stopped.to less, next_line_later (part_of old) stopped.to fault.begin to, restart_line (part_of old) fault),
+        omega (arith, next_line_least (part_of old) stopped.to stopped.less, next_line_later (part_of old) stopped.to fault.begin to, restart_line (part_of old) fault),
         restart_inside (part_of old) fault,
       )
 
@@ -299,18 +242,16 @@ module _ (old : RecoveryState) (fault : Spanned Fault) (stopped : IsStopped old 
   -- and no repair is in it
   same_again : drop passed.begin (bytes_of old.mended) ≡ drop passed.begin old.mended.text.now
   same_again =
-      let same = stopped.mended.same in
       let more : stopped.to + (from - stopped.to) ≡ from = omega (arith, after.0) in
       let whole : old.begin + stopped.to + (from - stopped.to) ≡ passed.begin = omega (arith, after.0, begins_at) in
       part_again
       ∙ ap (λ n. drop n (part_of old)) (sym more) ∙ drop-sum stopped.to (from - stopped.to) (part_of old)
-      ∙ ap (λ (t : Text). drop (from - stopped.to) t) same ∙ sym (drop-sum (old.begin + stopped.to) (from - stopped.to) old.mended.text.now) ∙ ap (λ n. drop n old.mended.text.now) whole
+      ∙ ap (λ (t : Text). drop (from - stopped.to) t) stopped.mended.same ∙ sym (drop-sum (old.begin + stopped.to) (from - stopped.to) old.mended.text.now) ∙ ap (λ n. drop n old.mended.text.now) whole
 
   pub boundary_again : IsCharBoundary old.mended.text.now passed.begin
   boundary_again =
-      let is = stopped.is_part in
-      let utf8 = IsUtf8-drop (bytes_of old.mended) passed.begin (whole_utf8 old is) has.boundary in
-      IsCharBoundary-from_drop old.mended.text.now passed.begin (omega (arith, begins_at, after.1, part_len old is, part_begins old is)) (subst IsUtf8 same_again utf8)
+      let utf8 = IsUtf8-drop (bytes_of old.mended) passed.begin (whole_utf8 old stopped.is_part) has.boundary in
+      IsCharBoundary-from_drop old.mended.text.now passed.begin (omega (arith, begins_at, after.1, part_len old stopped.is_part, part_begins old stopped.is_part)) (subst IsUtf8 same_again utf8)
 
 module _ (old : RecoveryState) (fault : Spanned Fault) (stopped : IsStopped old fault) (passed : Passed) (has : HasPassed old.code_map (bytes_of old.mended) old.begin fault passed)
     (loses : keeps_line (part_of old) (outcome (part_of old)).lexemes fault ≡ false) (state : LexerState) (earlier : ℕ)
@@ -339,30 +280,21 @@ module _ (old : RecoveryState) (fault : Spanned Fault) (stopped : IsStopped old 
   is_part_again : IsPart again
   is_part_again =
       let is = stopped.is_part in
-      let fits = is.fits in
       record {
         fits = is.fits;
         utf8 = is.utf8;
         len = is.len;
         boundary = (boundary_again old fault stopped passed has);
         whole = has.boundary;
-        lexing = begun_lexing (drop passed.begin old.mended.text.now) (part_of again) state (record { fits = omega (arith, len_again, fits); utf8 = IsUtf8-drop (bytes_of old.mended) passed.begin (whole_utf8 old is) has.boundary }) begun;
+        lexing = begun_lexing (drop passed.begin old.mended.text.now) (part_of again) state (record { fits = omega (arith, len_again, is.fits); utf8 = IsUtf8-drop (bytes_of old.mended) passed.begin (whole_utf8 old is) has.boundary }) begun;
         own = λ none. begun_text ∙ sym (same_again old fault stopped passed has);
       }
 
   reads_again : HasReadBefore passed.begin 0 (old.fault_count + 1) earlier
   reads_again =
-      let is = stopped.is_part in
-      let before = stopped.reads in
-      let searched = has.reads in
       let begins = begins_at old fault stopped passed has in
       let past = after old fault stopped passed has in
-      record {
-        few = omega (arith, before.few, begins, past.0);
-        first = λ none. absurd (omega (arith, none));
-        least = omega (arith, reads, before.few, before.least, searched.0, begins, past.0, past.1, is.fits, part_len old is, part_begins old is);
-        most = omega (arith, reads, before.most, (stopped.paid fault stopped.here.has).1, searched.1, begins);
-      }
+      search rules
 
   onward_again : IsOnward again
   onward_again =
@@ -379,16 +311,8 @@ module _ (old : RecoveryState) (fault : Spanned Fault) (stopped : IsStopped old 
 
   pub lost_on : HasPassedOn old fault (Error passed.fault) again
   lost_on =
-      let is = stopped.is_part in
-      let fits = is.fits in
       let items : left_of again ≡ map (moved_item old.begin) (items_after (part_of old) fault) =
-      rw goes_again (
-      ap (λ n. map (moved_item passed.begin) (items_past n (part_of again))) begun_count
-      ∙ ap (λ (t : Text). map (moved_item passed.begin) (items_past 0 t)) (part_again old fault stopped passed has)
-      ∙ ap (λ n. map (moved_item n) (items_past 0 (drop line (part_of old)))) (begins_at old fault stopped passed has)
-      ∙ sym (all_moved_twice old.begin line (items_past 0 (drop line (part_of old))))
-      ∙ sym (ap (map (moved_item old.begin)) (items_later (part_of old) fault loses))
-      ) in (
+      rw (goes_again, begun_count, part_again old fault stopped passed has, begins_at old fault stopped passed has, items_later (part_of old) fault loses) (sym (all_moved_twice old.begin line (items_past 0 (drop line (part_of old))))) in (
         record { is_part = is_part_again; onward = λ goes. onward_again },
         goes_again,
         has.exception,
@@ -396,5 +320,5 @@ module _ (old : RecoveryState) (fault : Spanned Fault) (stopped : IsStopped old 
         refl,
         refl,
         refl,
-        on_reads old.mended.text.now passed.begin 0 (old.fault_count + 1) earlier state.reader.reads (let at = (boundary_again old fault stopped passed has) in omega (arith, at.0)) fits reads_again (omega (arith, unread)),
+        on_reads old.mended.text.now passed.begin 0 (old.fault_count + 1) earlier state.reader.reads (let at = (boundary_again old fault stopped passed has) in omega (arith, at.0)) stopped.is_part.fits reads_again (omega (arith, unread)),
       )

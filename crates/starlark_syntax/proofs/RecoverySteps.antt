@@ -1,5 +1,5 @@
 -- The answers of a lexer that goes on after faults.
-use Rattle.std.proofs.Common.{◌≡◌, ◌≤◌, ◌<◌, ◌+◌, ◌||◌, ◌&&◌, ◌==◌, ℕ, zero, suc, Bool, true, false, List, [], ◌∷◌, ◌++◌, map, length, drop, take, refl, ap, sym, subst, ◌∙◌, arith, Ok, Err, None, Some, IfSome, slice_get}
+use Rattle.std.proofs.Common.{◌≡◌, ◌≤◌, ◌<◌, ◌+◌, ◌||◌, ◌&&◌, ◌==◌, ℕ, zero, suc, Bool, true, false, List, [], ◌∷◌, ◌++◌, map, length, drop, take, refl, ap, sym, subst, ◌∙◌, arith, rules, Ok, Err, None, Some, IfSome, slice_get}
 use Rattle.std.proofs.lemmas.Bool.{eq-eqb, ne_eqb}
 use Rattle.std.proofs.lemmas.List.{take_all}
 use Rattle.std.proofs.lemmas.Str.{IsCharBoundary-start}
@@ -27,7 +27,7 @@ use Rattle.starlark_syntax.specs.RecoveringLexer.{AreReadsOn, HasReadOn, IsNextO
 use Rattle.starlark_syntax.specs.declared.error.kinds.ErrorKind.{ErrorKind}
 use Rattle.starlark_syntax.specs.declared.lexer_state.LexerState.{LexerState}
 use Rattle.starlark_syntax.specs.declared.recovery_state.RecoveryState.{RecoveryState}
-use Rattle.starlark_syntax.proofs.LexerStates.{lexing_read_in, none_dropped}
+use Rattle.starlark_syntax.proofs.LexerStates.{lexing_read_in, none_dropped, or_false}
 use Rattle.starlark_syntax.proofs.RecoveredItems.{all_moved_by_none, items_given, items_none, items_refused}
 use Rattle.starlark_syntax.proofs.RecoveryStates.{all_from_none, begun_lexing, on_reads, part_begins, part_len, part_utf8, some_bytes}
 use Rattle.starlark_syntax.proofs.RepairedParts.{later_boundary}
@@ -43,12 +43,7 @@ use Rattle.starlark_words.specs.Inner.Reads.{more_reads}
 -- views whose parts are the same
 pub views : (text whole : Text) (file : SourceFile) (left more : List LexerItem) (n m : ℕ) (ended other : Bool) (reads all : ℕ) → text ≡ whole → left ≡ more → n ≡ m → ended ≡ other → reads ≡ all
     → ◌≡◌ {A = RecoveringView} (record { text = text; code_map = file; left = left; fault_count = n; has_ended = ended; reads = reads }) (record { text = whole; code_map = file; left = more; fault_count = m; has_ended = other; reads = all })
-views text whole file left more n m ended other reads all t l c e r =
-    ap (λ (x : Text). record { text = x; code_map = file; left = left; fault_count = n; has_ended = ended; reads = reads }) t
-    ∙ ap (λ (x : List LexerItem). record { text = whole; code_map = file; left = x; fault_count = n; has_ended = ended; reads = reads }) l
-    ∙ ap (λ x. record { text = whole; code_map = file; left = more; fault_count = x; has_ended = ended; reads = reads }) c
-    ∙ ap (λ x. record { text = whole; code_map = file; left = more; fault_count = m; has_ended = x; reads = reads }) e
-    ∙ ap (λ x. record { text = whole; code_map = file; left = more; fault_count = m; has_ended = other; reads = x }) r
+views text whole file left more n m ended other reads all t l c e r = rw (t, l, c, e, r) refl
 
 -- The start of a text
 
@@ -90,13 +85,7 @@ module _ (new : RecoveryState) (text : Text) (file : SourceFile) (utf8 : IsUtf8 
 
   pub left_start : left_of new ≡ all_items text
   unfolding all_items found
-  left_start =
-      rw ended (
-      ap (λ n. map (moved_item n) (items_past new.state.yielded_count (part_of new))) start
-      ∙ all_moved_by_none (items_past new.state.yielded_count (part_of new))
-      ∙ ap (λ n. items_past n (part_of new)) yielded
-      ∙ ap (λ (t : Text). items_past 0 t) part
-      )
+  left_start = rw (ended, part, yielded, start) (all_moved_by_none (items_past 0 text))
 
 -- One lexeme
 
@@ -109,31 +98,18 @@ record LexemeAt (lexemes : List Lexeme) (k : ℕ) (x : Spanned TokenView) : Type
   pub shows : shown_lexeme lexeme ≡ x
 
 lexeme_at : (lexemes : List Lexeme) (k : ℕ) (x : Spanned TokenView) (more : List (Spanned TokenView)) → drop k (map shown_lexeme lexemes) ≡ x ∷ more → LexemeAt lexemes k x
-lexeme_at [] zero x more is = cc
-lexeme_at [] (suc k) x more is = cc
-lexeme_at (lexeme ∷ lexemes) zero x more is =
-    let same : shown_lexeme lexeme ≡ x = cc in
-    record { lexeme = lexeme; more = lexemes; left = refl; rest = refl; first = refl; shows = same }
+lexeme_at (lexeme ∷ lexemes) zero x more is = record { lexeme = lexeme; more = lexemes; left = refl; rest = refl; first = refl; shows = (cc) }
 lexeme_at (lexeme ∷ lexemes) (suc k) x more is =
     let inner = lexeme_at lexemes k x more is in
     let next : suc k + 1 ≡ suc (k + 1) = omega arith in
-    let left = inner.left in
-    let rest = inner.rest in
-    let first = inner.first in
-    record {
-      lexeme = inner.lexeme;
-      more = inner.more;
-      left = left;
-      rest = ap (λ n. drop n (lexeme ∷ lexemes)) next ∙ rest;
-      first = ap (λ n. take n (lexeme ∷ lexemes)) next ∙ ap (λ l. lexeme ∷ l) first;
-      shows = inner.shows;
-    }
+    search rules
+lexeme_at [] zero x more is = cc
+lexeme_at [] (suc k) x more is = cc
 
 -- the last of some lexemes
 ends_last : (at : ℕ) (lexemes : List Lexeme) (lexeme : Lexeme) → ends_by_comment at (lexemes ++ lexeme ∷ []) ≡ is_comment_to at lexeme
-ends_last at [] lexeme = refl
-ends_last at (first ∷ []) lexeme = refl
 ends_last at (first ∷ second ∷ lexemes) lexeme = ends_last at (second ∷ lexemes) lexeme
+ends_last at lexemes lexeme = refl
 
 -- a comment before the last lexeme is not the last
 not_last : (comment : Option (ℕ × ℕ)) (k at : ℕ) → IfSome comment (λ comment. comment.0 ≤ k) → is_end comment (k + 1) at ≡ false
@@ -144,21 +120,7 @@ not_last (Some comment) k at before = ap (λ b. b && comment.1 == at) (ne_eqb co
 comment_shown : (before : Option (ℕ × ℕ)) (k at begin : ℕ) (node : grammar.Token) (end : ℕ) → IfSome before (λ comment. comment.0 ≤ k)
     → is_end (last_comment (Whole (shown node)) (k + 1) end before) (k + 1) at ≡ is_comment_to at (record { begin = begin; node = node; end = end })
 comment_shown before k at begin (grammar.Comment text) end less = ap (λ b. b && end == at) (eq-eqb (k + 1) (k + 1) refl)
-comment_shown before k at begin grammar.Indent end less = not_last before k at less
-comment_shown before k at begin grammar.Dedent end less = not_last before k at less
-comment_shown before k at begin grammar.Newline end less = not_last before k at less
-comment_shown before k at begin (grammar.Identifier name) end less = not_last before k at less
-comment_shown before k at begin (grammar.Int value) end less = not_last before k at less
-comment_shown before k at begin (grammar.Float text) end less = not_last before k at less
-comment_shown before k at begin (grammar.String value) end less = not_last before k at less
-comment_shown before k at begin (grammar.Bytes value) end less = not_last before k at less
-comment_shown before k at begin (grammar.FStringStart opening) end less = not_last before k at less
-comment_shown before k at begin (grammar.FStringText value) end less = not_last before k at less
-comment_shown before k at begin grammar.FStringExprStart end less = not_last before k at less
-comment_shown before k at begin grammar.FStringExprEnd end less = not_last before k at less
-comment_shown before k at begin grammar.FStringBang end less = not_last before k at less
-comment_shown before k at begin grammar.FStringEnd end less = not_last before k at less
-comment_shown before k at begin (grammar.Word terminal) end less = not_last before k at less
+comment_shown before k at begin node end less = not_last before k at less
 
 -- what is recorded was yielded
 recorded : (is_comment : Bool) (before : Option (ℕ × ℕ)) (k end : ℕ) → IfSome before (λ comment. comment.0 ≤ k) → IfSome (if is_comment then Some (k + 1, end) else before) (λ comment. comment.0 ≤ k + 1)
@@ -174,10 +136,6 @@ left_goes old goes = rw goes refl
 left_ended : (old : RecoveryState) → old.state.has_ended ≡ true → left_of old ≡ []
 left_ended old ended = rw ended refl
 
-or_false : (b : Bool) → (b || false) ≡ b
-or_false true = refl
-or_false false = refl
-
 -- a lexer that answers something hasn't ended
 pub some_goes : {A : Type 0} {x : A} (b : Bool) → (b ≡ true → ◌≡◌ {A = Option A} (Some x) None) → b ≡ false
 some_goes true none = let wrong = none refl in cc
@@ -186,17 +144,7 @@ some_goes false none = refl
 -- a state that goes on with the same number of lexemes
 onward_same : (old : RecoveryState) (state : LexerState) → state.yielded_count ≡ old.state.yielded_count → IsOnward old → IsOnward (record old { state = state })
 onward_same old state count is =
-    let lexemes = is.lexemes in
-    let mended = is.mended in
-    record {
-      to = is.to;
-      mended = record { inside = mended.inside; same = mended.same };
-      lexemes = subst (λ n. AllByRecursion (λ (lexeme : Lexeme). is.to ≤ lexeme.begin) (drop n (outcome (part_of old)).lexemes)) (sym count) lexemes;
-      fault = is.fault;
-      comment = λ at. ap (λ n. ends_by_comment at (take n (outcome (part_of old)).lexemes)) count ∙ is.comment at ∙ sym (ap (λ n. is_end old.comment n at) count);
-      earlier = subst (λ n. IfSome old.comment (λ comment. comment.0 ≤ n)) (sym count) is.earlier;
-      reads = is.reads;
-    }
+    search rules
 
 part_same : (old : RecoveryState) (state : LexerState) (comment : Option (ℕ × ℕ)) → IsPart old → IsLexingIn (part_of old) state → (old.mended.copy ≡ None → state.reader.text.now ≡ part_of old) → IsPart (record old { state = state; comment = comment })
 part_same old state comment is lexing own = record { fits = is.fits; utf8 = is.utf8; len = is.len; boundary = is.boundary; whole = is.whole; lexing = lexing; own = own }
@@ -212,35 +160,17 @@ text_boundary old is to at mended less boundary = later_boundary old.mended.text
 -- what lies in the part lies in the text
 text_within : (old : RecoveryState) (is : IsPart old) (from to : ℕ) → IsWithin (part_of old) from to → IsWithin old.mended.text.now (old.begin + from) (old.begin + to)
 text_within old is from to within =
-    let order = within.0 in
-    let end = within.1 in
-    let fits = is.fits in
-    (omega (arith, order), omega (arith, end, part_len old is, part_begins old is), fits)
+    (omega (arith, within.0), omega (arith, within.1, part_len old is, part_begins old is), is.fits)
 
 -- the reads of a state that goes on
 reads_now : (old : RecoveryState) (is : IsPart old) (state : LexerState) → IsLexingIn (part_of old) state → state.has_ended ≡ false → (to n : ℕ) → to ≤ length (part_of old) → HasReadBefore old.begin to n old.earlier_reads
     → AreReadsOn old.mended.text.now n (more_reads old.earlier_reads state.reader.reads)
 reads_now old is state lexing going to n inside before =
-    let few = lexing_read_in (part_of old) state lexing going in
-    let fits = is.fits in
-    on_reads old.mended.text.now old.begin to n old.earlier_reads state.reader.reads (inside_text old is to inside) fits before (omega (arith, few, part_len old is))
+    on_reads old.mended.text.now old.begin to n old.earlier_reads state.reader.reads (inside_text old is to inside) is.fits before (omega (arith, lexing_read_in (part_of old) state lexing going, part_len old is))
 
 -- the same state, with another lexeme held
 pub recovering_held : (old : RecoveryState) (held : Option (Result (ℕ × Token × ℕ) (OrMemory (Diagnosed ErrorKind)))) → IsRecovering old → IsRecovering (record old { held = held })
-recovering_held old held is =
-    let part = is.is_part in
-    record {
-      is_part = record { fits = part.fits; utf8 = part.utf8; len = part.len; boundary = part.boundary; whole = part.whole; lexing = part.lexing; own = part.own };
-      onward = λ goes. let on = is.onward goes in record {
-        to = on.to;
-        mended = record { inside = on.mended.inside; same = on.mended.same };
-        lexemes = on.lexemes;
-        fault = on.fault;
-        comment = on.comment;
-        earlier = on.earlier;
-        reads = on.reads;
-      };
-    }
+recovering_held old held is = search rules
 
 -- Nothing is left
 
@@ -263,20 +193,11 @@ module _ (old : RecoveryState) (is : IsRecovering old) (state : LexerState) (end
   nothing_recovering = record { is_part = part_same old state old.comment is.is_part lexing own; onward = λ goes. onward_same old state same_count (is.onward (sym same_end ∙ goes)) }
 
   nothing_reads : old.state.has_ended ≡ false → HasReadOn old.mended.text.now old.fault_count None (more_reads old.earlier_reads state.reader.reads)
-  nothing_reads goes =
-      let none = found goes in
-      let onward = is.onward goes in
-      let part = is.is_part in
-      let before = onward.reads in
-      let mended = onward.mended in
-      let fits = part.fits in
-      (reads_now old part state lexing (same_end ∙ goes) onward.to old.fault_count mended.inside before, λ faultless. let first = before.first faultless in omega (arith, first, none.2, part_len old part, fits))
+  nothing_reads goes = search (rules, reads_now, same_end, part_len)
 
   pub nothing_next : IsNextOf (view_of old) None (view_of (record old { state = state }))
   nothing_next =
-      let same : left_of (record old { state = state }) ≡ left_of old =
-      ap (λ b. if b then [] else map (moved_item old.begin) (items_past state.yielded_count (part_of old))) same_end
-      ∙ ap (λ n. if old.state.has_ended then [] else map (moved_item old.begin) (items_past n (part_of old))) same_count in
+      let same : left_of (record old { state = state }) ≡ left_of old = rw (same_end, same_count) refl in
       record {
         item = subst (λ (l : List LexerItem). AnswersNext old.code_map (slice_get l 0) None) (sym none_left) tt;
         within = tt;
@@ -300,20 +221,15 @@ module _ (old : RecoveryState) (is : IsRecovering old) (state : LexerState) (fro
   at = lexeme_at (outcome (part_of old)).lexemes old.state.yielded_count (lexeme_view (from, token, to)) found.0 found.1
 
   left_is : left_of old ≡ Given (moved old.begin (lexeme_view (from, token, to))) ∷ left_of past
-  left_is =
-      left_goes old going ∙ ap (map (moved_item old.begin)) (items_given (part_of old) old.state.yielded_count (lexeme_view (from, token, to)) found.0 found.1)
-      ∙ ap (λ n. Given (moved old.begin (lexeme_view (from, token, to))) ∷ map (moved_item old.begin) (items_past n (part_of old))) (sym count)
-      ∙ sym (ap (λ (l : List LexerItem). Given (moved old.begin (lexeme_view (from, token, to))) ∷ l) (left_goes past goes))
+  left_is = rw (left_goes old going, left_goes past goes, count, items_given (part_of old) old.state.yielded_count (lexeme_view (from, token, to)) found.0 found.1) refl
 
   after_all : IsOnward old → IsOnward past
   after_all onward =
-      let mended = onward.mended in
       let both : AllByRecursion (λ (lexeme : Lexeme). onward.to ≤ lexeme.begin) (at.lexeme ∷ at.more) = subst (AllByRecursion (λ (lexeme : Lexeme). onward.to ≤ lexeme.begin)) at.left onward.lexemes in
-      let next : drop state.yielded_count (outcome (part_of old)).lexemes ≡ at.more = ap (λ n. drop n (outcome (part_of old)).lexemes) count ∙ at.rest in
       record {
         to = onward.to;
-        mended = record { inside = mended.inside; same = mended.same };
-        lexemes = subst (AllByRecursion (λ (lexeme : Lexeme). onward.to ≤ lexeme.begin)) (sym next) both.1;
+        mended = record { inside = onward.mended.inside; same = onward.mended.same };
+        lexemes = subst (AllByRecursion (λ (lexeme : Lexeme). onward.to ≤ lexeme.begin)) (sym (ap (λ n. drop n (outcome (part_of old)).lexemes) count ∙ at.rest)) both.1;
         fault = onward.fault;
         comment = λ place.
             ap (λ n. ends_by_comment place (take n (outcome (part_of old)).lexemes)) count
@@ -333,26 +249,20 @@ module _ (old : RecoveryState) (is : IsRecovering old) (state : LexerState) (fro
   edges : IsCharBoundary old.mended.text.now (old.begin + from) × IsCharBoundary old.mended.text.now (old.begin + to)
   edges =
       let onward = is.onward going in
-      let lexemes = onward.lexemes in
-      let left = at.left in
-      let shows = at.shows in
-      let both : AllByRecursion (λ (lexeme : Lexeme). onward.to ≤ lexeme.begin) (at.lexeme ∷ at.more) = subst (AllByRecursion (λ (lexeme : Lexeme). onward.to ≤ lexeme.begin)) left lexemes in
-      let begins : at.lexeme.begin ≡ from = ap (λ (x : Spanned TokenView). x.begin) shows in
-      let order = within.0 in
-      (text_boundary old is.is_part onward.to from onward.mended (omega (arith, both.0, begins)) between.0, text_boundary old is.is_part onward.to to onward.mended (omega (arith, both.0, begins, order)) between.1)
+      let both : AllByRecursion (λ (lexeme : Lexeme). onward.to ≤ lexeme.begin) (at.lexeme ∷ at.more) = subst (AllByRecursion (λ (lexeme : Lexeme). onward.to ≤ lexeme.begin)) at.left onward.lexemes in
+      let begins : at.lexeme.begin ≡ from = ap (λ (x : Spanned TokenView). x.begin) at.shows in
+      (text_boundary old is.is_part onward.to from onward.mended (omega (arith, both.0, begins)) between.0, text_boundary old is.is_part onward.to to onward.mended (omega (arith, both.0, begins, within.0)) between.1)
 
   pub lexeme_next : IsNextOf (view_of old) (Some (Ok (old.begin + from, token, old.begin + to))) (view_of past)
   lexeme_next =
       let onward = is.onward going in
-      let mended = onward.mended in
       let same : left_of past ≡ drop 1 (left_of old) = sym (ap (λ (l : List LexerItem). drop 1 l) left_is) in
-      let reads = reads_now old is.is_part state lexing goes onward.to old.fault_count mended.inside onward.reads in
       record {
         item = subst (λ (l : List LexerItem). AnswersNext old.code_map (slice_get l 0) (Some (Ok (old.begin + from, token, old.begin + to)))) (sym left_is) refl;
         within = text_within old is.is_part from to within;
         between = edges;
         after = views old.mended.text.now old.mended.text.now old.code_map _ _ old.fault_count (old.fault_count + 0) state.has_ended (old.state.has_ended || false) _ _ refl same (omega arith) ends refl;
-        reads = λ on. reads;
+        reads = λ on. (reads_now old is.is_part state lexing goes onward.to old.fault_count onward.mended.inside onward.reads);
       }
 
 -- Out of memory is in the place of an item
@@ -371,22 +281,8 @@ memory_item file left item more is = subst (λ (l : List LexerItem). AnswersNext
 
 module _ (old : RecoveryState) (is : IsRecovering old) (state : LexerState) (going : old.state.has_ended ≡ false) (found : HasFound (part_of old) old.state (Some (Err Memory)) state)
     (lexing : IsLexingIn (part_of old) state) (ends : state.has_ended ≡ (old.state.has_ended || true)) (own : old.mended.copy ≡ None → state.reader.text.now ≡ part_of old) where
-  ended_now : state.has_ended ≡ true
-  ended_now = ends ∙ ap (λ b. b || true) going
-
-  pub memory_recovering : IsRecovering (record old { state = state })
-  memory_recovering = record { is_part = part_same old state old.comment is.is_part lexing own; onward = λ goes. let wrong : true ≡ false = sym ended_now ∙ goes in cc }
-
   pub memory_next : IsNextOf (view_of old) (Some (Err Memory)) (view_of (record old { state = state }))
-  memory_next =
-      let some = some_left (part_of old) old.state.yielded_count found in
-      record {
-        item = memory_item old.code_map (left_of old) (moved_item old.begin some.0) (map (moved_item old.begin) some.1) (left_goes old going ∙ ap (map (moved_item old.begin)) some.2);
-        within = tt;
-        between = tt;
-        after = views old.mended.text.now old.mended.text.now old.code_map _ [] old.fault_count (old.fault_count + 0) state.has_ended (old.state.has_ended || true) _ _ refl (left_ended (record old { state = state }) ended_now) (omega arith) ends refl;
-        reads = λ on. tt;
-      }
+  memory_next = search (rules, some_left)
 
 -- the span of a fault's exception is the fault's
 span_has : (P : ℕ → ℕ → Type 0) (file : SourceFile) (fault : Spanned Fault) (exception : Diagnosed ErrorKind) → IsException file fault exception → P fault.begin fault.end → IfSome exception.span (λ place. P place.span.begin place.span.end)
@@ -400,56 +296,20 @@ module _ (old : RecoveryState) (is : IsRecovering old) (state : LexerState) (raw
   abbrev at_fault : RecoveryState
   at_fault = record old { state = state }
 
-  fault_ends : state.has_ended ≡ true
-  fault_ends = ends ∙ ap (λ b. b || true) going
-
   pub stopped_here : IsStopped at_fault found.0
-  stopped_here =
-      let onward = is.onward going in
-      let mended = onward.mended in
-      let here = found.2 in
-      let is_raw = found.4 in
-      let has = here.has in
-      let later : (onward.to ≤ found.0.begin) × (onward.to < length (part_of old)) = subst (λ (f : Option (Spanned Fault)). IfSome f (λ fault. (onward.to ≤ fault.begin) × (onward.to < length (part_of old)))) has onward.fault in
-      let counted = here.counted in
-      let passed : old.state.yielded_count ≡ length (outcome (part_of old)).lexemes = omega (arith, count, counted) in
-      let all : take old.state.yielded_count (outcome (part_of old)).lexemes ≡ (outcome (part_of old)).lexemes =
-      take_all old.state.yielded_count (outcome (part_of old)).lexemes (none_dropped (outcome (part_of old)).lexemes old.state.yielded_count found.1) in
-      record {
-        is_part = part_same old state old.comment is.is_part lexing own;
-        here = found.2;
-        ended = fault_ends;
-        to = onward.to;
-        mended = record { inside = mended.inside; same = mended.same };
-        after = later.0;
-        less = later.1;
-        comment = λ place. sym (ap (ends_by_comment place) all) ∙ onward.comment place ∙ ap (λ n. is_end old.comment n place) passed;
-        reads = onward.reads;
-        paid = found.3;
-        within = subst (λ e. IsWithin (part_of old) found.0.begin e) is_raw.2 (subst (λ b. IsWithin (part_of old) b raw.2) is_raw.0 within);
-        begins = subst (IsCharBoundary (part_of old)) is_raw.0 between.0;
-        ends = subst (IsCharBoundary (part_of old)) is_raw.2 between.1;
-      }
+  stopped_here = search (rules, take_all, none_dropped)
 
   fault_left : left_of old ≡ Refused (moved old.begin found.0) ∷ map (moved_item old.begin) (items_after (part_of old) found.0)
-  fault_left =
-      let here = found.2 in
-      left_goes old going ∙ ap (map (moved_item old.begin)) (items_refused (part_of old) old.state.yielded_count found.0 found.1 here.has)
+  fault_left = left_goes old going ∙ ap (map (moved_item old.begin)) (items_refused (part_of old) old.state.yielded_count found.0 found.1 found.2.has)
 
   fault_edges : IsCharBoundary old.mended.text.now (old.begin + found.0.begin) × IsCharBoundary old.mended.text.now (old.begin + found.0.end)
   fault_edges =
-      let stopped = stopped_here in
       let onward = is.onward going in
-      let here = found.2 in
-      let later : (onward.to ≤ found.0.begin) × (onward.to < length (part_of old)) = subst (λ (f : Option (Spanned Fault)). IfSome f (λ fault. (onward.to ≤ fault.begin) × (onward.to < length (part_of old)))) here.has onward.fault in
-      let order = stopped.within in
-      let begins = stopped.begins in
-      let last = stopped.ends in
-      (text_boundary old is.is_part onward.to found.0.begin onward.mended later.0 begins, text_boundary old is.is_part onward.to found.0.end onward.mended (omega (arith, later.0, order.0)) last)
+      let later : (onward.to ≤ found.0.begin) × (onward.to < length (part_of old)) = subst (λ (f : Option (Spanned Fault)). IfSome f (λ fault. (onward.to ≤ fault.begin) × (onward.to < length (part_of old)))) found.2.has onward.fault in
+      (text_boundary old is.is_part onward.to found.0.begin onward.mended later.0 stopped_here.begins, text_boundary old is.is_part onward.to found.0.end onward.mended (omega (arith, later.0, stopped_here.within.0)) stopped_here.ends)
 
   pub fault_next : (result : OrMemory (Diagnosed ErrorKind)) (new : RecoveryState) → HasPassedOn at_fault found.0 result new → IsRecovering new × IsNextOf (view_of old) (Some (Err result)) (view_of new)
   fault_next (Error exception) new on =
-      let same : left_of new ≡ drop 1 (left_of old) = on.3 ∙ sym (ap (λ (l : List LexerItem). drop 1 l) fault_left) in
       let stopped = stopped_here in (
         on.0,
         record {
@@ -458,7 +318,7 @@ module _ (old : RecoveryState) (is : IsRecovering old) (state : LexerState) (raw
           between = span_has (λ from to. IsCharBoundary old.mended.text.now from × IsCharBoundary old.mended.text.now to) old.code_map (moved old.begin found.0) exception on.2 fault_edges;
           after = ap (λ (f : SourceFile). record { text = new.mended.text.now; code_map = f; left = left_of new; fault_count = new.fault_count; has_ended = new.state.has_ended; reads = (view_of new).reads }) on.6
               ∙ views new.mended.text.now old.mended.text.now old.code_map (left_of new) (drop 1 (left_of old)) new.fault_count (old.fault_count + 1) new.state.has_ended (old.state.has_ended || false) (view_of new).reads (view_of new).reads
-              (ap (λ t. t.now) on.5) same on.4 (on.1 ∙ sym (or_false old.state.has_ended ∙ going)) refl;
+              (ap (λ t. t.now) on.5) (on.3 ∙ sym (ap (λ (l : List LexerItem). drop 1 l) fault_left)) on.4 (on.1 ∙ sym (or_false old.state.has_ended ∙ going)) refl;
           reads = λ goes. on.7;
         },
       )
@@ -497,18 +357,4 @@ pub advanced_in_text : {X : Type 0} (old : RecoveryState) → IsRecovering old �
     → OffsetsHold (λ from to. IsCharBoundary old.state.reader.text.now from × IsCharBoundary old.state.reader.text.now to) item
     → lexing.view_of state ≡ record (lexing.view_of old.state) { yielded_count = old.state.yielded_count + yielded_by item; has_ended = old.state.has_ended || is_ended_by item; reads = state.reader.reads }
     → IsAdvanced old item (record old { state = state })
-advanced_in_text old is copy some none item state ended found lexing within between after =
-    let own = is.is_part.own (none (none_by copy some)) in
-    let text = ap (λ (v : StateView). v.text) after ∙ own in
-    record {
-      recovering = is;
-      ended = λ on. ((ended on).0, ap (λ (s : LexerState). s.reader.reads) (ended on).1);
-      found = λ going. subst (λ (t : Text). HasFound t old.state item state) own (found going);
-      lexing = subst (λ (t : Text). IsLexingIn t state) text lexing;
-      within = subst (λ (t : Text). OffsetsHold (IsWithin t) item) own within;
-      between = subst (λ (t : Text). OffsetsHold (λ from to. IsCharBoundary t from × IsCharBoundary t to) item) own between;
-      count = ap (λ (v : StateView). v.yielded_count) after;
-      ends = ap (λ (v : StateView). v.has_ended) after;
-      own = λ whole. text;
-      after = refl;
-    }
+advanced_in_text old is copy some none item state ended found lexing within between after = search (rules, none_by)

@@ -1,7 +1,7 @@
 -- The part of a text that is lexed, with one more repair.
-use Rattle.std.proofs.Common.{◌≡◌, ◌≤◌, ◌<◌, ◌+◌, ◌-◌, ◌==◌, ℕ, zero, suc, Bool, true, false, List, [], ◌∷◌, ◌++◌, append_assoc, cond, replicate, length, length-append, drop, take, refl, ap, sym, subst, ◌∙◌, arith, None, Some, IfSome}
+use Rattle.std.proofs.Common.{◌≡◌, ◌≤◌, ◌<◌, ◌+◌, ◌-◌, ◌==◌, ℕ, zero, suc, Bool, true, false, List, [], ◌∷◌, ◌++◌, append_assoc, cond, replicate, length, length-append, drop, take, refl, ap, sym, subst, ◌∙◌, arith, None, Some, IfSome, map, rules}
 use Rattle.std.proofs.lemmas.Bool.{eqb-true}
-use Rattle.std.proofs.lemmas.List.{drop-append-le, drop-take, drop_at, length-drop, length-replicate, length-take-le, take-append-le, take-take, take_at}
+use Rattle.std.proofs.lemmas.List.{drop-append-le, drop-take, drop_at, length-drop, length-replicate, length-take-le, take-append-le, take-take, take_at, drop-map}
 use Rattle.std.proofs.lemmas.Str.{IsCharBoundary-from_drop, IsCharBoundary-from_take, IsUtf8-drop, IsUtf8-past_char, IsUtf8-string_bytes, IsUtf8-take, encode_ascii}
 use Rattle.std.specs.List.{AllByRecursion, prefix_len}
 use Rattle.std.specs.Prelude.{Option, String, nat_eq}
@@ -21,6 +21,13 @@ use Rattle.starlark_grammar.proofs.Repairs.Readings.{repairs_have_bytes, repairs
 use Rattle.starlark_reader.proofs.TakenPieces.Repaired.{last_repair}
 use Rattle.starlark_syntax.specs.Inner.MendedTexts.{bytes_of, copied}
 use Rattle.starlark_syntax.specs.declared.mended_text.MendedText.{MendedText}
+use Rattle.starlark_reader.specs.Inner.Reader.{IsAhead}
+use Rattle.starlark_reader.specs.Inner.ReadBounds.{HasRead}
+use Rattle.starlark_reader.specs.declared.reader.Reader.{Reader}
+use Rattle.starlark_syntax.specs.Inner.LexerStates.{IsAtFault, IsLexingIn}
+use Rattle.starlark_syntax.specs.declared.lexer_state.LexerState.{LexerState}
+use Rattle.starlark_reader.specs.declared.lookahead.Found.TheVariants as found
+use Rattle.starlark_token.specs.Lexemes.{shown_lexeme}
 
 -- Bytes
 
@@ -40,18 +47,13 @@ filled_len begin end text order inside =
 -- a repair later in a text is one in its rest
 pub filled_drop : (at begin end : ℕ) (text : Text) → at + begin ≤ length text → drop at (filled (at + begin) (at + end) text) ≡ filled begin end (drop at text)
 filled_drop at begin end text inside =
-    let front : at ≤ length (take (at + begin) text) = omega (arith, length-take-le (at + begin) text inside) in
     let count : at + end - (at + begin) ≡ end - begin = omega arith in
-    drop-append-le at (take (at + begin) text) (replicate (at + end - (at + begin)) 59 ++ drop (at + end) text) front
-    ∙ ap (λ (t : Text). t ++ (replicate (at + end - (at + begin)) 59 ++ drop (at + end) text)) (drop-take at begin text)
-    ∙ ap (λ n. take begin (drop at text) ++ (replicate n 59 ++ drop (at + end) text)) count
-    ∙ ap (λ (t : Text). take begin (drop at text) ++ (replicate (end - begin) 59 ++ t)) (drop-sum at end text)
+    let front : at ≤ length (take (at + begin) text) = omega (arith, length-take-le (at + begin) text inside) in
+    rw (drop-append-le at (take (at + begin) text) _ front, drop-take at begin text, count, drop-sum at end text) refl
 
 -- and leaves what is before it
 pub filled_take : (at begin end : ℕ) (text : Text) → at + begin ≤ length text → take at (filled (at + begin) (at + end) text) ≡ take at text
-filled_take at begin end text inside =
-    take-append-le at (take (at + begin) text) (replicate (at + end - (at + begin)) 59 ++ drop (at + end) text) (omega (arith, length-take-le (at + begin) text inside))
-    ∙ take-take at (at + begin) text (omega arith)
+filled_take at begin end text inside = search (rules, take-append-le, length-take-le, take-take)
 
 -- Characters
 
@@ -66,8 +68,7 @@ mended_utf8 mended utf8 = by mended.copy
 pub begins_filled : (at begin end : ℕ) (text whole : Text) → IsUtf8 text → IsUtf8 whole → whole ≡ filled (at + begin) (at + end) text → at + begin ≤ length text → begin ≤ end → at + end ≤ length text → IsCharBoundary text at → IsCharBoundary whole at
 begins_filled at begin end text whole utf8 other is inside order ends boundary =
     let len : length whole ≡ length text = ap (λ (t : Text). length t) is ∙ filled_len (at + begin) (at + end) text (omega (arith, order)) ends in
-    let front : take at whole ≡ take at text = ap (λ (t : Text). take at t) is ∙ filled_take at begin end text inside in
-    IsCharBoundary-from_take whole at other (omega (arith, len, inside)) (subst IsUtf8 (sym front) (IsUtf8-take text at utf8 boundary))
+    IsCharBoundary-from_take whole at other (omega (arith, len, inside)) (subst IsUtf8 (sym (ap (λ (t : Text). take at t) is ∙ filled_take at begin end text inside)) (IsUtf8-take text at utf8 boundary))
 
 tabs_utf8 : (text : Text) → IsUtf8 text → IsUtf8 (drop (prefix_len (nat_eq 9) text) text)
 tabs_utf8 [] utf8 = utf8
@@ -75,9 +76,8 @@ tabs_utf8 (b ∷ bs) utf8 = by (nat_eq 9 b) refl (tabs_utf8 bs)
   where
     by : (tab : Bool) → nat_eq 9 b ≡ tab → (IsUtf8 bs → IsUtf8 (drop (prefix_len (nat_eq 9) bs) bs)) → IsUtf8 (drop (cond tab (1 + prefix_len (nat_eq 9) bs) 0) (b ∷ bs))
     by true e more =
-        let same : 9 ≡ b = eqb-true 9 b e in
         let next : suc (prefix_len (nat_eq 9) bs) ≡ 1 + prefix_len (nat_eq 9) bs = omega arith in
-        subst (λ n. IsUtf8 (drop n (b ∷ bs))) next (more (IsUtf8-past_char (b ∷ bs) bs 9 utf8 (ap (λ c. c ∷ bs) (sym same) ∙ sym (ap (λ (l : Text). l ++ bs) (encode_ascii 9 (omega arith))))))
+        subst (λ n. IsUtf8 (drop n (b ∷ bs))) next (more (IsUtf8-past_char (b ∷ bs) bs 9 utf8 (ap (λ c. c ∷ bs) (sym (eqb-true 9 b e)) ∙ sym (ap (λ (l : Text). l ++ bs) (encode_ascii 9 (omega arith))))))
     by false e more = utf8
 
 -- A repair ends between characters, …
@@ -87,19 +87,17 @@ repair_boundary text fault keeps utf8 begins ends = by (is_tab fault.node) refl
     by : (tab : Bool) → is_tab fault.node ≡ tab → IsCharBoundary text (repair_end text fault)
     by false e = rw e ends
     by true e =
-        let bytes = repairs_have_bytes text fault keeps in
         let end : repair_end text fault ≡ fault.begin + prefix_len (nat_eq 9) (drop fault.begin text) = rw e refl in
         let rest : drop (prefix_len (nat_eq 9) (drop fault.begin text)) (drop fault.begin text) ≡ drop (repair_end text fault) text =
         sym (drop-sum fault.begin (prefix_len (nat_eq 9) (drop fault.begin text)) text) ∙ ap (λ n. drop n text) (sym end) in
-        IsCharBoundary-from_drop text (repair_end text fault) bytes.1 (subst IsUtf8 rest (tabs_utf8 (drop fault.begin text) (IsUtf8-drop text fault.begin utf8 begins)))
+        IsCharBoundary-from_drop text (repair_end text fault) (repairs_have_bytes text fault keeps).1 (subst IsUtf8 rest (tabs_utf8 (drop fault.begin text) (IsUtf8-drop text fault.begin utf8 begins)))
 
 -- … in the repaired text too
 pub repaired_boundary : (text : Text) (fault : Spanned Fault) → KeepsLine text fault → IsUtf8 text → IsCharBoundary text (repair_end text fault) → IsCharBoundary (repaired text fault) (repair_end text fault)
 repaired_boundary text fault keeps utf8 boundary =
     let bytes = repairs_have_bytes text fault keeps in
     let left = repaired_left text fault keeps in
-    let len = repaired_len text fault keeps in
-    IsCharBoundary-from_drop (repaired text fault) (repair_end text fault) (omega (arith, len, bytes.1)) (subst IsUtf8 (sym left) (IsUtf8-drop text (repair_end text fault) utf8 boundary))
+    IsCharBoundary-from_drop (repaired text fault) (repair_end text fault) (omega (arith, repaired_len text fault keeps, bytes.1)) (subst IsUtf8 (sym left) (IsUtf8-drop text (repair_end text fault) utf8 boundary))
 
 -- an offset between characters of a part that no repair is after, in the whole text
 pub later_boundary : (text part : Text) (begin to at : ℕ) → IsUtf8 part → drop to part ≡ drop (begin + to) text → length part ≡ length text - begin → begin ≤ length text → to ≤ at → IsCharBoundary part at → IsCharBoundary text (begin + at)
@@ -108,8 +106,7 @@ later_boundary text part begin to at utf8 same len inside less boundary =
     let whole : begin + to + (at - to) ≡ begin + at = omega (arith, less) in
     let rest : drop at part ≡ drop (begin + at) text =
     ap (λ n. drop n part) (sym more) ∙ drop-sum to (at - to) part ∙ ap (λ (t : Text). drop (at - to) t) same ∙ sym (drop-sum (begin + to) (at - to) text) ∙ ap (λ n. drop n text) whole in
-    let within = boundary.0 in
-    IsCharBoundary-from_drop text (begin + at) (omega (arith, within, len, inside)) (subst IsUtf8 rest (IsUtf8-drop part at utf8 boundary))
+    IsCharBoundary-from_drop text (begin + at) (omega (arith, boundary.0, len, inside)) (subst IsUtf8 rest (IsUtf8-drop part at utf8 boundary))
 
 -- after a repair the text is as it was
 pub same_after : (text part : Text) (begin to : ℕ) (fault : Spanned Fault) → KeepsLine part fault → drop to part ≡ drop (begin + to) text → to ≤ repair_end part fault → drop (repair_end part fault) (repaired part fault) ≡ drop (begin + repair_end part fault) text
@@ -134,29 +131,22 @@ module _ (text : Text) (fault : Spanned Fault) (keeps : KeepsLine text fault) wh
 
   -- those that are left begin after it
   pub left_later : AllByRecursion (λ (lexeme : Lexeme). repair_end text fault ≤ lexeme.begin) (drop (passed_count text fault) (outcome (repaired text fault)).lexemes)
-  left_later =
-      let whole = whole_lexemes in
-      let left : drop (passed_count text fault) (outcome (repaired text fault)).lexemes ≡ whole.0 =
-      ap (λ (l : List Lexeme). drop (passed_count text fault) l) whole.1 ∙ drop_at ((outcome text).lexemes ++ fillers) whole.0 (passed_count text fault) passed_first in
-      subst (λ (l : List Lexeme). AllByRecursion (λ (lexeme : Lexeme). repair_end text fault ≤ lexeme.begin) l) (sym left) whole.2
+  left_later = search (rules, whole_lexemes, drop_at, passed_first)
 
   -- and the last before them is no comment
   pub no_comment : (at : ℕ) → ends_by_comment at (take (passed_count text fault) (outcome (repaired text fault)).lexemes) ≡ false
   no_comment at =
-      let whole = whole_lexemes in
-      let bytes = repairs_have_bytes text fault keeps in
       let first : take (passed_count text fault) (outcome (repaired text fault)).lexemes ≡ (outcome text).lexemes ++ fillers =
-      ap (λ (l : List Lexeme). take (passed_count text fault) l) whole.1 ∙ take_at ((outcome text).lexemes ++ fillers) whole.0 (passed_count text fault) passed_first in
-      ap (ends_by_comment at) first ∙ ends_so (repair_end text fault - fault.begin) fault.begin (outcome text).lexemes (omega (arith, bytes.0))
+      ap (λ (l : List Lexeme). take (passed_count text fault) l) whole_lexemes.1 ∙ take_at ((outcome text).lexemes ++ fillers) whole_lexemes.0 (passed_count text fault) passed_first in
+      ap (ends_by_comment at) first ∙ ends_so (repair_end text fault - fault.begin) fault.begin (outcome text).lexemes (omega (arith, (repairs_have_bytes text fault keeps).0))
     where
       semicolons_end : (n at begin : ℕ) → ends_by_comment at (semicolons (suc n) begin) ≡ false
       semicolons_end zero at begin = refl
       semicolons_end (suc n) at begin = semicolons_end n at (begin + 1)
 
       last : (n begin : ℕ) (lexemes : List Lexeme) → ends_by_comment at (lexemes ++ semicolons (suc n) begin) ≡ false
-      last n begin [] = semicolons_end n at begin
-      last n begin (lexeme ∷ []) = semicolons_end n at begin
       last n begin (lexeme ∷ more ∷ lexemes) = last n begin (more ∷ lexemes)
+      last n begin lexemes = semicolons_end n at begin
 
       ends_so : (n begin : ℕ) (lexemes : List Lexeme) → 1 ≤ n → ends_by_comment at (lexemes ++ semicolons n begin) ≡ false
       ends_so zero begin lexemes some = absurd (omega (arith, some))
@@ -176,7 +166,14 @@ module _ (text : Text) (fault : Spanned Fault) (keeps : KeepsLine text fault) wh
           shorter : (last : Bool) → (repair_end text fault == length text) ≡ last → repair_end text fault < length (repaired text fault)
           shorter true is =
               let none : None ≡ Some later = sym (last_repair text fault keeps (eqb-true (repair_end text fault) (length text) is)) ∙ e in cc
-          shorter false is =
-              let bytes = repairs_have_bytes text fault keeps in
-              let len = repaired_len text fault keeps in
-              grind (arith, is, bytes.1, len)
+          shorter false is = grind (arith, is, (repairs_have_bytes text fault keeps).1, repaired_len text fault keeps)
+
+-- the lexemes before the end of a repair are among those of the repaired text
+pub passed_few : (text : Text) (fault : Spanned Fault) → KeepsLine text fault → passed_count text fault ≤ length (outcome (repaired text fault)).lexemes
+passed_few text fault keeps = search (rules, repairs_keep, length-append, semicolon_count)
+
+-- what the reader has ahead is what the lexer has left
+pub lexing_repaired : (text : Text) (fault : Spanned Fault) (old : LexerState) (reader : Reader) (count : ℕ) (here : IsAtFault text fault old) → KeepsLine text fault → IsUtf8 (repaired text fault) → count ≡ passed_count text fault
+    → IsAhead (repaired text fault) reader reader.stage (map shown_lexeme (drop (passed_count text fault) (outcome (repaired text fault)).lexemes)) (outcome (repaired text fault)).fault
+    → HasRead (repaired text fault) reader → IsLexingIn (repaired text fault) (record old { yielded_count = count; has_ended = false; lookahead = record old.lookahead { found = found.All }; reader = reader })
+lexing_repaired text fault old reader count here keeps utf8 is ahead read = search (rules, drop-map, repaired_len, passed_few)

@@ -141,7 +141,7 @@ impl<'a> Lexer<'a> {
         ensures known { (at : ℕ) → self.now.cut ≡ Some at → result ≡ Some at }
         ensures going { IfSome result (λ at. self.now.has_ended ≡ false) }
     {
-        if self.state.has_ended() {
+        if self.state.has_ended {
             return None;
         }
         self.state.cut()
@@ -157,7 +157,7 @@ impl<'a> Lexer<'a> {
     pub fn reads(&self) -> u64
         ensures { result ≡ self.now.reads }
     {
-        self.state.reads()
+        self.state.reader.reads()
     }
 }
 

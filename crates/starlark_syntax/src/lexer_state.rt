@@ -1,7 +1,7 @@
 //! Lexes a text lexeme by lexeme. The fast path decides by the first bytes of a lexeme; what these
 //! don't determine comes from the reader.
 
-ghost use Rattle.std.specs.Prelude.{◌≡◌, ◌<◌, ◌≤◌, ◌+◌, ◌-◌, ◌^◌, ◌&&◌, ◌||◌, ℕ, None, Some, codes, length, nat_eq, true, false, IfSome, IsSome, OnOk};
+ghost use Rattle.std.specs.Prelude.{◌≡◌, ◌≢◌, ◌<◌, ◌≤◌, ◌+◌, ◌-◌, ◌^◌, ◌&&◌, ◌||◌, ℕ, None, Some, codes, length, nat_eq, true, false, IfSome, IsSome, OnOk};
 ghost use Rattle.std.specs.List.{ends_with};
 ghost use Rattle.std.specs.Option.{is_some};
 ghost use Rattle.std.specs.Str.{IsCharBoundary, IsUtf8};
@@ -14,15 +14,16 @@ ghost use Rattle.starlark_grammar.specs.Words.{Text};
 ghost use Rattle.starlark_grammar.specs.Reading.{History};
 ghost use Rattle.starlark_reader.specs.Inner.MarginCuts.{IsCutBefore};
 ghost use Rattle.starlark_reader.specs.Inner.Reader.{IsAtCode, IsAtEnd, IsReached, IsStateAfter, has_read_none};
-ghost use Rattle.starlark_syntax.specs.Inner.LexerStates.{HasAnswered, HasFound, HasGivenNext, HasPassed, HasPassedNext, HasTaken, HasTakenLast, HasThrown, IsAtFault, IsAtOpener, IsAtWord, IsBegun, IsUnnamed, IsLexing, IsLexingIn, IsOfMark, IsTakenNext, has_fault, is_none_waiting, is_out_of_memory, left_in, passed_as, passed_count, plain_comment, plain_string, taken_count, thrown_count, view_of};
+ghost use Rattle.starlark_syntax.specs.Inner.LexerStates.{HasAnswered, HasFound, HasGivenNext, HasGoneOn, HasLooked, HasPassed, HasPassedNext, HasPassedOther, HasPassedWaiting, HasTaken, HasTakenLast, HasThrown, IsAtFault, IsAtOpener, IsAtWord, IsBegun, IsUnnamed, IsLexing, IsLexingIn, IsOfMark, IsTakenNext, has_fault, is_out_of_memory, left_in, passed_as, passed_count, plain_comment, plain_string, taken_count, thrown_count, view_of};
 ghost use Rattle.starlark_syntax.specs.Lexer.{is_ended_by, most_reads, yielded_by};
 ghost use Rattle.starlark_syntax.specs.Inner.RawItems.{OffsetsHold};
 ghost use Rattle.starlark_syntax.specs.PlainLexemes.{IsPlainIn};
 ghost use Rattle.starlark_token.specs.Lexemes.{IsWithin};
-ghost use Rattle.starlark_reader.specs.Inner.Pending.{IsMark};
+ghost use Rattle.starlark_reader.specs.Inner.Pending.{IsIdle, IsMark};
 ghost use Rattle.starlark_token.specs.TokenViews.{token_view};
 ghost use Rattle.starlark_syntax.specs.Inner.Looked.{IsFoundInCode, IsFoundOut};
-ghost use Rattle.starlark_reader.specs.Inner.Lookaheads.{IsFoundAt};
+ghost use Rattle.starlark_reader.specs.Inner.Lookaheads.{IsFoundAt, IsLooked};
+ghost use Rattle.starlark_reader.specs.declared.reader.Stage.TheVariants as Stage;
 ghost use Rattle.starlark_grammar.specs.declared.class.LiteralKind.TheVariants as kind;
 
 use crate::eval_exception::EvalException;
@@ -47,10 +48,12 @@ pub(crate) type Item = Result<(usize, Token, usize), OrMemory<(usize, LexemeErro
 // In this order for the reason that `Reader` has one.
 #[derive(Drop)]
 pub struct LexerState<'a> {
-    yielded_count: usize,
+    /// Number of lexemes, and faults, that were yielded so far.
+    pub(crate) yielded_count: usize,
     lookahead: Lookahead,
-    has_ended: bool,
-    reader: Reader<'a>,
+    /// Whether an error has ended the lexer.
+    pub(crate) has_ended: bool,
+    pub(crate) reader: Reader<'a>,
     passed_begin: usize,
     passed_end: usize,
     alloc: Global,
@@ -93,6 +96,10 @@ enum Waiting {
     FStringText,
     FStringExprStart,
     FStringEnd,
+    /// What has no lexeme.
+    Layout,
+    /// Out of memory, which ends the lexer.
+    OutOfMemory,
 }
 
 impl Waiting {
@@ -110,14 +117,6 @@ impl Waiting {
             _ => Waiting::FStringEnd,
         }
     }
-
-    /// Whether no lexeme was passed.
-    #[inline(always)]
-    fn is_nothing(self) -> bool
-        ensures { result ≡ is_none_waiting self }
-    {
-        matches!(self, Waiting::Nothing)
-    }
 }
 
 impl FastPath {
@@ -127,8 +126,17 @@ impl FastPath {
         ensures { result ≡ passed_as waiting begin end }
     {
         let kind = match waiting {
-            Waiting::Nothing => return FastPath::Undecided,
-            Waiting::FStringText => return FastPath::Passed(PlainLexeme::fstring_text(begin, end)),
+            Waiting::Nothing | Waiting::Layout => return FastPath::Undecided,
+            Waiting::OutOfMemory => return FastPath::OutOfMemory,
+            Waiting::FStringText => {
+                return FastPath::Passed(PlainLexeme {
+                    kind: PlainKind::FStringText,
+                    begin,
+                    end,
+                    value_begin: begin,
+                    value_end: end,
+                });
+            }
             Waiting::Indent => PlainKind::Indent,
             Waiting::Dedent => PlainKind::Dedent,
             Waiting::FStringExprStart => PlainKind::FStringExprStart,
@@ -199,24 +207,15 @@ impl<'a> LexerState<'a> {
     fn next_of_reader(&mut self) -> Option<Lexeme>
         requires lexing { IsLexing self.old }
         requires going { self.old.has_ended ≡ false }
+        requires looked { IsLooked self.old.reader.text.now self.old.reader self.old.lookahead.word self.old.lookahead.found }
         ensures { HasGivenNext self.old result self.new }
     {
-        match self.reader.next(self.lookahead) {
-            Ok(Some(lexeme)) => {
-                self.yielded_count += 1;
-                self.lookahead.found = looked_after(&self.reader);
-                Some(Ok(lexeme))
-            }
-            Ok(None) => {
-                self.lookahead.found = Found::All;
-                None
-            }
-            Err(_) => {
-                self.has_ended = true;
-                self.lookahead.found = Found::All;
-                Some(Err(OrMemory::Memory))
-            }
-        }
+        let Some(taken) = self.reader.read(self.lookahead).transpose() else {
+            self.lookahead.found = Found::All;
+            return None;
+        };
+        let found = looked_after(&self.reader);
+        self.item_of(taken, found)
     }
 
     /// Next lexeme, a bytes literal whose opener has `len` bytes.
@@ -224,7 +223,7 @@ impl<'a> LexerState<'a> {
     fn next_bytes(&mut self, is_raw: bool, quote: Quote, len: usize) -> Option<Lexeme>
         requires lexing { IsLexing self.old }
         requires going { self.old.has_ended ≡ false }
-        requires found { self.old.lookahead.found ≡ Found.Named }
+        requires found { self.old.lookahead.found ≡ Found.Word }
         requires word { self.old.lookahead.word ≡ record { class = Class.Opener kind.Bytes is_raw quote; len = len } }
         ensures { HasGivenNext self.old result self.new }
     {
@@ -244,17 +243,20 @@ impl<'a> LexerState<'a> {
         }
     }
 
-    /// Next lexeme, which begins with a word that its first two bytes tell. The start of an f-string and
-    /// a bytes literal without escapes come fast.
+    /// Next lexeme, which begins with a word that the fast path doesn't pass. `None` if it is a fault.
     #[inline(always)]
-    fn next_named(&mut self, word: Word) -> Option<Lexeme>
+    fn next_word(&mut self, word: Word) -> Option<Lexeme>
         requires lexing { IsLexing self.old }
         requires going { self.old.has_ended ≡ false }
-        requires found { self.old.lookahead.found ≡ Found.Named }
+        requires found { self.old.lookahead.found ≡ Found.Word }
         requires word { self.old.lookahead.word ≡ word }
         ensures { HasGivenNext self.old result self.new }
     {
         match word.class {
+            Class::Comment => {
+                let taken = self.reader.take_comment(word.len);
+                self.item_of(taken, Found::Nothing)
+            }
             Class::Opener {
                 kind: LiteralKind::FString,
                 is_raw,
@@ -268,33 +270,17 @@ impl<'a> LexerState<'a> {
                 is_raw,
                 quote,
             } => self.next_bytes(is_raw, quote, word.len),
-            _ => self.next_of_reader(),
-        }
-    }
-
-    /// Next lexeme, which begins with any word. A number and a comment come fast.
-    #[inline(always)]
-    fn next_unnamed(&mut self, word: Word) -> Option<Lexeme>
-        requires lexing { IsLexing self.old }
-        requires going { self.old.has_ended ≡ false }
-        requires found { self.old.lookahead.found ≡ Found.Unnamed }
-        requires word { self.old.lookahead.word ≡ word }
-        ensures { HasGivenNext self.old result self.new }
-    {
-        if let Some(digit) = self.reader.single_digit(word) {
-            let lexeme = self.reader.take_digit(digit);
-            return self.item_of(Ok(lexeme), Found::Nothing);
-        }
-        if self.reader.is_plain_number(word) {
-            let taken = self.reader.take_number(word);
-            return self.item_of(taken, Found::Nothing);
-        }
-        match word.class {
-            Class::Comment => {
-                let taken = self.reader.take_comment(word.len);
-                self.item_of(taken, Found::Nothing)
+            _ => {
+                if let Some(digit) = self.reader.single_digit(word) {
+                    let lexeme = self.reader.take_digit(digit);
+                    return self.item_of(Ok(lexeme), Found::Nothing);
+                }
+                if self.reader.is_plain_number(word) {
+                    let taken = self.reader.take_number(word);
+                    return self.item_of(taken, Found::Nothing);
+                }
+                self.next_of_reader()
             }
-            _ => self.next_of_reader(),
         }
     }
 
@@ -304,11 +290,11 @@ impl<'a> LexerState<'a> {
     fn next_of_all(&mut self) -> Option<Lexeme>
         requires lexing { IsLexing self.old }
         requires going { self.old.has_ended ≡ false }
+        requires looked { HasLooked self.old }
         ensures { HasGivenNext self.old result self.new }
     {
         match self.lookahead.found {
-            Found::Named => self.next_named(self.lookahead.word),
-            Found::Unnamed => self.next_unnamed(self.lookahead.word),
+            Found::Word => self.next_word(self.lookahead.word),
             _ => self.next_of_reader(),
         }
     }
@@ -377,8 +363,9 @@ impl<'a> LexerState<'a> {
         requires going { self.old.has_ended ≡ false }
         requires all { self.old.lookahead.found ≡ Found.All }
         requires none { self.old.reader.pending.to ≤ self.old.reader.pending.from }
-        ensures passed { HasPassedNext self.old (passed_as result self.new.passed_begin self.new.passed_end) self.new }
+        ensures passed { result ≢ Waiting.Nothing → HasPassedWaiting self.old result self.new }
         ensures stays { result ≡ Waiting.Nothing → self.new ≡ self.old }
+        ensures idle { result ≡ Waiting.Nothing → IsIdle self.old.reader.text.now self.old.reader.pending }
     {
         let Some((begin, token, end)) = self.reader.next_mark() else {
             return Waiting::Nothing;
@@ -397,11 +384,10 @@ impl<'a> LexerState<'a> {
         requires lexing { IsLexing self.old }
         requires going { self.old.has_ended ≡ false }
         requires all { self.old.lookahead.found ≡ Found.All }
-        ensures { HasPassedNext self.old (passed_as result self.new.passed_begin self.new.passed_end) self.new }
+        requires stage { self.old.reader.stage ≡ Stage.Onward }
+        requires idle { IsIdle self.old.reader.text.now self.old.reader.pending }
+        ensures { HasPassedWaiting self.old result self.new }
     {
-        if !self.reader.reads_on() {
-            return Waiting::Nothing;
-        }
         let found = match self.reader.plain_text() {
             Some(Ok(found)) => found,
             Some(Err(run)) => {
@@ -409,7 +395,10 @@ impl<'a> LexerState<'a> {
                 self.lookahead.run = run;
                 return Waiting::Nothing;
             }
-            None => return Waiting::Nothing,
+            None => {
+                self.lookahead.found = Found::Nothing;
+                return Waiting::Layout;
+            }
         };
         self.yielded_count += 1;
         if found.len == 0 {
@@ -426,6 +415,23 @@ impl<'a> LexerState<'a> {
         Waiting::FStringText
     }
 
+    /// Passes the first margin.
+    fn pass_first_margin(&mut self) -> Waiting
+        requires lexing { IsLexing self.old }
+        requires going { self.old.has_ended ≡ false }
+        requires all { self.old.lookahead.found ≡ Found.All }
+        requires begin { self.old.reader.stage ≡ Stage.Begin }
+        requires idle { IsIdle self.old.reader.text.now self.old.reader.pending }
+        ensures { HasPassedWaiting self.old result self.new }
+    {
+        if self.reader.read_first_margin().is_err() {
+            self.has_ended = true;
+            return Waiting::OutOfMemory;
+        }
+        self.lookahead.found = looked_after(&self.reader);
+        Waiting::Layout
+    }
+
     /// Passes the next lexeme where lookahead in code is spent, and no comments are pending: a pending
     /// one, or the plain text of an f-string. Returns what was passed; its offsets are `passed_begin`
     /// and `passed_end`.
@@ -435,16 +441,23 @@ impl<'a> LexerState<'a> {
         requires lexing { IsLexing self.old }
         requires going { self.old.has_ended ≡ false }
         requires none { self.old.reader.pending.to ≤ self.old.reader.pending.from }
-        ensures { HasPassedNext self.old (passed_as result self.new.passed_begin self.new.passed_end) self.new }
+        requires looked { self.old.lookahead.found ≢ Found.Nothing }
+        ensures { HasPassedWaiting self.old result self.new }
     {
-        if !self.lookahead.found.is_all() {
+        if !matches!(self.lookahead.found, Found::All) {
             return Waiting::Nothing;
         }
-        let mark = self.pass_mark();
-        if !mark.is_nothing() {
-            return mark;
+        match self.pass_mark() {
+            Waiting::Nothing => {}
+            mark => return mark,
         }
-        self.pass_fstring_text()
+        if self.reader.reads_on() {
+            return self.pass_fstring_text();
+        }
+        if self.reader.is_at_begin() {
+            return self.pass_first_margin();
+        }
+        Waiting::Nothing
     }
 
     /// Passes the name of `len` bytes here.
@@ -457,7 +470,14 @@ impl<'a> LexerState<'a> {
         let begin = self.reader.at();
         self.yielded_count += 1;
         self.reader.pass_name(len);
-        FastPath::Passed(PlainLexeme::name(begin, self.reader.at()))
+        let end = self.reader.at();
+        FastPath::Passed(PlainLexeme {
+            kind: PlainKind::Identifier,
+            begin,
+            end,
+            value_begin: begin,
+            value_end: end,
+        })
     }
 
     /// Passes the keyword or symbol of `len` bytes here.
@@ -482,26 +502,65 @@ impl<'a> LexerState<'a> {
     {
         let begin = self.reader.at();
         self.lookahead.found = Found::All;
-        if self.pass_string(is_raw, quote, len) {
-            FastPath::Passed(PlainLexeme::string(begin, len, self.reader.at()))
-        } else {
-            FastPath::Undecided
+        if !self.pass_string(is_raw, quote, len) {
+            return FastPath::Undecided;
         }
+        let end = self.reader.at();
+        FastPath::Passed(PlainLexeme {
+            kind: PlainKind::String,
+            begin,
+            end,
+            value_begin: begin + len,
+            value_end: end - 1,
+        })
     }
 
-    /// Finds the word here, where the first two bytes tell none.
+    /// Finds the word here, where the first two bytes tell none. Passes it if it is skipped, and returns
+    /// whether it was.
     // A call: in line it costs each lexeme.
     #[inline(never)]
-    fn look_further(&mut self)
+    fn look_further(&mut self) -> bool
         requires { IsUnnamed self.old }
-        ensures { HasPassedNext self.old FastPath.Undecided self.new }
+        ensures passed { result ≡ true → HasGoneOn self.old self.new }
+        ensures found { result ≡ false → HasPassedNext self.old FastPath.Undecided self.new }
     {
-        match self.reader.unnamed_word() {
-            Some(word) => {
-                self.lookahead.found = Found::Unnamed;
-                self.lookahead.word = word;
+        let Some(word) = self.reader.unnamed_word() else {
+            self.lookahead.found = Found::Wordless;
+            return false;
+        };
+        if let Class::Skipped = word.class {
+            self.reader.pass_gap(word.len);
+            return true;
+        }
+        self.lookahead.found = Found::Word;
+        self.lookahead.word = word;
+        false
+    }
+
+    /// Passes what comes next where lookahead in code is spent. `None` where it has no lexeme.
+    #[inline(always)]
+    fn pass_other(&mut self) -> Option<FastPath>
+        requires lexing { IsLexing self.old }
+        requires going { self.old.has_ended ≡ false }
+        requires looked { self.old.lookahead.found ≢ Found.Nothing }
+        ensures { HasPassedOther self.old result self.new }
+    {
+        if self.reader.has_comments() {
+            if !matches!(self.lookahead.found, Found::All) {
+                return Some(FastPath::Undecided);
             }
-            None => self.lookahead.found = Found::Wordless,
+            let (begin, end) = self.pass_pending_comment();
+            return Some(FastPath::Passed(PlainLexeme {
+                kind: PlainKind::Comment,
+                begin,
+                end,
+                value_begin: begin + 1,
+                value_end: end,
+            }));
+        }
+        match self.pass_waiting() {
+            Waiting::Layout => None,
+            waiting => Some(FastPath::of_waiting(waiting, self.passed_begin, self.passed_end)),
         }
     }
 
@@ -515,9 +574,20 @@ impl<'a> LexerState<'a> {
         ensures lexing { IsLexing self.new }
         ensures after { view_of self.new ≡ record (view_of self.old) { yielded_count = self.old.yielded_count + passed_count result; has_ended = self.old.has_ended || is_out_of_memory result; reads = self.new.reader.reads } }
     {
-        while self.lookahead.found.is_nothing() {
+        loop {
+            if !self.lookahead.found.is_nothing() {
+                if self.has_ended {
+                    return FastPath::Undecided;
+                }
+                match self.pass_other() {
+                    Some(passed) => return passed,
+                    None => continue,
+                }
+            }
             let Some(Word { class, len }) = self.reader.common_word() else {
-                self.look_further();
+                if self.look_further() {
+                    continue;
+                }
                 return FastPath::Undecided;
             };
             match class {
@@ -548,25 +618,14 @@ impl<'a> LexerState<'a> {
                     is_raw,
                     quote,
                 } => return self.pass_literal(is_raw, quote, len),
+                Class::Skipped => self.reader.pass_gap(len),
                 _ => {
-                    self.lookahead.found = Found::Named;
+                    self.lookahead.found = Found::Word;
                     self.lookahead.word = Word { class, len };
                     return FastPath::Undecided;
                 }
             }
         }
-        if self.has_ended {
-            return FastPath::Undecided;
-        }
-        if self.reader.has_comments() {
-            if !self.lookahead.found.is_all() {
-                return FastPath::Undecided;
-            }
-            let (begin, end) = self.pass_pending_comment();
-            return FastPath::Passed(PlainLexeme::comment(begin, end));
-        }
-        let waiting = self.pass_waiting();
-        FastPath::of_waiting(waiting, self.passed_begin, self.passed_end)
     }
 
     /// The item of a plain lexeme, which was passed. Out of memory ends the lexer.
@@ -576,7 +635,7 @@ impl<'a> LexerState<'a> {
         requires counted { 0 < self.old.yielded_count }
         ensures { HasTaken self.old plain result self.new }
     {
-        match token_of(plain, self.alloc, self.text()) {
+        match token_of(plain, self.alloc, self.reader.text()) {
             Ok(token) => Some(Ok((plain.begin, token, plain.end))),
             Err(_) => {
                 self.yielded_count -= 1;
@@ -592,6 +651,7 @@ impl<'a> LexerState<'a> {
     #[inline(always)]
     fn next_slowly(&mut self) -> Option<Lexeme>
         requires lexing { IsLexing self.old }
+        requires looked { self.old.has_ended ≡ false → HasLooked self.old }
         ensures ended { self.old.has_ended ≡ true → (result ≡ None) × (self.new ≡ self.old) }
         ensures answer { self.old.has_ended ≡ false → HasAnswered self.old result self.new }
         ensures lexing { IsLexing self.new }
@@ -674,14 +734,6 @@ impl<'a> LexerState<'a> {
         self.reader.go_on(begin, end);
     }
 
-    /// Number of lexemes, and faults, that were yielded so far.
-    #[inline(always)]
-    pub(crate) fn yielded_count(&self) -> usize
-        ensures { result ≡ self.now.yielded_count }
-    {
-        self.yielded_count
-    }
-
     /// Whether a fault is left after the last lexeme.
     #[inline(always)]
     pub(crate) fn has_fault(&self) -> bool
@@ -746,22 +798,6 @@ impl<'a> LexerState<'a> {
         self.reader.cut()
     }
 
-    /// Whether an error has ended the lexer.
-    #[inline(always)]
-    pub(crate) fn has_ended(&self) -> bool
-        ensures { result ≡ self.now.has_ended }
-    {
-        self.has_ended
-    }
-
-    /// The text.
-    #[inline(always)]
-    pub(crate) fn text(&self) -> &'a str
-        ensures { result.now ≡ self.now.reader.text.now }
-    {
-        self.reader.text()
-    }
-
     /// Counts reads of `len` other bytes if those so far leave room for them. Returns whether they do.
     pub(crate) fn count_others(&mut self, len: usize) -> bool
         requires fits { len < 2 ^ 32 }
@@ -773,29 +809,5 @@ impl<'a> LexerState<'a> {
         ensures most { result ≡ true → self.new.reader.reads ≤ most_reads self.old.reader.text.now }
     {
         self.reader.count_others(len)
-    }
-
-    /// Number of reads of bytes so far.
-    pub(crate) fn reads(&self) -> u64
-        ensures { result ≡ self.now.reader.reads }
-    {
-        self.reader.reads()
-    }
-
-    /// Whether no piece of the text was read. If the text has a fault, that is the one of a tab in its
-    /// first margin.
-    pub(crate) fn has_read_none(&self) -> bool
-        ensures { result ≡ has_read_none self.now.reader }
-    {
-        self.reader.has_read_none()
-    }
-
-    /// Whether the text is a clean cut, after its last lexeme. The look at its last byte is counted.
-    pub(crate) fn is_clean_cut(&mut self) -> bool
-        ensures value { (history : History) → IsStateAfter self.old.reader.text.now history self.old.reader → result ≡ (is_settled history && ends_with nat_eq self.old.reader.text.now (codes "\n")) }
-        ensures least { self.old.reader.reads < 2 ^ 64 - 1 → self.old.reader.reads ≤ self.new.reader.reads }
-        ensures most { self.new.reader.reads ≤ self.old.reader.reads + 1 }
-    {
-        self.reader.is_clean_cut()
     }
 }

@@ -54,64 +54,6 @@ pub struct PlainLexeme {
 }
 
 impl PlainLexeme {
-    /// A name between two offsets.
-    #[inline]
-    pub(crate) fn name(begin: usize, end: usize) -> PlainLexeme
-        ensures { result ≡ record { kind = PlainKind.Identifier; begin = begin; end = end; value_begin = begin; value_end = end } }
-    {
-        PlainLexeme {
-            kind: PlainKind::Identifier,
-            begin,
-            end,
-            value_begin: begin,
-            value_end: end,
-        }
-    }
-
-    /// A text of an f-string between two offsets.
-    #[inline]
-    pub(crate) fn fstring_text(begin: usize, end: usize) -> PlainLexeme
-        ensures { result ≡ record { kind = PlainKind.FStringText; begin = begin; end = end; value_begin = begin; value_end = end } }
-    {
-        PlainLexeme {
-            kind: PlainKind::FStringText,
-            begin,
-            end,
-            value_begin: begin,
-            value_end: end,
-        }
-    }
-
-    /// A comment between two offsets, of which the first is that of its `#`.
-    #[inline]
-    pub(crate) fn comment(begin: usize, end: usize) -> PlainLexeme
-        requires { begin < end }
-        ensures { result ≡ record { kind = PlainKind.Comment; begin = begin; end = end; value_begin = begin + 1; value_end = end } }
-    {
-        PlainLexeme {
-            kind: PlainKind::Comment,
-            begin,
-            end,
-            value_begin: begin + 1,
-            value_end: end,
-        }
-    }
-
-    /// A string literal between two offsets, which one quote closes. Its opener has `opener` bytes.
-    #[inline]
-    pub(crate) fn string(begin: usize, opener: usize, end: usize) -> PlainLexeme
-        requires { begin + opener < end }
-        ensures { result ≡ record { kind = PlainKind.String; begin = begin; end = end; value_begin = begin + opener; value_end = end - 1 } }
-    {
-        PlainLexeme {
-            kind: PlainKind::String,
-            begin,
-            end,
-            value_begin: begin + opener,
-            value_end: end - 1,
-        }
-    }
-
     /// A keyword or symbol, of whose terminal the token is made.
     #[inline(always)]
     pub(crate) fn of_symbol(terminal: Terminal, lexeme: (usize, Token, usize)) -> PlainLexeme

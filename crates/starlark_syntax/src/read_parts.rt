@@ -90,7 +90,7 @@ pub(crate) fn read_part(
     ensures most { IfOk result (λ part. part.reads ≤ most_reads state.old.reader.text.now) }
     ensures least { IfOk result (λ part. part.fault ≡ None → length state.old.reader.text.now ≤ part.reads) }
 {
-    let text = state.text();
+    let text = state.reader.text();
     let mut cuts = Vec::new(alloc);
     let mut lexemes = Vec::new(alloc);
     while let Some(item) = state.next() {
@@ -107,7 +107,7 @@ pub(crate) fn read_part(
                 cuts,
                 is_cut: false,
                 has_tab: false,
-                reads: state.reads(),
+                reads: state.reader.reads(),
                 met: Some(meeting),
             });
         }
@@ -118,14 +118,14 @@ pub(crate) fn read_part(
             fault: Some(fault),
             cuts,
             is_cut: false,
-            has_tab: state.has_read_none(),
-            reads: state.reads(),
+            has_tab: state.reader.has_read_none(),
+            reads: state.reader.reads(),
             met: None,
         });
     }
-    let is_cut = state.is_clean_cut();
+    let is_cut = state.reader.is_clean_cut();
     let cuts = with_end_cut(cuts, text, &lexemes, is_cut)?;
-    let reads = state.reads();
+    let reads = state.reader.reads();
     Ok(ReadPart {
         lexemes,
         fault: None,

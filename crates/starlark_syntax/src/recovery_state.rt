@@ -137,7 +137,7 @@ impl<'a> RecoveryState<'a> {
         let Ok(passed) = pass(self.alloc, mended, self.begin, fault, &self.code_map) else {
             return OrMemory::Memory;
         };
-        let reads = self.state.reads().saturating_add(passed.reads);
+        let reads = self.state.reader.reads().saturating_add(passed.reads);
         self.earlier_reads = self.earlier_reads.saturating_add(reads);
         self.fault_count += 1;
         self.begin = passed.begin;
@@ -154,7 +154,7 @@ impl<'a> RecoveryState<'a> {
         ensures { (found : Spanned Fault) → IsStopped self.old found → IsRaw found fault → HasPassedOn self.old found result self.new }
     {
         let part = &self.mended.as_str()[self.begin..];
-        let lexemes = self.state.yielded_count() - 1;
+        let lexemes = self.state.yielded_count - 1;
         let follows_comment = is_end(self.comment, lexemes, fault.0);
         if !keeps_line(part, fault.0, &fault.1, follows_comment) {
             return self.restart(fault);
@@ -170,7 +170,7 @@ impl<'a> RecoveryState<'a> {
         ensures { self.new ≡ record self.old { comment = last_comment (token_view token.now) self.old.state.yielded_count end self.old.comment } }
     {
         match token {
-            Token::Comment(_) => self.comment = Some((self.state.yielded_count(), end)),
+            Token::Comment(_) => self.comment = Some((self.state.yielded_count, end)),
             _ => {}
         }
     }
@@ -232,6 +232,6 @@ impl<'a> RecoveryState<'a> {
     pub(crate) fn reads(&self) -> u64
         ensures { result ≡ (view_of self.now).reads }
     {
-        self.earlier_reads.saturating_add(self.state.reads())
+        self.earlier_reads.saturating_add(self.state.reader.reads())
     }
 }

@@ -1,11 +1,11 @@
 -- Where each proof is. What belongs to one function is in a folder that has its name.
--- PeekedBytes, Scan/ReadFronts: peeked bytes: what the first bytes determine.
+-- PeekedBytes: peeked bytes: what the first bytes determine.
 -- FirstCharacter: UTF-8: a first byte's length of character.
 -- LaneRuns, EqualLanes, NameLanes: SIMD: runs found 4, 16 or 64 bytes at a time.
 -- Scan/WordFronts, ByFirst: longest match: fronts of two and three bytes, runs; one lemma for each first byte.
--- Scan/Listed: keywords: a name is looked up among those of its length.
--- Scan/Marks, ShortMarks: operators: the longest; those that no following byte can extend.
--- Scan/Openers: openers: prefixes of quotes, also by two bytes.
+-- Scan/Listed: keywords and other listed words: what they are looked up by.
+-- Scan/Marks, MarkWords: operators, line ends and quotes: the longest, by the first two or three bytes.
+-- Scan/Openers: openers: prefixes of quotes.
 -- Scan/Residuals, ScannedNumbers: numbers: the longest front byte by byte; a stop is where no word continues.
 -- Identifiers/OneIdentifier, WordBoundaries: one identifier: skipped pieces, a name, skipped pieces; where such a
 --   text may be cut.

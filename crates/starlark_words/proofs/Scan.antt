@@ -3,9 +3,8 @@ pub mod WordFronts
 pub mod Residuals
 pub mod Listed
 pub mod Marks
-pub mod ReadFronts
 pub mod ScannedNumbers
 pub mod ByFirst
 pub mod Bangs
-pub mod ShortMarks
 pub mod Openers
+pub mod MarkWords

@@ -29,14 +29,6 @@ const FRONT_LEN: usize = 3;
 /// Bytes to reserve beyond a run before an escape: literals with one rarely need more room.
 const SPARE_LEN: usize = 124;
 
-/// Bytes to reserve beyond a run. `front` is what comes after the run.
-fn spare_len(front: &[u8]) -> usize {
-    match front {
-        [b'\\', ..] => SPARE_LEN,
-        _ => 0,
-    }
-}
-
 /// Appends a run to a text. The first run also reserves room for what comes after it, where `front`
 /// begins.
 #[inline(always)]
@@ -44,7 +36,12 @@ fn append_run(text: &mut String, run: &str, front: &[u8]) -> Result<(), AllocErr
     ensures { OnOk result (string_bytes text.new ≡ string_bytes text.old ++ run.now) }
 {
     if text.capacity() == 0 {
-        text.reserve_exact(run.len().saturating_add(spare_len(front)))?;
+        let spare = if front.starts_with(b"\\") {
+            SPARE_LEN
+        } else {
+            0
+        };
+        text.reserve_exact(run.len().saturating_add(spare))?;
     }
     // A copy is a call, even of nothing, and escapes often follow one another.
     if run.is_empty() {

@@ -53,32 +53,7 @@ fn item<'a>(len: usize, value: Value<'a>) -> Found<'a>
     Found::Goes(Item { len, value })
 }
 
-/// The escape of `len` bytes for the byte of a number; a bad one if the number is over 255.
-fn byte_of<'a>(len: usize, number: u32) -> Found<'a>
-    requires { len ≤ 10 }
-    ensures value { found_view result ≡ grammar.numbered len true number }
-    ensures len { found_len result ≡ len }
-{
-    match u8::try_from(number) {
-        Ok(value) => item(len, Value::Byte(value)),
-        Err(_) => ended(len),
-    }
-}
-
-/// The escape of `len` bytes for the character of a number; a bad one if there is none.
-fn character_of<'a>(len: usize, number: u32) -> Found<'a>
-    requires { len ≤ 10 }
-    ensures value { found_view result ≡ grammar.numbered len false number }
-    ensures text { IsText result }
-    ensures len { found_len result ≡ len }
-{
-    match char::from_u32(number) {
-        Some(value) => item(len, Value::Character(value)),
-        None => ended(len),
-    }
-}
-
-/// The escape of `len` bytes for the byte or the character of a number.
+/// The escape of `len` bytes for the byte or the character of a number; a bad one if there is none.
 fn numbered<'a>(len: usize, is_byte: bool, number: u32) -> Found<'a>
     requires { len ≤ 10 }
     ensures value { found_view result ≡ grammar.numbered len is_byte number }
@@ -86,9 +61,14 @@ fn numbered<'a>(len: usize, is_byte: bool, number: u32) -> Found<'a>
     ensures len { found_len result ≡ len }
 {
     if is_byte {
-        byte_of(len, number)
-    } else {
-        character_of(len, number)
+        return match u8::try_from(number) {
+            Ok(value) => item(len, Value::Byte(value)),
+            Err(_) => ended(len),
+        };
+    }
+    match char::from_u32(number) {
+        Some(value) => item(len, Value::Character(value)),
+        None => ended(len),
     }
 }
 

@@ -2,7 +2,6 @@
 
 ghost use Rattle.std.specs.Prelude.{◌≡◌, ◌<◌, ◌≤◌, ◌+◌, ◌-◌, ◌==◌, ◌&&◌, ◌∷◌, not, drop, false, get_or, length, nat_eq, take, true};
 ghost use Rattle.std.specs.List.{starts_with};
-ghost use Rattle.starlark_grammar.specs.FrontCharacter as characters;
 ghost use Rattle.starlark_grammar.specs.Items as grammar;
 ghost use Rattle.starlark_words.specs.Inner.LiteralViews.{IsText, found_len, found_view, least_reads, literal_view};
 ghost use Rattle.starlark_grammar.specs.Inner.Openings.{opening_view};
@@ -132,14 +131,6 @@ pub(crate) fn after_first(text: &str) -> &str
     &text[1..]
 }
 
-/// The first character of a text, as text; empty if the text is.
-pub(crate) fn first_character<'a>(reads: &mut ReadCounter, text: &'a str) -> &'a str
-    ensures value { result.now ≡ characters.first_character text.now }
-    ensures reads { reads.new ≡ more_reads reads.old (length result.now) }
-{
-    &text[..reads.character_len(text)]
-}
-
 /// The item of a backslash in a raw literal, with the character after it; `Ended` if there is none.
 fn raw_pair<'a>(reads: &mut ReadCounter, literal: Literal, text: &'a str) -> Found<'a>
     requires { text.now ≡ 92 ∷ drop 1 text.now }
@@ -233,6 +224,6 @@ pub(crate) fn found_at<'a>(
     if is_brace(literal.kind, byte) {
         return brace(reads, byte, text);
     }
-    let character = first_character(reads, text);
-    part(character.len(), character)
+    let len = reads.character_len(text);
+    part(len, &text[..len])
 }

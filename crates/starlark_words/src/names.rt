@@ -9,23 +9,31 @@ use crate::lanes::{LANES, lowest_bit};
 use crate::reads::ReadCounter;
 use std::simd::prelude::*;
 
-// `x` marks each byte that a name can have.
+// `n` marks each byte that begins names, `d` each other byte that a name can have.
 static IN_NAME: [u8; 256] = *b"\
     --------------------------------\
-    ----------------xxxxxxxxxx------\
-    -xxxxxxxxxxxxxxxxxxxxxxxxxx----x\
-    -xxxxxxxxxxxxxxxxxxxxxxxxxx-----\
+    ----------------dddddddddd------\
+    -nnnnnnnnnnnnnnnnnnnnnnnnnn----n\
+    -nnnnnnnnnnnnnnnnnnnnnnnnnn-----\
     --------------------------------\
     --------------------------------\
     --------------------------------\
     --------------------------------";
+
+/// Whether a byte is a letter or `_`.
+#[inline(always)]
+pub(crate) fn is_name_start(byte: u8) -> bool
+    ensures { result ≡ grammar.is_name_start byte }
+{
+    IN_NAME[byte as usize] == b'n'
+}
 
 /// Whether a byte is a letter, `_` or a digit.
 #[inline(always)]
 fn is_in_name(byte: u8) -> bool
     ensures { result ≡ grammar.is_in_name byte }
 {
-    IN_NAME[byte as usize] == b'x'
+    IN_NAME[byte as usize] != b'-'
 }
 
 /// Bytes of a name that are read one by one before the SIMD step.

@@ -1,43 +1,20 @@
 //! Fast path for bodies of literals without escapes.
 
-ghost use Rattle.std.specs.Prelude.{◌≡◌, ◌==◌, ◌+◌, ◌*◌, get_or, length, take, IfErr, IfOk, IfSome};
-ghost use Rattle.starlark_grammar.specs.Items.{Stops, found_at, quote_byte};
+ghost use Rattle.std.specs.Prelude.{◌≡◌, ◌+◌, ◌*◌, take, IfErr, IfOk, IfSome};
+ghost use Rattle.starlark_grammar.specs.Items.{Stops, found_at};
 ghost use Rattle.starlark_grammar.specs.Words.{Text};
-ghost use Rattle.starlark_words.specs.Inner.Reads.{AreReads, more_reads};
+ghost use Rattle.starlark_words.specs.Inner.Reads.{AreReads};
 ghost use Rattle.starlark_words.specs.Inner.LiteralViews.{IsPlainBody, IsPlainChunk, fstring_literal, single_literal, stop_view};
 ghost use Rattle.starlark_words.specs.Inner.PlainRuns.{IsRun};
 ghost use Rattle.starlark_grammar.specs.Inner.Openings.{opening_view};
 
 use super::items::{Literal, Stop, closes, is_quote};
 use super::runs::first_run;
-use crate::reads::{ReadCounter, uncounted_front};
+use crate::reads::{ReadCounter, byte_at, uncounted_front};
 use starlark_grammar::class::{LiteralKind, Opening, Quote};
 
 /// Bytes that tell what ends a text of an f-string. They are counted with its run.
 const STOP_LEN: usize = 3;
-
-/// Whether the byte at an offset of a text is the given quote.
-#[inline(always)]
-fn is_quote_at(reads: &mut ReadCounter, quote: Quote, text: &[u8], at: usize) -> bool
-    ensures value { result ≡ (get_or text.now at 0 == quote_byte quote) }
-    ensures reads { reads.new ≡ more_reads reads.old 1 }
-{
-    match reads.at(text, at) {
-        Some(byte) => is_quote(quote, byte),
-        None => false,
-    }
-}
-
-/// Whether the byte after a run is the given quote. That byte was read with the run.
-#[inline(always)]
-fn closes_run(quote: Quote, text: &[u8], run: usize) -> bool
-    ensures { result ≡ (get_or text.now run 0 == quote_byte quote) }
-{
-    match text.get(run) {
-        Some(byte) => is_quote(quote, *byte),
-        None => false,
-    }
-}
 
 /// Length in bytes of the body of a literal without escapes that one quote closes.
 ///
@@ -64,13 +41,18 @@ pub fn plain_body_len(
     let literal = Literal { kind, opening };
     let len = first_run(reads, 0, literal, text).len();
     let bytes = text.as_bytes();
-    if !closes_run(quote, bytes, len) {
+    if !is_quote(quote, byte_at(bytes, len)) {
         return Err(len);
     }
-    if len == 0 && is_quote_at(reads, quote, bytes, 1) {
-        return Err(len);
+    if len > 0 {
+        return Ok(len);
     }
-    Ok(len)
+    reads.add(1);
+    if is_quote(quote, byte_at(bytes, 1)) {
+        Err(len)
+    } else {
+        Ok(len)
+    }
 }
 
 /// The stop of an f-string's text, if closing quotes or an expression are there.

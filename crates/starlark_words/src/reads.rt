@@ -1,6 +1,6 @@
 //! Reads bytes of a text, and counts the reads.
 
-ghost use Rattle.std.specs.Prelude.{◌≡◌, ◌==◌, get_or, ◌≤◌, ◌<◌, ◌+◌, ◌-◌, ◌^◌, ℕ, length, take, nat_eq};
+ghost use Rattle.std.specs.Prelude.{◌≡◌, get_or, ◌≤◌, ◌<◌, ◌+◌, ◌-◌, ◌^◌, ℕ, length, take, nat_eq};
 ghost use Rattle.std.specs.Char.{is_ascii_digit, is_ascii_hexdigit};
 ghost use Rattle.std.specs.List.{prefix_len, slice_get};
 ghost use Rattle.std.specs.Str.{IsCharBoundary};
@@ -26,6 +26,17 @@ pub(crate) fn uncounted_front(text: &[u8], most: usize) -> &[u8]
     ensures { result.now ≡ take most text.now }
 {
     &text[..most.min(text.len())]
+}
+
+/// The byte at an offset of a text; 0 after its end. The caller has to count the read.
+#[inline(always)]
+pub(crate) fn byte_at(text: &[u8], at: usize) -> u8
+    ensures { result ≡ get_or text.now at 0 }
+{
+    match text.get(at) {
+        Some(byte) => *byte,
+        None => 0,
+    }
 }
 
 /// The byte at an offset of a text; `None` if the text is no longer than that. The caller has to count
@@ -135,18 +146,6 @@ impl ReadCounter {
         ensures reads { self.new ≡ more_reads self.old most }
     {
         self.add(most);
-        &text[..most.min(text.len())]
-    }
-
-    /// The first `most` bytes of a text, or all if it has fewer. The first `known` aren't counted
-    /// again.
-    #[inline(always)]
-    pub(crate) fn more_front<'a>(&mut self, text: &'a [u8], known: usize, most: usize) -> &'a [u8]
-        requires { known ≤ most }
-        ensures bytes { result.now ≡ take most text.now }
-        ensures reads { self.new ≡ more_reads self.old (most - known) }
-    {
-        self.add(most - known);
         &text[..most.min(text.len())]
     }
 

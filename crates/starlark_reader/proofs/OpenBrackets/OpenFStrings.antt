@@ -1,54 +1,41 @@
 -- The open f-strings of a text, one token further.
-use Rattle.std.proofs.Common.{◌≡◌, ℕ, zero, suc, ◌+◌, ◌-◌, ◌≤◌, ◌<◌, ◌^◌, Bool, true, false, List, [], ◌∷◌, ◌++◌, length, get_or, set, take, refl, ap, ◌∙◌, sym, subst, Option, Some, None, arith, append-nil}
-use Rattle.std.specs.Prelude.{count_by, is_some, option_map, option_to_list, reverse}
+use Rattle.std.proofs.Common.{◌≡◌, inl, inr, ℕ, zero, suc, ◌+◌, ◌-◌, ◌≤◌, ◌<◌, ◌^◌, Bool, true, false, List, [], ◌∷◌, ◌++◌, length, get_or, set, take, refl, ap, ◌∙◌, sym, subst, Option, Some, None, arith, append-nil}
+use Rattle.std.specs.Prelude.{◌⊎◌, count_by, is_some, option_map, option_to_list, reverse}
 use Rattle.std.specs.List.{slice_get}
 use Rattle.std.proofs.lemmas.Option.{same_Some, none-some, slice_get_within, get_or_from_slice_get, slice_get-get_or}
 use Rattle.std.proofs.lemmas.List.{length-set, reverse-append, take_all, take_more, take_more_set}
 use Rattle.starlark_grammar.specs.declared.class.Terminal.TheVariants as terminal
 use Rattle.starlark_grammar.specs.Tokens.{Token, Opening, FStringStart, FStringEnd, FStringExprStart, FStringExprEnd, Word}
-use Rattle.starlark_grammar.specs.Depths.{Mode, Outside, is_any_opening, is_any_closing, inside, open_fstring, mode_by, mode_after}
-use Rattle.starlark_reader.specs.Inner.Nesting.{Represents, brackets_of, change_by, closes, fstring_of, fstring_view, is_fstring_start, opens}
-use Rattle.starlark_token.specs.TokenViews.{Whole}
-use Rattle.starlark_reader.specs.declared.changes.NestingChange.{NestingChange}
-use Rattle.starlark_reader.specs.declared.changes.NestingChange.TheVariants as change
+use Rattle.starlark_grammar.specs.Depths.{Mode, Outside, Round, Square, Curly, braces, depth, is_any_opening, is_opening, inside, open_fstring, mode_by, mode_after}
+use Rattle.starlark_reader.specs.Inner.Nesting.{HasRoom, Represents, braces_after, depth_after, fstring_after, fstring_of, fstring_view, keeps_nesting}
+use Rattle.starlark_reader.specs.Inner.PieceViews.{is_code}
+use Rattle.starlark_token.specs.TokenViews.{TokenView, Whole, token_view}
+use Rattle.starlark_token.specs.declared.tokens.Token as code
+use Rattle.starlark_token.specs.declared.tokens.Token.TheVariants as tokens
 use Rattle.starlark_reader.specs.declared.nesting.Nesting.{Nesting}
-use Rattle.starlark_reader.specs.declared.bracket_counts.Brackets.{Brackets}
-use Rattle.starlark_reader.specs.declared.bracket_counts.OpenFString.{OpenFString}
-use Rattle.starlark_reader.proofs.OpenBrackets.BracketCounts.{opened_onward, closed_onward, fstring_onward}
+use Rattle.starlark_reader.specs.declared.nesting.OpenFString.{OpenFString}
+use Rattle.starlark_reader.proofs.OpenBrackets.BracketCounts.{any_closed, any_closes, any_opened, any_opens, brace_within, fstring_onward, has_room}
 
 -- The open f-strings
 
--- the brackets among an open f-string's own tokens
-abbrev own_brackets : Option (Opening × List Token) → ℕ
-own_brackets None = 0
-own_brackets (Some found) = brackets_of found.1
+-- the opening brackets among an open f-string's own tokens
+abbrev own_opened : Option (Opening × List Token) → ℕ
+own_opened None = 0
+own_opened (Some found) = count_by is_any_opening found.1
 
-own_one_more : (node : Token) (found : Option (Opening × List Token)) → own_brackets (option_map (λ (found : Opening × List Token). (found.0, node ∷ found.1)) found) ≤ opens (change_by (Whole node)) + (closes (change_by (Whole node)) + own_brackets found)
-own_one_more node None = omega arith
-own_one_more node (Some found) =
-    let opened = opened_onward node found.1 in
-    let closed = closed_onward node found.1 in
-    omega (arith, opened, closed)
-
-brackets_onward : (node : Token) (tokens : List Token) → brackets_of (node ∷ tokens) ≡ opens (change_by (Whole node)) + (closes (change_by (Whole node)) + brackets_of tokens)
-brackets_onward node tokens =
-    let opened = opened_onward node tokens in
-    let closed = closed_onward node tokens in
-    omega (arith, opened, closed)
-
--- an f-string has no more brackets than the text
-own_brackets_fit : (n : ℕ) (tokens : List Token) → own_brackets (open_fstring n tokens) ≤ brackets_of tokens
+-- an f-string has no more of them than the text
+own_opened_fit : (n : ℕ) (tokens : List Token) → own_opened (open_fstring n tokens) ≤ count_by is_any_opening tokens
 unfolding open_fstring
-own_brackets_fit n [] = omega arith
-own_brackets_fit n (FStringEnd ∷ before) = let rest = own_brackets_fit (suc n) before in let all = brackets_onward FStringEnd before in omega (arith, rest, all)
-own_brackets_fit zero (FStringStart opening ∷ before) = omega arith
-own_brackets_fit (suc n) (FStringStart opening ∷ before) = let rest = own_brackets_fit n before in let all = brackets_onward (FStringStart opening) before in omega (arith, rest, all)
-own_brackets_fit zero (node ∷ before) =
-    let rest = own_brackets_fit zero before in
-    let all = brackets_onward node before in
-    let more = own_one_more node (open_fstring zero before) in
-    omega (arith, rest, all, more)
-own_brackets_fit (suc n) (node ∷ before) = let rest = own_brackets_fit (suc n) before in let all = brackets_onward node before in omega (arith, rest, all)
+own_opened_fit n [] = omega arith
+own_opened_fit n (FStringEnd ∷ before) = omega (arith, own_opened_fit (suc n) before, any_opened FStringEnd before)
+own_opened_fit zero (FStringStart opening ∷ before) = omega arith
+own_opened_fit (suc n) (FStringStart opening ∷ before) = omega (arith, own_opened_fit n before, any_opened (FStringStart opening) before)
+own_opened_fit zero (node ∷ before) = omega (arith, own_opened_fit zero before, any_opened node before, more (open_fstring zero before))
+  where
+    more : (found : Option (Opening × List Token)) → own_opened (option_map (λ (found : Opening × List Token). (found.0, node ∷ found.1)) found) ≤ any_opens node + own_opened found
+    more None = omega arith
+    more (Some found) = omega (arith, any_opened node found.1)
+own_opened_fit (suc n) (node ∷ before) = omega (arith, own_opened_fit (suc n) before, any_opened node before)
 
 -- whether a token neither begins nor ends an f-string
 abbrev pub keeps : Token → Bool
@@ -67,25 +54,6 @@ unfolding open_fstring
 outer_onward n (FStringStart opening) tokens h = cc
 outer_onward n FStringEnd tokens h = cc
 outer_onward n node tokens h = refl
-
-pub ends_fstring : (node : Token) → change_by (Whole node) ≡ change.EndsFString → node ≡ FStringEnd
-unfolding change_by
-ends_fstring FStringEnd h = refl
-ends_fstring (Word terminal.OpeningRound) h = cc
-ends_fstring (Word terminal.OpeningSquare) h = cc
-ends_fstring (Word terminal.OpeningCurly) h = cc
-ends_fstring (Word terminal.ClosingRound) h = cc
-ends_fstring (Word terminal.ClosingSquare) h = cc
-ends_fstring (Word terminal.ClosingCurly) h = cc
-ends_fstring FStringExprStart h = cc
-ends_fstring FStringExprEnd h = cc
-ends_fstring node h = cc
-
-pub keeps_fstrings : (node : Token) → is_fstring_start node ≡ false → (change_by (Whole node) ≡ change.EndsFString → ⊥) → keeps node ≡ true
-unfolding change_by
-keeps_fstrings (FStringStart opening) h g = cc
-keeps_fstrings FStringEnd h g = absurd (g refl)
-keeps_fstrings node h g = refl
 
 -- the f-strings, innermost first, are those open after the tokens
 abbrev pub AreOpen : List OpenFString → List Token → Type 0
@@ -116,16 +84,18 @@ pub none_onward : (node : Token) (tokens : List Token) → keeps node ≡ true �
 none_onward node tokens k h zero = rw (innermost_onward node tokens k, map_none fstring_of (open_fstring 0 tokens) (h 0)) refl
 none_onward node tokens k h (suc n) = rw (outer_onward n node tokens k) (h (suc n))
 
-pub some_onward : (node : Token) (tokens : List Token) (fstring more : OpenFString) (fstrings : List OpenFString) → keeps node ≡ true → brackets_of tokens + 1 < 2 ^ 64
-    → ((found : Opening × List Token) → brackets_of found.1 + 1 < 2 ^ 64 → fstring_view fstring ≡ fstring_of found → fstring_view more ≡ fstring_of (found.0, node ∷ found.1))
-    → AreOpen (fstring ∷ fstrings) tokens → AreOpen (more ∷ fstrings) (node ∷ tokens)
-some_onward node tokens fstring more fstrings k room after h zero = rw (innermost_onward node tokens k) (go (open_fstring 0 tokens) (own_brackets_fit 0 tokens) (h 0))
+pub some_onward : (node : Token) (tokens : List Token) (fstring more : OpenFString) (fstrings : List OpenFString) → keeps node ≡ true → count_by is_any_opening tokens + 2 < 2 ^ 64 → (is_opening Curly node ≡ true → is_code (mode_after tokens) ≡ true)
+    → (HasRoom fstring → fstring_view more ≡ fstring_after (Whole node) (fstring_view fstring)) → AreOpen (fstring ∷ fstrings) tokens → AreOpen (more ∷ fstrings) (node ∷ tokens)
+unfolding mode_after
+some_onward node tokens fstring more fstrings k room code after h zero = rw (innermost_onward node tokens k) (go (open_fstring 0 tokens) (own_opened_fit 0 tokens) code (h 0))
   where
-    go : (found : Option (Opening × List Token)) → own_brackets found ≤ brackets_of tokens → Some (fstring_view fstring) ≡ option_map fstring_of found
+    go : (found : Option (Opening × List Token)) → own_opened found ≤ count_by is_any_opening tokens → (is_opening Curly node ≡ true → is_code (mode_by found) ≡ true) → Some (fstring_view fstring) ≡ option_map fstring_of found
         → Some (fstring_view more) ≡ option_map fstring_of (option_map (λ (found : Opening × List Token). (found.0, node ∷ found.1)) found)
-    go None few e = cc
-    go (Some found) few e = ap Some (after found (omega arith) (same_Some _ _ e))
-some_onward node tokens fstring more fstrings k room after h (suc n) = rw (outer_onward n node tokens k) (h (suc n))
+    go None few code e = cc
+    go (Some found) few code e =
+        let same = same_Some _ _ e in
+        ap Some (after (has_room fstring found same (omega (arith, few, room))) ∙ ap (fstring_after (Whole node)) same ∙ fstring_onward found node (brace_within node found code))
+some_onward node tokens fstring more fstrings k room code after h (suc n) = rw (outer_onward n node tokens k) (h (suc n))
 
 pub place_is : (fstring : OpenFString) (fstrings : List OpenFString) (tokens : List Token) (mode : Mode) → AreOpen (fstring ∷ fstrings) tokens → ((found : Opening × List Token) → fstring_view fstring ≡ fstring_of found → mode ≡ inside found) → mode ≡ mode_after tokens
 unfolding mode_after
@@ -182,45 +152,85 @@ but_last old new None tokens e some h =
 but_last old new (Some last) tokens e some h =
     ended last (reverse new) tokens (subst (λ (fstrings : List OpenFString). AreOpen fstrings tokens) (popped old new last e) h)
 
--- The counts of the whole text
+-- One token further
 
-pub begun_opened : (opening : Opening) (tokens : List Token) → count_by is_any_opening (FStringStart opening ∷ tokens) ≡ count_by is_any_opening tokens
-unfolding change_by
-begun_opened opening tokens = let all = opened_onward (FStringStart opening) tokens in omega (arith, all)
-
-pub begun_closed : (opening : Opening) (tokens : List Token) → count_by is_any_closing (FStringStart opening ∷ tokens) ≡ count_by is_any_closing tokens
-unfolding change_by
-begun_closed opening tokens = let all = closed_onward (FStringStart opening) tokens in omega (arith, all)
-
--- the bracket counts are those of the tokens
-pub record AreCounted (brackets : Brackets) (tokens : List Token) : Type 0 where
-  pub opened : brackets.opened ≡ count_by is_any_opening tokens
-  pub closed : brackets.closed ≡ count_by is_any_closing tokens
-
-pub counted : (change : NestingChange) (node : Token) (tokens : List Token) (before after : Brackets) → change ≡ change_by (Whole node)
-    → after ≡ record { opened = opens change + before.opened; closed = closes change + before.closed } → before.opened ≡ count_by is_any_opening tokens → before.closed ≡ count_by is_any_closing tokens → AreCounted after (node ∷ tokens)
-counted change node tokens before after e h opened closed = record {
-  opened = ap (λ (brackets : Brackets). brackets.opened) h ∙ rw (e, opened) (sym (opened_onward node tokens));
-  closed = ap (λ (brackets : Brackets). brackets.closed) h ∙ rw (e, closed) (sym (closed_onward node tokens));
+-- the nesting one token further, by its f-strings
+pub one_onward : (node : Token) (tokens : List Token) (old new : Nesting) → any_opens node + old.opened ≡ new.opened → any_closes node + old.closed ≡ new.closed → Represents tokens old
+    → AreOpen (reverse new.fstrings.items) (node ∷ tokens) → Represents (node ∷ tokens) new
+one_onward node tokens old new opened closed same fstrings = record {
+  fstrings = fstrings;
+  opened = omega (arith, opened, same.opened, any_opened node tokens);
+  closed = omega (arith, closed, same.closed, any_closed node tokens);
 }
 
--- A token that changes nothing leaves f-strings and brackets as they are.
+-- a token that changes neither brackets nor f-strings
+record IsKept (node : Token) : Type 0 where
+  keeps : keeps node ≡ true
+  opened : any_opens node ≡ 0
+  closed : any_closes node ≡ 0
+  braces : is_opening Curly node ≡ false
+  braces_kept : (n : ℕ) → braces_after node n ≡ n
+  rounds : (n : ℕ) → depth_after Round node n ≡ n
+  squares : (n : ℕ) → depth_after Square node n ≡ n
 
-same_fstring : (node : Token) → change_by (Whole node) ≡ change.Nothing → (found : Option (Opening × List Token))
-    → option_map fstring_of (option_map (λ (found : Opening × List Token). (found.0, node ∷ found.1)) found) ≡ option_map fstring_of found
-same_fstring node h None = refl
-same_fstring node h (Some found) = ap Some (sym (fstring_onward (fstring_of found) (fstring_of found) change.Nothing found node (sym h) refl (record { opening = refl; expression = refl; rounds = refl; squares = refl })))
+kept_is : (node : Token) → keeps_nesting (Whole node) ≡ true → IsKept node
+kept_is (Word terminal.OpeningRound) h = cc
+kept_is (Word terminal.OpeningSquare) h = cc
+kept_is (Word terminal.OpeningCurly) h = cc
+kept_is (Word terminal.ClosingRound) h = cc
+kept_is (Word terminal.ClosingSquare) h = cc
+kept_is (Word terminal.ClosingCurly) h = cc
+kept_is (FStringStart opening) h = cc
+kept_is FStringExprStart h = cc
+kept_is FStringExprEnd h = cc
+kept_is FStringEnd h = cc
+kept_is node h = record { keeps = refl; opened = refl; closed = refl; braces = refl; braces_kept = λ n. omega arith; rounds = λ n. omega arith; squares = λ n. omega arith }
 
-same_fstrings : (n : ℕ) (node : Token) (tokens : List Token) → keeps node ≡ true → change_by (Whole node) ≡ change.Nothing → option_map fstring_of (open_fstring n (node ∷ tokens)) ≡ option_map fstring_of (open_fstring n tokens)
-same_fstrings zero node tokens k h = ap (option_map fstring_of) (innermost_onward node tokens k) ∙ same_fstring node h (open_fstring 0 tokens)
-same_fstrings (suc n) node tokens k h = ap (option_map fstring_of) (outer_onward n node tokens k)
+same_fstrings : (n : ℕ) (node : Token) (tokens : List Token) → IsKept node → option_map fstring_of (open_fstring n (node ∷ tokens)) ≡ option_map fstring_of (open_fstring n tokens)
+unfolding fstring_of
+same_fstrings zero node tokens is = ap (option_map fstring_of) (innermost_onward node tokens is.keeps) ∙ go (open_fstring 0 tokens)
+  where
+    go : (found : Option (Opening × List Token)) → option_map fstring_of (option_map (λ (found : Opening × List Token). (found.0, node ∷ found.1)) found) ≡ option_map fstring_of found
+    go None = refl
+    go (Some found) = ap Some (sym (fstring_onward found node (brace_within node found (λ opens. cc (is.braces, opens)))) ∙ (λ i. record { opening = found.0; braces = is.braces_kept (braces found.1) i; rounds = is.rounds (depth Round found.1) i; squares = is.squares (depth Square found.1) i }))
+same_fstrings (suc n) node tokens is = ap (option_map fstring_of) (outer_onward n node tokens is.keeps)
 
-pub one_kept : (node : Token) (tokens : List Token) (nesting : Nesting) → keeps node ≡ true → change_by (Whole node) ≡ change.Nothing → Represents tokens nesting → Represents (node ∷ tokens) nesting
-one_kept node tokens nesting k none same =
-    let opened : count_by is_any_opening (node ∷ tokens) ≡ 0 + count_by is_any_opening tokens = opened_onward node tokens ∙ ap (λ c. opens c + count_by is_any_opening tokens) none in
-    let closed : count_by is_any_closing (node ∷ tokens) ≡ 0 + count_by is_any_closing tokens = closed_onward node tokens ∙ ap (λ c. closes c + count_by is_any_closing tokens) none in
-    record {
-      fstrings = λ n. same.fstrings n ∙ sym (same_fstrings n node tokens k none);
-      opened = omega (arith, same.opened, opened);
-      closed = omega (arith, same.closed, closed);
-    }
+pub one_kept : (node : Token) (tokens : List Token) (nesting : Nesting) → keeps_nesting (Whole node) ≡ true → Represents tokens nesting → Represents (node ∷ tokens) nesting
+one_kept node tokens nesting k same =
+    let is = kept_is node k in
+    one_onward node tokens nesting nesting (omega (arith, is.opened)) (omega (arith, is.closed)) same (λ n. same.fstrings n ∙ sym (same_fstrings n node tokens is))
+
+-- a token of the code that is in an f-string, or in none, and opens and closes so many brackets
+pub record Nests (token : code.Token) (more less : ℕ) : Type 0 where
+  pub changes : keeps_nesting (token_view token) ≡ false
+  pub inner : (node : Token) → token_view token ≡ Whole node → (keeps node ≡ true) × (any_opens node ≡ more) × (any_closes node ≡ less)
+
+pub whole_same : (node other : Token) → Whole node ≡ Whole other → node ≡ other
+whole_same node other e = ap of e
+  where
+    of : TokenView → Token
+    of (Whole node) = node
+    of view = FStringEnd
+
+nests : (token : code.Token) (node : Token) (more less : ℕ) → token_view token ≡ Whole node → keeps_nesting (Whole node) ≡ false → (keeps node ≡ true) × (any_opens node ≡ more) × (any_closes node ≡ less) → Nests token more less
+nests token node more less is changes inner = record {
+  changes = ap keeps_nesting is ∙ changes;
+  inner = λ other e. subst (λ node. (keeps node ≡ true) × (any_opens node ≡ more) × (any_closes node ≡ less)) (whole_same node other (sym is ∙ e)) inner;
+}
+
+pub opening_nests : (token : code.Token) → (token ≡ tokens.OpeningRound) ⊎ ((token ≡ tokens.OpeningSquare) ⊎ (token ≡ tokens.OpeningCurly)) → Nests token 1 0
+unfolding token_view
+opening_nests token (inl is) = nests token (Word terminal.OpeningRound) 1 0 (ap token_view is) refl (refl, refl, refl)
+opening_nests token (inr (inl is)) = nests token (Word terminal.OpeningSquare) 1 0 (ap token_view is) refl (refl, refl, refl)
+opening_nests token (inr (inr is)) = nests token (Word terminal.OpeningCurly) 1 0 (ap token_view is) refl (refl, refl, refl)
+
+pub closing_nests : (token : code.Token) → (token ≡ tokens.ClosingRound) ⊎ ((token ≡ tokens.ClosingSquare) ⊎ (token ≡ tokens.ClosingCurly)) → Nests token 0 1
+unfolding token_view
+closing_nests token (inl is) = nests token (Word terminal.ClosingRound) 0 1 (ap token_view is) refl (refl, refl, refl)
+closing_nests token (inr (inl is)) = nests token (Word terminal.ClosingSquare) 0 1 (ap token_view is) refl (refl, refl, refl)
+closing_nests token (inr (inr is)) = nests token (Word terminal.ClosingCurly) 0 1 (ap token_view is) refl (refl, refl, refl)
+
+pub expression_nests : (token : code.Token) → (token ≡ tokens.FStringExprStart) ⊎ (token ≡ tokens.FStringExprEnd) → Nests token 0 0
+unfolding token_view
+expression_nests token (inl is) = nests token FStringExprStart 0 0 (ap token_view is) refl (refl, refl, refl)
+expression_nests token (inr is) = nests token FStringExprEnd 0 0 (ap token_view is) refl (refl, refl, refl)

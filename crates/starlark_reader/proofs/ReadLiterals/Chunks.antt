@@ -1,12 +1,12 @@
 -- F-string texts as steps.
-use Rattle.std.proofs.Common.{◌≡◌, ℕ, ◌+◌, ◌-◌, ◌≤◌, [], ◌∷◌, ◌++◌, length, drop, refl, sym, subst, arith}
+use Rattle.std.proofs.Common.{◌≡◌, ℕ, ◌+◌, ◌-◌, ◌≤◌, [], ◌∷◌, ◌++◌, length, refl, rules}
 use Rattle.std.specs.Prelude.{codes}
 use Rattle.starlark_grammar.specs.Words.{Text}
 use Rattle.starlark_grammar.specs.Tokens.{Opening, Token, FStringExprStart, FStringEnd, InvalidInput, InvalidEscapeSequence, UnfinishedStringLiteral}
 use Rattle.starlark_grammar.specs.Items.{Stop, Closing, Line, Ended, OpeningBrace, ClosingBrace, BadEscape, body_at, body_len, body_value, closing_quotes}
 use Rattle.starlark_grammar.specs.Pieces.{Step, piece, fault, chunk, chunk_by, chunk_text}
 use Rattle.starlark_words.specs.Inner.LiteralViews.{fstring_literal}
-use Rattle.starlark_grammar.proofs.Literals.Bodies.{StopFits, body_fits}
+use Rattle.starlark_grammar.proofs.Literals.Bodies.{body_fits}
 use Rattle.std.proofs.lemmas.List.{length-drop}
 
 abbrev pub chunk_piece : ℕ → Text → Token → ℕ → Step
@@ -28,16 +28,8 @@ chunk_is opening text len value stop same denoted why = rw (same, denoted, why) 
   where
     by_stop : (stop : Stop) → chunk_by opening text (body_at (fstring_literal opening) text) stop ≡ chunk_of opening text (body_len (body_at (fstring_literal opening) text)) (body_value (body_at (fstring_literal opening) text)) stop
     by_stop OpeningBrace = refl
-    by_stop Closing = refl
-    by_stop ClosingBrace = refl
-    by_stop (BadEscape read last) = refl
-    by_stop Line = refl
-    by_stop Ended = refl
+    by_stop stop = refl
 
 -- the last character of a bad escape is part of it, and is in the text
 pub bad_chunk_fits : (opening : Opening) (text : Text) (len read last : ℕ) → len ≡ body_len (body_at (fstring_literal opening) text) → BadEscape read last ≡ (body_at (fstring_literal opening) text).stop → (last ≤ read) × (len + read ≤ length text)
-bad_chunk_fits opening text len read last same why =
-    let body = body_at (fstring_literal opening) text in
-    let fits = body_fits (fstring_literal opening) text in
-    let inside : StopFits opening (drop (body_len body) text) (BadEscape read last) = subst (StopFits opening (drop (body_len body) text)) (sym why) fits.1 in
-    (inside.1, omega (arith, fits.0, inside.2, same, length-drop (body_len body) text))
+bad_chunk_fits opening text len read last same why = search (rules, body_fits, length-drop)

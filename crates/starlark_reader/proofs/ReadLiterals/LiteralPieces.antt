@@ -1,6 +1,6 @@
 -- String and bytes literals as steps.
-use Rattle.std.proofs.Common.{◌≡◌, ◌≢◌, ℕ, zero, suc, ◌+◌, ◌-◌, ◌≤◌, ◌==◌, ◌&&◌, ◌||◌, Bool, true, false, not, [], ◌∷◌, length, take, drop, get_or, nat_eq, refl, sym, ap, subst, ◌∙◌, arith, Ok, Err}
-use Rattle.std.proofs.lemmas.Bool.{and_parts, eqb-true}
+use Rattle.std.proofs.Common.{◌≡◌, ◌≢◌, ℕ, zero, suc, ◌+◌, ◌-◌, ◌≤◌, ◌==◌, ◌&&◌, ◌||◌, Bool, true, false, not, [], ◌∷◌, length, take, drop, get_or, nat_eq, refl, sym, ap, subst, ◌∙◌, arith, Ok, Err, rules}
+use Rattle.std.proofs.lemmas.Bool.{and_parts, and_right, eqb-true}
 use Rattle.std.proofs.lemmas.List.{get_or-drop, length-drop}
 use Rattle.std.proofs.lemmas.Str.{IsCharBoundary-after_ascii, IsUtf8-drop}
 use Rattle.std.specs.List.{starts_with}
@@ -13,24 +13,22 @@ use Rattle.starlark_grammar.specs.declared.class.LiteralKind.{LiteralKind as Kin
 use Rattle.starlark_grammar.specs.declared.class.LiteralKind.TheVariants.{Text as OfText, Bytes as OfBytes, FString as OfFString}
 use Rattle.starlark_grammar.specs.Tokens.{String, Bytes, Opening, EmptyEscapeSequence, InvalidEscapeSequence, UnfinishedStringLiteral}
 use Rattle.starlark_grammar.specs.Items.{Literal, Found, Goes, Stops, Closing, Line, BadEscape, body_at, body_from, body_len, body_onward, closing_quotes, found_at, is_of_bytes, quote_byte}
-use Rattle.starlark_grammar.specs.Depths.{Mode, Outside, InText, AtTop, Deeper}
+use Rattle.starlark_grammar.specs.Depths.{Mode, InText, AtTop, Deeper}
 use Rattle.starlark_grammar.specs.Pieces as pieces
-use Rattle.starlark_grammar.specs.Pieces.{Step, fault, literal_token, escape_fault}
+use Rattle.starlark_grammar.specs.Pieces.{fault, literal_token, escape_fault}
 use Rattle.starlark_grammar.proofs.Choices.{by_test, either}
 use Rattle.starlark_grammar.proofs.Lists.{drop-sum}
-use Rattle.starlark_grammar.proofs.Literals.Bodies.{StopFits, body_fits}
+use Rattle.starlark_grammar.proofs.Literals.Bodies.{body_fits}
 use Rattle.starlark_grammar.proofs.Literals.Forms.{FoundIs, item_found, item_found_is}
 use Rattle.starlark_grammar.proofs.Order.Edges.{StopAt, after_plain, boundary_shift, starts_split, stop_at}
 
 pub token_of_text : (kind : Kind) (value : Text) → true ≡ not (is_of_bytes kind) → String value ≡ literal_token kind value
-token_of_text OfText value h = refl
-token_of_text OfFString value h = refl
 token_of_text OfBytes value h = cc
+token_of_text kind value h = refl
 
 pub token_of_bytes : (kind : Kind) (value : Text) → false ≡ not (is_of_bytes kind) → Bytes value ≡ literal_token kind value
 token_of_bytes OfBytes value h = refl
-token_of_bytes OfText value h = cc
-token_of_bytes OfFString value h = cc
+token_of_bytes kind value h = cc
 
 pub escape_none : (begin : ℕ) (read : Text) → (length read == 0) ≡ true → escape_fault begin read ≡ fault begin EmptyEscapeSequence (begin + 1)
 escape_none begin [] h = let same : 1 + begin ≡ begin + 1 = omega arith in ap (fault begin EmptyEscapeSequence) same
@@ -42,16 +40,10 @@ escape_some begin (b ∷ bs) h = let same : begin + length (92 ∷ b ∷ bs) ≡
 
 -- a body that stops after `len` bytes has its stop in the text
 pub closing_fits : (literal : Literal) (text : Text) (len : ℕ) → len ≡ body_len (body_at literal text) → (body_at literal text).stop ≡ Closing → len + length (closing_quotes literal.opening) ≤ length text
-closing_fits literal text len same closing =
-    let fits = body_fits literal text in
-    let inside : length (closing_quotes literal.opening) ≤ length (drop (body_len (body_at literal text)) text) = subst (StopFits literal.opening (drop (body_len (body_at literal text)) text)) closing fits.1 in
-    omega (arith, fits.0, inside, same, length-drop (body_len (body_at literal text)) text)
+closing_fits literal text len same closing = search (rules, body_fits, length-drop)
 
 pub bad_fits : (literal : Literal) (text : Text) (len read last : ℕ) → len ≡ body_len (body_at literal text) → (body_at literal text).stop ≡ BadEscape read last → (1 ≤ read) × (len + read ≤ length text)
-bad_fits literal text len read last same bad =
-    let fits = body_fits literal text in
-    let inside = subst (StopFits literal.opening (drop (body_len (body_at literal text)) text)) bad fits.1 in
-    (omega (arith, inside.0, inside.1), omega (arith, fits.0, inside.2, same, length-drop (body_len (body_at literal text)) text))
+bad_fits literal text len read last same bad = search (rules, body_fits, length-drop)
 
 -- the backslash of a bad escape and its last character end at character boundaries
 pub bad_edges : (literal : Literal) (text : Text) (len read last : ℕ) → IsUtf8 text → IsCharBoundary text len → len ≡ body_len (body_at literal text) → (body_at literal text).stop ≡ BadEscape read last
@@ -59,9 +51,8 @@ pub bad_edges : (literal : Literal) (text : Text) (len read last : ℕ) → IsUt
 bad_edges literal text len read last utf8 here same bad =
     let stop : StopAt literal.opening (drop len text) (BadEscape read last) =
     subst (λ n. StopAt literal.opening (drop n text) (BadEscape read last)) (sym same) (subst (StopAt literal.opening (drop (body_len (body_at literal text)) text)) bad (stop_at literal text)) in
-    let first : get_or text len 0 ≡ 92 = ap (λ n. get_or text n 0) no_more ∙ sym (get_or-drop len text 0 0) ∙ ap (λ (t : Text). get_or t 0 0) stop.1 in
     let fits = bad_fits literal text len read last same bad in (
-      IsCharBoundary-after_ascii text len utf8 (omega (arith, fits.0, fits.1)) (omega (arith, first)),
+      IsCharBoundary-after_ascii text len utf8 (omega (arith, fits.0, fits.1)) (omega (arith, ap (λ n. get_or text n 0) no_more ∙ sym (get_or-drop len text 0 0) ∙ ap (λ (t : Text). get_or t 0 0) stop.1)),
       boundary_shift text len read here (stop.2 (IsUtf8-drop text len utf8 here)).0,
     )
   where
@@ -79,9 +70,7 @@ drop_take (suc n) [] = sym (take-none (suc n - 1))
 drop_take (suc n) (b ∷ bs) = let same : n ≡ suc n - 1 = omega arith in ap (λ k. take k bs) same
 
 pub read_after : (text : Text) (len read : ℕ) → take (len + read - (len + 1)) (drop (len + 1) text) ≡ drop 1 (take read (drop len text))
-read_after text len read =
-    let less : len + read - (len + 1) ≡ read - 1 = omega arith in
-    rw (less, drop-sum len 1 text) (sym (drop_take read (drop len text)))
+read_after text len read = search (rules, drop-sum, drop_take)
 
 -- a literal that stops at a bad escape
 pub bad_literal : (mode : Mode) (literal : Literal) (begin len read last : ℕ) (text : Text) → len ≡ body_len (body_at literal text) → (body_at literal text).stop ≡ BadEscape read last
@@ -89,10 +78,6 @@ pub bad_literal : (mode : Mode) (literal : Literal) (begin len read last : ℕ) 
 bad_literal mode literal begin len read last text same bad = rw (bad, same) refl
 
 -- A literal that an LF ends
-
-both_false : (x : Bool) → (x && false) ≡ false
-both_false true = refl
-both_false false = refl
 
 -- it has one line
 line_found : (literal : Literal) (b : ℕ) (bs : Text) → found_at literal (b ∷ bs) ≡ Stops Line → (b == 10 && not literal.opening.is_triple) ≡ true
@@ -105,8 +90,7 @@ line_found literal b bs =
     by_form : (found : Found) → found ≡ Stops Line → FoundIs literal (b ∷ bs) found → (b == 10 && not literal.opening.is_triple) ≡ true
     by_form found e is =
         let stops : FoundIs literal (b ∷ bs) (Stops Line) = subst (FoundIs literal (b ∷ bs)) e is in
-        let feed : 10 ≡ b = eqb-true 10 b (and_parts (nat_eq 10 b) true stops.1).0 in
-        rw (stops.0, ← feed) refl
+        rw (stops.0, ← (eqb-true 10 b (and_parts (nat_eq 10 b) true stops.1).0)) refl
 
 -- so its text isn't plain
 unplain : (opening : Opening) (b : ℕ) (bs : Text) → (b == 10 && not opening.is_triple) ≡ true → pieces.is_plain opening (b ∷ bs) ≡ false
@@ -119,27 +103,20 @@ unplain opening b bs ends = rw ends (by (b == 92) (b == 13))
 
 line_unplain : (literal : Literal) (passed : ℕ) (text : Text) → (body_from literal passed text).stop ≡ Line → pieces.is_plain literal.opening text ≡ false
 unfolding body_from
-line_unplain literal zero [] e = cc
-line_unplain literal (suc passed) [] e = cc
-line_unplain literal (suc passed) (b ∷ bs) e = rw (line_unplain literal passed bs e) (both_false _)
+line_unplain literal (suc passed) (b ∷ bs) e = rw (line_unplain literal passed bs e) (and_right _ false refl)
 line_unplain literal zero (b ∷ bs) e = go (found_at literal (b ∷ bs)) refl e (λ passed. line_unplain literal passed bs)
   where
     go : (found : Found) → found_at literal (b ∷ bs) ≡ found → (body_onward found (λ passed. body_from literal passed bs)).stop ≡ Line
         → ((passed : ℕ) → (body_from literal passed bs).stop ≡ Line → pieces.is_plain literal.opening bs ≡ false) → pieces.is_plain literal.opening (b ∷ bs) ≡ false
-    go (Goes item) f e more = rw (more (item.len - 1) e) (both_false _)
+    go (Goes item) f e more = rw (more (item.len - 1) e) (and_right _ false refl)
     go (Stops stop) f e more = unplain literal.opening b bs (line_found literal b bs (f ∙ ap Stops e))
+line_unplain literal passed [] e = cc
 
 unfinished_line : (mode : Mode) (kind : Kind) (opening : Opening) (text : Text) → pieces.is_plain opening text ≡ false → pieces.unfinished mode kind opening text ≡ UnfinishedStringLiteral
-unfinished_line Outside kind opening text e = refl
 unfinished_line (InText other) OfText opening text e = rw e refl
 unfinished_line AtTop OfText opening text e = rw e refl
 unfinished_line Deeper OfText opening text e = rw e refl
-unfinished_line (InText other) OfBytes opening text e = refl
-unfinished_line AtTop OfBytes opening text e = refl
-unfinished_line Deeper OfBytes opening text e = refl
-unfinished_line (InText other) OfFString opening text e = refl
-unfinished_line AtTop OfFString opening text e = refl
-unfinished_line Deeper OfFString opening text e = refl
+unfinished_line mode kind opening text e = refl
 
 stops_unplain : (literal : Literal) (text : Text) → (body_at literal text).stop ≡ Line → pieces.is_plain literal.opening text ≡ false
 unfolding body_at

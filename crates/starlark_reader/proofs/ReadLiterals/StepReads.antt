@@ -18,7 +18,7 @@ closing_some opening = by_quotes opening.is_triple refl
 pub fault_reads : (passed factor more line extra begin end : ℕ) (step : Step) (before after : ℕ) → IsFaultAt begin end step → passed ≤ end → AreReads (begin - passed) (factor * (end - passed) + extra) before after → AreWordReads passed factor more line extra step before after
 fault_reads passed factor more line extra begin end (step.Fault from fault to) before after is later reads = rw (is.2, is.0, is.1) (reads, later)
 fault_reads passed factor more line extra begin end (step.Token token len) before after is later reads = absurd is
-fault_reads passed factor more line extra begin end (step.Text text text_len stop len) before after is later reads = absurd is
+fault_reads passed factor more line extra begin end (step.Text value chunk) before after is later reads = absurd is
 
 -- the reads of a body, with those of its first `run` bytes, which were known
 pub body_reads : (run len least stopped extra spare before between after : ℕ) → run ≤ len → AreReads run (8 * run + spare) before between → AreReads (len - run + least) (8 * (len - run) + stopped + extra) between after
@@ -41,7 +41,7 @@ single_reads passed (step.Fault begin fault end) before between after told reads
     by_fault : (tab : Bool) → AreFaultReads tab passed 0 begin end (9 * (end - passed) + 6) between after → AreFaultReads tab passed 0 begin end (9 * (end - passed) + 8) before after
     by_fault true reads = absurd (omega (arith, reads.2))
     by_fault false reads = ((omega (arith, told, reads.0.0), omega (arith, told, reads.0.1)), reads.1)
-single_reads passed (step.Text text text_len stop len) before between after told reads = absurd reads
+single_reads passed (step.Text value chunk) before between after told reads = absurd reads
 
 -- the reads after an opener of three quotes
 pub triple_reads : (passed : ℕ) (step : Step) (before between after : ℕ) → between ≡ more_reads before 2 → AreWordReads (passed + 2) 9 0 0 6 step between after → AreWordReads passed 9 2 0 8 step before after
@@ -51,4 +51,4 @@ triple_reads passed (step.Fault begin fault end) before between after told reads
     by_fault : (tab : Bool) → AreFaultReads tab (passed + 2) 0 begin end (9 * (end - (passed + 2)) + 6) between after → AreFaultReads tab passed 0 begin end (9 * (end - passed) + 8) before after
     by_fault true reads = absurd (omega (arith, reads.2))
     by_fault false reads = ((omega (arith, told, reads.0.0), omega (arith, told, reads.0.1)), omega (arith, reads.1))
-triple_reads passed (step.Text text text_len stop len) before between after told reads = absurd reads
+triple_reads passed (step.Text value chunk) before between after told reads = absurd reads

@@ -44,17 +44,14 @@ pub one_passed : (text : Text) (old new : Blanks) (b : ℕ) → IsPassed text ol
 one_passed text old new b passed less here blank is_len is_width is_tab =
     let split = at_front text old.len b less here in
     let front : blanks_at (drop old.len text) ≡ b ∷ blanks_at (drop (old.len + 1) text) = ap blanks_at split ∙ blank_front b (drop (old.len + 1) text) blank in
-    let some : length (drop old.len text) ≡ suc (length (drop (old.len + 1) text)) = ap (λ (t : Text). length t) split in
-    let len : length (blanks_at (drop old.len text)) ≡ suc (length (blanks_at (drop (old.len + 1) text))) = ap (λ (t : Text). length t) front in
     let width : count_by (nat_eq 32) (blanks_at (drop old.len text)) ≡ cond (b == 32) 1 0 + count_by (nat_eq 32) (blanks_at (drop (old.len + 1) text)) = ap (count_by (nat_eq 32)) front ∙ sum_by-cons (λ x. cond (nat_eq 32 x) 1 0) b (blanks_at (drop (old.len + 1) text)) ∙ ap (λ t. cond t 1 0 + count_by (nat_eq 32) (blanks_at (drop (old.len + 1) text))) (same b 32) in
     let tab : list_any (nat_eq 9) (blanks_at (drop old.len text)) ≡ (b == 9 || list_any (nat_eq 9) (blanks_at (drop (old.len + 1) text))) = ap (list_any (nat_eq 9)) front ∙ ap (λ t. t || list_any (nat_eq 9) (blanks_at (drop (old.len + 1) text))) (same b 9) in
-    let rest = drop (old.len + 1) text in
     record {
-      inside = omega (arith, is_len, passed.inside, some, length-drop old.len text);
+      inside = omega (arith, is_len, passed.inside, ap (λ (t : Text). length t) split, length-drop old.len text);
       few = omega (arith, is_len, is_width, passed.few, one (b == 32));
-      len = rw is_len (omega (arith, passed.len, len));
+      len = rw is_len (omega (arith, passed.len, ap (λ (t : Text). length t) front));
       width = rw (is_len, is_width) (omega (arith, passed.width, width));
-      has_tab = rw (is_len, is_tab) (either (b == 9) old.has_tab (list_any (nat_eq 9) (blanks_at rest)) ∙ ap (λ t. old.has_tab || t) (sym tab) ∙ passed.has_tab);
+      has_tab = rw (is_len, is_tab) (either (b == 9) old.has_tab (list_any (nat_eq 9) (blanks_at (drop (old.len + 1) text))) ∙ ap (λ t. old.has_tab || t) (sym tab) ∙ passed.has_tab);
     }
   where
     same : (b c : ℕ) → nat_eq c b ≡ (b == c)
@@ -66,8 +63,7 @@ one_passed text old new b passed less here blank is_len is_width is_tab =
 
     either : (t had rest : Bool) → ((t || had) || rest) ≡ (had || (t || rest))
     either true true rest = refl
-    either true false rest = refl
-    either false had rest = refl
+    either t had rest = refl
 
 -- all blanks were counted
 pub all_passed : (text : Text) (blanks : Blanks) → IsPassed text blanks → blanks_at (drop blanks.len text) ≡ [] → IsBlanks (blanks_at text) blanks
@@ -109,6 +105,5 @@ only_spaces text n is no_tab no_return = all_passed text _ (spaces_passed text n
     none [] e = refl
     none (b ∷ bs) e =
         let less : n < length text = omega (arith, ap (λ (t : Text). length t) e, length-drop n text) in
-        let split = at_front text n (get_or text n 0) less refl in
         let stops : nat_eq 32 (get_or text n 0) ≡ false = rw is (prefix_len_stops (nat_eq 32) text 0 (rw is at less)) in
-        ap blanks_at (sym e ∙ split) ∙ other_front (get_or text n 0) (drop (n + 1) text) (other (get_or text n 0) stops (no_tab less) (no_return less))
+        ap blanks_at (sym e ∙ at_front text n (get_or text n 0) less refl) ∙ other_front (get_or text n 0) (drop (n + 1) text) (other (get_or text n 0) stops (no_tab less) (no_return less))

@@ -1,5 +1,5 @@
 -- `Indent`s and `Dedent`s by the open widths.
-use Rattle.std.proofs.Common.{◌≡◌, ℕ, zero, suc, ◌+◌, true, false, List, [], ◌∷◌, ap, ◌∙◌, sym, refl, arith, map, nat_lt}
+use Rattle.std.proofs.Common.{◌≡◌, ℕ, zero, suc, ◌+◌, true, false, List, [], ◌∷◌, ap, ◌∙◌, sym, refl, map, nat_lt, rules}
 use Rattle.std.specs.Prelude.{◌&&◌, count_by, replicate}
 use Rattle.starlark_grammar.specs.Margins.{Margin, indentation, is_widest, margin_len, width_of}
 use Rattle.starlark_grammar.specs.Tokens.{Dedent, Indent, moved}
@@ -25,14 +25,9 @@ moved_dedents n (suc count) at = ap (λ lexemes. record { begin = n + at; node =
 
 pub one_indented : (begin : ℕ) (levels : List ℕ) (margin : Measured) (seen : Margin) → IsMargin seen margin → margin.is_content ≡ true → (nat_lt 0 margin.blanks.width && is_widest margin.blanks.width levels) ≡ true
     → record { begin = begin + margin.at; node = Indent; end = begin + margin.at + margin.blanks.len } ∷ [] ≡ map (moved begin) (margin_indentation levels seen)
-one_indented begin levels margin seen same h widest =
-    let some = sym same.is_content ∙ h in
-    let ends : begin + margin.at + margin.blanks.len ≡ begin + margin_len seen = omega (arith, same.at, same.blanks.len) in
-    rw (some, indented levels seen (rw same.blanks.width at widest), ends, same.at) refl
+one_indented begin levels margin seen same h widest = search (rules, indented)
 
 pub some_dedented : (begin count : ℕ) (levels : List ℕ) (margin : Measured) (seen : Margin) → IsMargin seen margin → margin.is_content ≡ true → (nat_lt 0 margin.blanks.width && is_widest margin.blanks.width levels) ≡ false → count ≡ count_by (nat_lt margin.blanks.width) levels
     → replicate count (record { begin = begin + margin.at; node = Dedent; end = begin + margin.at }) ≡ map (moved begin) (margin_indentation levels seen)
 some_dedented begin count levels margin seen same h other counted =
-    let some = sym same.is_content ∙ h in
-    let total : count ≡ count_by (nat_lt (width_of seen)) levels = counted ∙ ap (λ w. count_by (nat_lt w) levels) same.blanks.width in
-    rw (some, dedented levels seen (rw same.blanks.width at other), moved_dedents, same.at, total) refl
+    rw (sym same.is_content ∙ h, dedented levels seen (rw same.blanks.width at other), moved_dedents, same.at, counted ∙ ap (λ w. count_by (nat_lt w) levels) same.blanks.width) refl

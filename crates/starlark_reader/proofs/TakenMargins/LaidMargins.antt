@@ -1,12 +1,13 @@
 -- The lexemes of a margin, and what taking it does.
-use Rattle.std.proofs.Common.{◌≡◌, ℕ, ◌+◌, Bool, true, false, List, [], ◌∷◌, ◌++◌, ap, ◌∙◌, sym, subst, refl, arith, add_assoc, map, zero-add, drop, append-nil}
+use Rattle.std.proofs.Common.{◌≡◌, ℕ, ◌+◌, Bool, true, false, List, [], ◌∷◌, ◌++◌, ap, ◌∙◌, sym, subst, refl, arith, map, drop, append-nil, rules}
 use Rattle.std.specs.Str.{IsUtf8, IsCharBoundary}
 use Rattle.std.proofs.lemmas.List.{map-append}
 use Rattle.std.proofs.lemmas.Str.{IsCharBoundary-start}
 use Rattle.starlark_grammar.specs.Words.{Text}
 use Rattle.starlark_grammar.specs.Tokens.{Indentation, InvalidTab, Lexeme, Newline, moved}
-use Rattle.starlark_grammar.specs.Margins.{Margin, comments_from, fits, has_tab, margin_len, margin_of, open_widths}
+use Rattle.starlark_grammar.specs.Margins.{Margin, comments_from, fits, margin_of, open_widths}
 use Rattle.starlark_grammar.specs.Pieces.{Stands, fault, first_margin, line_end, margin_step}
+use Rattle.starlark_grammar.proofs.Joining.Joined.{twice, unmoved}
 use Rattle.starlark_reader.specs.Inner.MarginViews.{IsFaultFound, IsLaidOut, IsLeftOut, IsMargin, IsRefused, IsTaken, margin_fault, margin_indentation, margin_lexemes, margin_piece}
 use Rattle.starlark_reader.specs.Inner.MarginLines.{IsOfMargin}
 use Rattle.starlark_reader.specs.Inner.Pending.{IsPending, lexemes_after, lines_between, pending_lexemes}
@@ -33,35 +34,16 @@ module _ (len : ℕ) (before : List Lexeme) (levels : List ℕ) (seen : Margin) 
 
   pub decided_misfit : margin.is_content ≡ true → margin.blanks.has_tab ≡ false → fits margin.blanks.width levels ≡ false → margin_step len before levels seen ≡ fault 0 Indentation (len + margin.at + margin.blanks.len)
   unfolding margin_step
-  decided_misfit h k l =
-      let whole : len + margin_len seen ≡ len + margin.at + margin.blanks.len = omega (arith, same.at, same.blanks.len) in
-      let some = sym same.is_content ∙ h in
-      let tab = sym same.blanks.has_tab ∙ k in
-      let fitting = sym (ap (λ w. fits w levels) same.blanks.width) ∙ l in
-      rw (some, tab, fitting) (ap (fault 0 Indentation) whole)
+  decided_misfit h k l = search rules
 
 -- a tab before content
 pub left_tab : (levels : List ℕ) (seen : Margin) (margin : Measured) → IsMargin seen margin → margin.is_content ≡ true → margin.blanks.has_tab ≡ true → (remainder : AfterComments) → IsLeftOut seen levels levels remainder remainder
 left_tab levels seen margin same some is_tab remainder =
-    let tab : has_tab seen ≡ true = sym same.blanks.has_tab ∙ is_tab in
     record {
-      stands = λ len before. decided_tab len before levels seen margin same some is_tab ∙ rw tab refl;
+      stands = λ len before. decided_tab len before levels seen margin same some is_tab ∙ rw (sym same.blanks.has_tab ∙ is_tab) refl;
       levels = refl;
       same = refl;
     }
-
--- Offsets
-
-moved_once : (n m : ℕ) (lexeme : Lexeme) → moved n (moved m lexeme) ≡ moved (n + m) lexeme
-moved_once n m lexeme = rw (← add_assoc n m lexeme.begin, ← add_assoc n m lexeme.end) refl
-
-pub moved_twice : (n m : ℕ) (lexemes : List Lexeme) → map (moved n) (map (moved m) lexemes) ≡ map (moved (n + m)) lexemes
-moved_twice n m [] = refl
-moved_twice n m (lexeme ∷ lexemes) = rw (moved_once n m lexeme, moved_twice n m lexemes) refl
-
-pub moved_none : (lexemes : List Lexeme) → map (moved 0) lexemes ≡ lexemes
-moved_none [] = refl
-moved_none (lexeme ∷ lexemes) = rw (zero-add lexeme.begin, zero-add lexeme.end, moved_none lexemes) refl
 
 -- Pending lexemes
 
@@ -124,7 +106,7 @@ module _ (text : Text) (levels now : List ℕ) (margin : Measured) (pending : Pe
         stands = rw none at (laid.stands 0 []);
         whole = omega (arith, same.at, same.blanks.len);
         is_pending = both.0;
-        lexemes = moved_twice 0 0 (margin_lexemes [] (margin_of text)) ∙ ap (λ ls. map (moved 0) (margin_lexemes ls (margin_of text))) (sym none) ∙ both.1;
+        lexemes = twice 0 0 (margin_lexemes [] (margin_of text)) ∙ ap (λ ls. map (moved 0) (margin_lexemes ls (margin_of text))) (sym none) ∙ both.1;
         open_now = laid.open_now;
       }
 
@@ -137,7 +119,7 @@ module _ (text : Text) (levels now : List ℕ) (margin : Measured) (pending : Pe
         is = found.1;
         stands = ap (λ ls. margin_step 0 [] ls (margin_of text)) (sym none) ∙ left.stands 0 [] ∙ found.2;
         is_pending = both.0;
-        lexemes = sym (moved_none (margin_of text).comments) ∙ both.1;
+        lexemes = sym (unmoved (margin_of text).comments) ∙ both.1;
         open_now = left.levels ∙ none_open levels none;
       }
 
@@ -156,17 +138,10 @@ module _ (text : Text) (at len : ℕ) (levels now widths : List ℕ) (margin : M
         stands = ap (λ ls. margin_step len (newline len ∷ []) ls (margin_of (drop (at + len) text))) (sym open_now) ∙ laid.stands len (newline len ∷ []);
         whole = omega (arith, same.at, same.blanks.len);
         is_pending = both.0;
-        lexemes = ap (λ ls. record { begin = at + 0; node = Newline; end = at + len } ∷ ls) (moved_twice at len (margin_lexemes levels (margin_of (drop (at + len) text))) ∙ both.1) ∙ ap (λ n. record { begin = n; node = Newline; end = at + len } ∷ pending_lexemes text pending) start;
+        lexemes = ap (λ ls. record { begin = at + 0; node = Newline; end = at + len } ∷ ls) (twice at len (margin_lexemes levels (margin_of (drop (at + len) text))) ∙ both.1) ∙ ap (λ n. record { begin = n; node = Newline; end = at + len } ∷ pending_lexemes text pending) start;
         open_now = laid.open_now;
       }
 
   pub end_refused : (remainder after_now : AfterComments) → IsLeftOut (margin_of (drop (at + len) text)) levels now remainder after_now → (pending_lexemes text pending ≡ []) × IsPending text pending → (error : LexemeError) (end : ℕ) → IsFaultFound (margin_fault len (margin_of (drop (at + len) text))) (error, end)
       → IsRefused text (line_end len (open_widths widths) (drop (at + len) text)) [] widths now pending error end
-  end_refused remainder after_now left none error end found = record {
-    node = found.0;
-    is = found.1;
-    stands = ap (λ ls. margin_step len (newline len ∷ []) ls (margin_of (drop (at + len) text))) (sym open_now) ∙ left.stands len (newline len ∷ []) ∙ found.2;
-    is_pending = none.1;
-    lexemes = sym none.0;
-    open_now = left.levels ∙ open_now;
-  }
+  end_refused remainder after_now left none error end found = search rules

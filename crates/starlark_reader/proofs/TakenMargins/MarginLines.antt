@@ -1,18 +1,20 @@
 -- Margins, line by line.
-use Rattle.std.proofs.Common.{◌≡◌, ℕ, zero, suc, ◌+◌, ◌-◌, ◌≤◌, ◌<◌, Bool, true, false, cond, not, List, [], ◌∷◌, ◌++◌, length, take, drop, refl, ap, ◌∙◌, sym, subst, arith, one-add, zero-add}
+use Rattle.std.proofs.Common.{◌≡◌, ℕ, zero, suc, ◌+◌, ◌-◌, ◌≤◌, ◌<◌, Bool, true, false, cond, not, List, [], ◌∷◌, ◌++◌, length, take, drop, refl, ap, ◌∙◌, sym, subst, arith, one-add, zero-add, get_or, rules}
 use Rattle.std.specs.Prelude.{if◌then◌else◌, take_while}
-use Rattle.std.specs.List.{prefix_len, onto_first}
+use Rattle.std.specs.List.{prefix_len, onto_first, AllByRecursion}
 use Rattle.std.proofs.lemmas.Bool.{false≢true}
 use Rattle.std.proofs.lemmas.Bool.Decides.{nat_tests}
 use Rattle.std.proofs.lemmas.List.{drop_all, length-drop, length-take-le, take_all}
 use Rattle.std.proofs.lemmas.List.Folds.{length-prefix_len}
-use Rattle.std.proofs.lemmas.List.Sums.{sum_by-cons}
+use Rattle.std.proofs.lemmas.List.Sums.{sum_by-cons, prefix_len-le-length, prefix_len_passes}
 use Rattle.starlark_grammar.specs.Words.{Text}
 use Rattle.starlark_grammar.specs.Margins.{is_blank, is_lf, blanks_len, lines, begins_comment, is_comment_only, comment_lines, is_content, margin_of}
 use Rattle.starlark_reader.specs.Inner.MarginViews.{IsBlanks, IsMargin}
 use Rattle.starlark_reader.specs.declared.margins.Blanks.{Blanks}
 use Rattle.starlark_grammar.proofs.Lists.{drop-sum}
 use Rattle.starlark_grammar.proofs.Order.OrderedLexemes.{Split, first_line, lines_sum}
+use Rattle.starlark_reader.specs.Inner.Pending.{IsComments}
+use Rattle.starlark_reader.proofs.TakenMargins.Blanks.{at_front}
 
 abbrev pub is_other : ℕ → Bool
 is_other b = not (is_lf b)
@@ -80,9 +82,7 @@ feed_after_blanks (b ∷ bs) = go (is_blank b) refl (feed_after_blanks bs)
 
 -- the length of a line without its LF, after its blanks were counted
 pub feed_measured : (text remainder : Text) (k n : ℕ) → k ≡ blanks_len text → remainder ≡ drop k text → n ≡ prefix_len is_other remainder → k + n ≡ prefix_len is_other text
-feed_measured text remainder k n e f h =
-    let there : n ≡ prefix_len is_other (drop (blanks_len text) text) = h ∙ ap (prefix_len is_other) (f ∙ ap (λ i. drop i text) e) in
-    omega (arith, e, there, feed_after_blanks text)
+feed_measured text remainder k n e f h = omega (arith, e, h ∙ ap (prefix_len is_other) (f ∙ ap (λ i. drop i text) e), feed_after_blanks text)
 
 -- a line that is cut off after its blanks
 cut_blanks : (text : Text) (n : ℕ) → drop (blanks_len (take (blanks_len text + suc n) text)) (take (blanks_len text + suc n) text) ≡ take (suc n) (drop (blanks_len text) text)
@@ -105,10 +105,7 @@ begins_taken n (b ∷ bs) h = h
 pub first_comment : (text : Text) (n : ℕ) → begins_comment (drop (blanks_len text) text) ≡ true
     → (0 < length (drop (blanks_len text) text) → lines (drop (blanks_len text) text) ≡ take n (drop (blanks_len text) text) ∷ lines (drop n (drop (blanks_len text) text)))
     → n ≤ length (drop (blanks_len text) text) → (comment_lines text ≡ take (blanks_len text + n) text ∷ comment_lines (drop (blanks_len text + n) text)) × (0 < blanks_len text + n) × (blanks_len text + n ≤ length text)
-first_comment text zero h line inside =
-    let same = line (some (drop (blanks_len text) text) h) in
-    let less : length (lines (drop (blanks_len text) text)) ≡ suc (length (lines (drop (blanks_len text) text))) = ap (λ (ls : List Text). length ls) same in
-    absurd (omega (arith, less))
+first_comment text zero h line inside = absurd (omega (arith, ap (λ (ls : List Text). length ls) (line (some (drop (blanks_len text) text) h))))
   where
     some : (t : Text) → begins_comment t ≡ true → 0 < length t
     some [] e = cc
@@ -117,8 +114,7 @@ first_comment text (suc n) h line inside =
     let k = blanks_len text in
     let there : 0 < length (drop k text) = omega (arith, inside) in
     let all = after_blanks text (suc n) (lines (drop (suc n) (drop k text))) (line there) ∙ ap (λ (t : Text). take (k + suc n) text ∷ lines t) (sym (drop-sum k (suc n) text)) in
-    let passes : is_comment_only (take (k + suc n) text) ≡ true = ap begins_comment (cut_blanks text n) ∙ begins_taken n (drop k text) h in
-    (ap (take_while is_comment_only) all ∙ rw (passes, one-add) refl, omega arith, omega (arith, inside, there, length-drop k text))
+    (ap (take_while is_comment_only) all ∙ rw (ap begins_comment (cut_blanks text n) ∙ begins_taken n (drop k text) h, one-add) refl, omega arith, omega (arith, inside, there, length-drop k text))
 
 -- a comment at the start of a line is one at the start of the text
 pub comment_front : (line rest : Text) → is_comment_only line ≡ true → begins_comment (drop (blanks_len (line ++ rest)) (line ++ rest)) ≡ true
@@ -150,10 +146,7 @@ no_comment text h = go (lines text) refl
 pub line_whole : (text : Text) (len : ℕ) → len ≡ prefix_len is_other text → 0 < length text → length text ≤ len → lines text ≡ take len text ∷ lines (drop len text)
 unfolding lines
 line_whole [] len e some h = absurd (omega (arith, some))
-line_whole (b ∷ bs) len e some h =
-    let whole : take len (b ∷ bs) ≡ b ∷ bs = take_all len (b ∷ bs) h in
-    let none : drop len (b ∷ bs) ≡ [] = drop_all len (b ∷ bs) h in
-    rw (whole, none) (line_to_end b bs (omega (arith, h, e)))
+line_whole (b ∷ bs) len e some h = rw (take_all len (b ∷ bs) h, drop_all len (b ∷ bs) h) (line_to_end b bs (omega (arith, h, e)))
 
 -- One pass over a margin
 
@@ -171,17 +164,14 @@ one_passed text line remainder at n blanks passed e same f h split inside =
     let len : blanks.len ≡ blanks_len line = same.len ∙ length-prefix_len is_blank line in
     let there : remainder ≡ drop (blanks_len line) line = f ∙ ap (λ i. drop i line) len in
     let first = first_comment line n (subst (λ (t : Text). begins_comment t ≡ true) there h) (subst (λ (t : Text). 0 < length t → lines t ≡ take n t ∷ lines (drop n t)) there split) (subst (λ (t : Text). n ≤ length t) there inside) in
-    let all : length line ≡ length text - at = ap (λ (t : Text). length t) e ∙ length-drop at text in
     let sum : lines_sum (comment_lines line) ≡ length (take (blanks_len line + n) line) + lines_sum (comment_lines (drop (blanks_len line + n) line)) =
     ap lines_sum first.0 ∙ sum_by-cons (λ (line : Text). length line) (take (blanks_len line + n) line) (comment_lines (drop (blanks_len line + n) line)) in
-    let whole : length (take (blanks_len line + n) line) ≡ blanks_len line + n = length-take-le (blanks_len line + n) line first.2 in
     let rest : drop (at + (blanks.len + n)) text ≡ drop (blanks_len line + n) line = drop-sum at (blanks.len + n) text ∙ ap (λ (t : Text). drop (blanks.len + n) t) (sym e) ∙ ap (λ i. drop (i + n) line) len in
-    let before : at + lines_sum (comment_lines line) ≡ lines_sum (comment_lines text) = ap (λ (t : Text). at + lines_sum (comment_lines t)) e ∙ passed.total in
     let after_sum : lines_sum (comment_lines (drop (at + (blanks.len + n)) text)) ≡ lines_sum (comment_lines (drop (blanks_len line + n) line)) = ap (λ (t : Text). lines_sum (comment_lines t)) rest in (
       omega (arith, first.1, len),
       record {
-        inside = omega (arith, first.2, len, all, passed.inside);
-        total = omega (arith, after_sum, len, whole, sum, before);
+        inside = omega (arith, first.2, len, ap (λ (t : Text). length t) e ∙ length-drop at text, passed.inside);
+        total = omega (arith, after_sum, len, length-take-le (blanks_len line + n) line first.2, sum, ap (λ (t : Text). at + lines_sum (comment_lines t)) e ∙ passed.total);
       },
     )
 
@@ -203,18 +193,7 @@ front_passed text line at n passed e h split inside = rw zero-add at (one_passed
 pub last_passed : (text line remainder : Text) (at : ℕ) (found : Blanks) (content : Bool) → ArePassed text at → line ≡ drop at text → IsBlanks (take (blanks_len line) line) found → remainder ≡ drop found.len line → begins_comment remainder ≡ false → content ≡ is_content remainder
     → IsMargin (margin_of text) (record { at = at; blanks = found; is_content = content })
 unfolding margin_of
-last_passed text line remainder at found content passed e same f h is =
-    let len : found.len ≡ blanks_len line = same.len ∙ length-prefix_len is_blank line in
-    let there : remainder ≡ drop (blanks_len line) line = f ∙ ap (λ i. drop i line) len in
-    let none : comment_lines line ≡ [] = no_comment line (subst (λ (t : Text). begins_comment t ≡ false) there h) in
-    let zero_more : lines_sum (comment_lines (drop at text)) ≡ 0 = ap (λ (t : Text). lines_sum (comment_lines t)) (sym e) ∙ ap lines_sum none in
-    let place : at ≡ lines_sum (comment_lines text) = omega (arith, passed.total, zero_more) in
-    let here : line ≡ drop (lines_sum (comment_lines text)) text = e ∙ ap (λ n. drop n text) place in
-    record {
-      at = place;
-      blanks = subst (λ (t : Text). IsBlanks (take (blanks_len t) t) found) here same;
-      is_content = is ∙ ap is_content (there ∙ ap (λ (t : Text). drop (blanks_len t) t) here);
-    }
+last_passed text line remainder at found content passed e same f h is = search (rules, length-prefix_len, no_comment, lines_sum)
 
 -- a comment has a byte before its line's LF
 pub comment_some : (text : Text) → begins_comment text ≡ true → 0 < prefix_len is_other text
@@ -223,3 +202,50 @@ comment_some (b ∷ rest) e = let other : is_other b ≡ true = no_feed b e in r
   where
     no_feed : (b : ℕ) → begins_comment (b ∷ []) ≡ true → is_other b ≡ true
     no_feed b e = grind (arith, nat_tests)
+
+-- the blanks go on after a byte that is no `#`
+pub blank_before : (text : Text) (n : ℕ) → begins_comment (drop (blanks_len text) text) ≡ true → n ≤ blanks_len text → n < length text → (get_or text n 0 ≡ 35 → ⊥) → n + 1 ≤ blanks_len text
+blank_before text n begins few inside other = omega (arith, few, unlike)
+  where
+    byte : (b : ℕ) (bs : Text) → begins_comment (b ∷ bs) ≡ true → b ≡ 35
+    byte b bs h = grind (arith, nat_tests)
+
+    unlike : n ≡ blanks_len text → ⊥
+    unlike e =
+        other (byte (get_or text n 0) (drop (n + 1) text) (sym (ap begins_comment (at_front text n (get_or text n 0) inside refl)) ∙ (ap (λ i. begins_comment (drop i text)) e ∙ begins)))
+
+-- the blanks end at the first `#`
+pub blanks_end : (text : Text) (n : ℕ) → n ≤ blanks_len text → (n < length text → get_or text n 0 ≡ 35) → n ≡ blanks_len text
+blanks_end text n few hash = omega (arith, few, all)
+  where
+    no_blank : (b : ℕ) → b ≡ 35 → is_blank b ≡ true → ⊥
+    no_blank b e h = grind (arith, nat_tests)
+
+    all : n < blanks_len text → ⊥
+    all less = no_blank (get_or text n 0) (hash (omega (arith, less, prefix_len-le-length is_blank text))) (prefix_len_passes is_blank text n 0 less)
+
+some_lines : (b : ℕ) (bs : Text) → lines (b ∷ bs) ≡ [] → ⊥
+unfolding lines
+some_lines b bs e = go (is_lf b) (lines bs) e
+  where
+    go : (feed : Bool) (m : List Text) → (if feed then (b ∷ []) ∷ m else onto_first b m) ≡ [] → ⊥
+    go true m h = cc
+    go false [] h = cc
+    go false (l ∷ m) h = cc
+
+-- the first of some comment-only lines has a comment after its blanks
+pub begins_here : (text : Text) (from to : ℕ) → IsComments text from to → from < to → begins_comment (drop (blanks_len (take (to - from) (drop from text))) (take (to - from) (drop from text))) ≡ true
+begins_here text from to are some = go (take (to - from) (drop from text)) long are.comments
+  where
+    long : 0 < length (take (to - from) (drop from text))
+    long = omega (arith, some, are.inside, length-take-le (to - from) (drop from text) (omega (arith, are.inside, length-drop from text)))
+
+    first : (here : Text) (ls : List Text) → lines here ≡ ls → 0 < length here → AllByRecursion (λ (line : Text). is_comment_only line ≡ true) ls → begins_comment (drop (blanks_len here) here) ≡ true
+    first [] [] e h k = absurd (omega (arith, h))
+    first (b ∷ bs) [] e h k = absurd (some_lines b bs e)
+    first here (line ∷ more) e h k =
+        let split : Split here line more = first_line here line more e in
+        subst (λ (t : Text). begins_comment (drop (blanks_len t) t) ≡ true) (sym split.whole) (comment_front line split.rest k.0)
+
+    go : (here : Text) → 0 < length here → AllByRecursion (λ (line : Text). is_comment_only line ≡ true) (lines here) → begins_comment (drop (blanks_len here) here) ≡ true
+    go here h k = first here (lines here) refl h k

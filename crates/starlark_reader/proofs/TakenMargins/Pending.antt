@@ -1,23 +1,116 @@
 -- Comments of the lines of a text between two offsets.
-use Rattle.std.proofs.Common.{◌≡◌, ℕ, zero, suc, ◌+◌, ◌-◌, ◌≤◌, ◌<◌, Bool, true, false, cond, List, [], ◌∷◌, ◌++◌, length, map, take, drop, refl, ap, ◌∙◌, sym, subst, arith, one-add}
-use Rattle.std.specs.Prelude.{if◌then◌else◌, take_while}
+use Rattle.std.proofs.Common.{◌≡◌, ℕ, suc, ◌+◌, ◌-◌, ◌≤◌, ◌<◌, Bool, true, false, cond, [], ◌∷◌, length, take, drop, get_or, refl, ap, ◌∙◌, sym, arith, zero, List, ◌++◌, map, subst, one-add}
+use Rattle.std.specs.Prelude.{◌==◌, if◌then◌else◌, take_while}
 use Rattle.std.specs.List.{prefix_len, onto_first, AllByRecursion}
 use Rattle.std.specs.Str.{IsUtf8, IsCharBoundary}
-use Rattle.std.proofs.lemmas.Str.{IsUtf8-drop}
-use Rattle.std.proofs.lemmas.List.{drop-take, length-append, length-drop, length-take, length-take-le, take-take}
-use Rattle.std.proofs.lemmas.List.Sums.{sum_by-cons}
-use Rattle.std.proofs.Math.Seq.{take-add, take-append_seam, drop-append_seam}
+use Rattle.std.proofs.lemmas.Bool.{eqb-true}
+use Rattle.std.proofs.lemmas.List.{drop-take, get_or-drop, get_or-take, length-take-le, take-take, length-drop}
+use Rattle.std.proofs.lemmas.List.Sums.{prefix_len-le-length, sum_by-cons}
+use Rattle.std.proofs.lemmas.Str.{IsCharBoundary-after_ascii, IsUtf8-drop}
 use Rattle.starlark_grammar.specs.Words.{Text}
+use Rattle.starlark_grammar.specs.Margins.{begins_comment, blanks_len, comment_lines, comment_of, comment_part, comments_from, is_comment_only, margin_of, without_return, is_blank, is_lf, lines}
+use Rattle.starlark_token.specs.Lexemes.{shown_lexeme}
+use Rattle.starlark_reader.specs.Inner.Pending.{comment_lexeme, IsComments, lines_between}
+use Rattle.starlark_grammar.proofs.Found.CommentEnds.{return_less}
+use Rattle.starlark_grammar.proofs.Lists.{drop-sum, take_fits}
+use Rattle.starlark_reader.proofs.TakenMargins.MarginLines.{is_other}
+use Rattle.starlark_grammar.proofs.Order.OrderedLexemes.{comment_spans, part_len, lines_sum}
+use Rattle.std.proofs.Math.Seq.{take-add, take-append_seam, drop-append_seam}
 use Rattle.starlark_grammar.specs.Tokens.{moved}
 use Rattle.starlark_grammar.specs.Laws.{AtBoundaries}
-use Rattle.starlark_grammar.specs.Margins.{blanks_len, begins_comment, comment_lines, comment_of, comment_part, comments_from, is_blank, is_comment_only, is_lf, lines, margin_of}
-use Rattle.starlark_reader.specs.Inner.Pending.{IsComments, lines_between}
-use Rattle.starlark_grammar.proofs.Lists.{drop-sum}
 use Rattle.starlark_grammar.proofs.Order.Boundaries.{margin_edges}
 use Rattle.starlark_grammar.proofs.Order.Edges.{boundary_shift, edges_shift}
-use Rattle.starlark_grammar.proofs.Order.OrderedLexemes.{lines_sum}
-use Rattle.starlark_reader.proofs.TakenMargins.CommentLines.{comment_inside, margin_comments}
-use Rattle.starlark_reader.proofs.TakenMargins.MarginLines.{is_other}
+
+-- The end of a comment
+
+returned : (t : Text) → length (without_return t) ≡ cond (get_or t (length t - 1) 0 == 13) (length t - 1) (length t)
+returned [] = refl
+returned (b ∷ []) = go (b == 13)
+  where
+    go : (test : Bool) → length (if test then [] else b ∷ []) ≡ cond test 0 1
+    go true = refl
+    go false = refl
+returned (b ∷ c ∷ t) =
+    let here : suc (suc (length t)) - 1 ≡ suc (length t) = omega arith in
+    let there : suc (length t) - 1 ≡ length t = omega arith in
+    rw here (ap suc (returned (c ∷ t)) ∙ rw there (go (get_or (c ∷ t) (length t) 0 == 13)))
+  where
+    go : (test : Bool) → suc (cond test (length t) (suc (length t))) ≡ cond test (suc (length t)) (suc (suc (length t)))
+    go true = refl
+    go false = refl
+
+pub part_end : (line front : Text) (len : ℕ) (test : Bool) → len ≡ prefix_len is_other line → front ≡ take len line → (get_or front (length front - 1) 0 == 13) ≡ test → cond test (len - 1) len ≡ length (comment_part line)
+part_end line front len test e f h =
+    let whole : length front ≡ len = ap (λ (t : Text). length t) f ∙ length-take-le len line (omega (arith, e, prefix_len-le-length is_other line)) in
+    sym (ap (λ (t : Text). length (without_return t)) (sym (f ∙ ap (λ n. take n line) e)) ∙ returned front ∙ ap (λ b. cond b (length front - 1) (length front)) h ∙ ap (λ n. cond test (n - 1) n) whole)
+
+-- The value of a comment
+
+front_taken : (t : Text) → without_return t ≡ take (length (without_return t)) t
+front_taken [] = refl
+front_taken (b ∷ []) = go (b == 13)
+  where
+    go : (test : Bool) → (if test then [] else b ∷ []) ≡ take (length (if test then [] else b ∷ [])) (b ∷ [])
+    go true = refl
+    go false = refl
+front_taken (b ∷ c ∷ t) = ap (λ (s : Text). b ∷ s) (front_taken (c ∷ t))
+
+-- the comment's part of a line ends before its LF
+pub part_before_feed : (line : Text) → length (comment_part line) ≤ prefix_len is_other line
+part_before_feed line = omega (arith, return_less (take (prefix_len is_other line) line), (take_fits (prefix_len is_other line) line).1)
+
+-- the comment's part of a line is at its start
+part_taken : (line : Text) → comment_part line ≡ take (length (comment_part line)) line
+part_taken line = front_taken (take (prefix_len is_other line) line) ∙ take-take (length (comment_part line)) (prefix_len is_other line) line (part_before_feed line)
+
+-- a line of a text
+abbrev line_at : Text → ℕ → ℕ → Text
+line_at text at len = take len (drop at text)
+
+pub comment_value : (text : Text) (at len from to : ℕ) → is_comment_only (line_at text at len) ≡ true → from ≡ at + blanks_len (line_at text at len) + 1 → to ≡ at + length (comment_part (line_at text at len))
+    → take (to - from) (drop from text) ≡ drop (suc (blanks_len (line_at text at len))) (comment_part (line_at text at len))
+comment_value text at len from to h e f =
+    let line = line_at text at len in
+    let k = blanks_len line in
+    let n = length (comment_part line) in
+    let less : k < n = comment_spans line h in
+    let inside : n ≤ len = omega (arith, part_len line, (take_fits len (drop at text)).1) in
+    let rest : ℕ = n - suc k in
+    let whole : n ≡ suc k + rest = omega (arith, less) in
+    let count : to - from ≡ rest = omega (arith, e, f, less) in
+    let place : from ≡ at + suc k = omega (arith, e) in
+    let part : comment_part line ≡ take (suc k + rest) (drop at text) = part_taken line ∙ take-take n len (drop at text) inside ∙ ap (λ i. take i (drop at text)) whole in
+    sym (ap (drop (suc k)) part ∙ drop-take (suc k) rest (drop at text) ∙ ap (take rest) (sym (drop-sum at (suc k) text)) ∙ ap (λ i. take rest (drop i text)) (sym place) ∙ ap (λ i. take i (drop from text)) (sym count))
+
+-- a character boundary is after the `#` that begins the comment
+pub comment_begin : (text : Text) (at len from : ℕ) → IsUtf8 text → at + len ≤ length text → is_comment_only (line_at text at len) ≡ true → from ≡ at + blanks_len (line_at text at len) → IsCharBoundary text (from + 1)
+comment_begin text at len from utf8 inside h e =
+    let line = line_at text at len in
+    let k = blanks_len line in
+    let within : k < len = omega (arith, comment_spans line h, part_len line, (take_fits len (drop at text)).1) in
+    let same : get_or text from 0 ≡ 35 =
+    ap (λ i. get_or text i 0) e ∙ sym (get_or-drop at text k 0) ∙ sym (get_or-take len (drop at text) k 0 within) ∙ ap (λ i. get_or line i 0) no_more ∙ sym (get_or-drop k line 0 0) ∙ mark (drop k line) h in
+    IsCharBoundary-after_ascii text from utf8 (omega (arith, e, within, inside)) (omega (arith, same))
+  where
+    no_more : blanks_len (line_at text at len) ≡ blanks_len (line_at text at len) + 0
+    no_more = omega arith
+
+    mark : (t : Text) → begins_comment t ≡ true → get_or t 0 0 ≡ 35
+    mark [] e = cc
+    mark (b ∷ bs) e = eqb-true b 35 e
+
+pub comment_inside : (line : Text) (k n : ℕ) → is_comment_only line ≡ true → k ≡ blanks_len line → n ≡ length (comment_part line) → k + 1 ≤ n
+comment_inside line k n h e f = omega (arith, comment_spans line h, e, f)
+
+pub comment_found : (text : Text) (at k n : ℕ) (line : Text) → k ≡ blanks_len line → n ≡ length (comment_part line) → take (at + n - (at + k + 1)) (drop (at + k + 1) text) ≡ drop (suc (blanks_len line)) (comment_part line)
+    → comment_lexeme text (at + k) (at + n) ≡ shown_lexeme (comment_of at line)
+comment_found text at k n line e f h = rw (h, e, f) refl
+
+-- The comments of a margin, one after another
+
+pub margin_comments : (text : Text) → (margin_of text).comments ≡ comments_from 0 (comment_lines text)
+unfolding margin_of
+margin_comments text = refl
 
 abbrev pub between : Text → ℕ → ℕ → Text
 between text from to = take (to - from) (drop from text)
@@ -44,9 +137,7 @@ unfolding lines
 some_lines text from to some inside none = go (take (to - from) (drop from text)) refl none
   where
     go : (t : Text) → take (to - from) (drop from text) ≡ t → lines t ≡ [] → ⊥
-    go [] e h =
-        let len : to - from ≡ 0 = sym (length-take-le (to - from) (drop from text) (omega (arith, length-drop from text, inside))) ∙ ap (λ (t : Text). length t) e in
-        absurd (omega (arith, some, len))
+    go [] e h = absurd (omega (arith, some, sym (length-take-le (to - from) (drop from text) (omega (arith, length-drop from text, inside))) ∙ ap (λ (t : Text). length t) e))
     go (b ∷ bs) e h = by (is_lf b) (lines bs) h
       where
         by : (feed : Bool) (m : List Text) → (if feed then (b ∷ []) ∷ m else onto_first b m) ≡ [] → ⊥
@@ -68,14 +159,14 @@ blanks_front (b ∷ bs) rest h = go (is_blank b) h (blanks_front bs rest)
 
 -- a run that passes a test is the same in a prefix that is long enough
 passed_front : (p : ℕ → Bool) (n : ℕ) (xs : Text) → prefix_len p xs ≤ n → prefix_len p (take n xs) ≡ prefix_len p xs
-passed_front p zero [] h = refl
-passed_front p (suc n) [] h = refl
 passed_front p zero (x ∷ xs) h = omega (arith, h)
 passed_front p (suc n) (x ∷ xs) h = go (p x) h (passed_front p n xs)
   where
     go : (passes : Bool) → cond passes (1 + prefix_len p xs) 0 ≤ suc n → (prefix_len p xs ≤ n → prefix_len p (take n xs) ≡ prefix_len p xs) → cond passes (1 + prefix_len p (take n xs)) 0 ≡ cond passes (1 + prefix_len p xs) 0
     go true h more = ap (λ n. 1 + n) (more (omega (arith, h)))
     go false h more = refl
+passed_front p zero [] h = refl
+passed_front p (suc n) [] h = refl
 
 part_front : (n : ℕ) (text : Text) → prefix_len is_other text ≤ n → comment_part (take n text) ≡ comment_part text
 part_front n text h =
@@ -250,10 +341,9 @@ module _ (text : Text) (begin at : ℕ) (utf8 : IsUtf8 text) (here : IsCharBound
   pub are_comments : IsComments text begin (begin + at)
   are_comments =
       let edges = margin_edges (drop begin text) (IsUtf8-drop text begin utf8 here) in
-      let last : IsCharBoundary (drop begin text) at = subst (IsCharBoundary (drop begin text)) (sym same) edges.at in
       record {
         order = omega arith;
-        inside = (boundary_shift text begin at here last).0;
+        inside = (boundary_shift text begin at here (subst (IsCharBoundary (drop begin text)) (sym same) edges.at)).0;
         comments = subst (AllByRecursion (λ (line : Text). is_comment_only line ≡ true)) (sym (margin_lines text begin at same)) (all_pass (lines (drop begin text)));
         edges = subst (AllByRecursion (AtBoundaries text)) margin_between (edges_shift text begin (margin_of (drop begin text)).comments here edges.comments);
       }

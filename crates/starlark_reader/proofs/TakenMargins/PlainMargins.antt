@@ -22,8 +22,7 @@ margin_found len width content = record { at = 0; blanks = blanks_of len width; 
 pub spaces_alone : (text : Text) (n : ℕ) → n ≡ prefix_len (nat_eq 32) text → n ≡ length text → IsMargin (margin_of text) (margin_found n n false)
 spaces_alone text n is all =
     let blanks = only_spaces text n is (λ less tab. absurd (omega (arith, less, all))) (λ less return. absurd (omega (arith, less, all))) in
-    let none : [] ≡ drop n text = sym (drop_all n text (omega (arith, all))) in
-    last_passed text text [] 0 (blanks_of n n) false (none_passed text) refl blanks none refl refl
+    last_passed text text [] 0 (blanks_of n n) false (none_passed text) refl blanks (sym (drop_all n text (omega (arith, all)))) refl refl
 
 -- spaces, and then a byte that is no blank and begins no comment
 pub spaces_first : (text : Text) (n b : ℕ) → n ≡ prefix_len (nat_eq 32) text → n < length text → b ≡ get_or text n 0 → (b ≡ 9 → ⊥) → (b ≡ 13 → ⊥) → (b ≡ 35 → ⊥)
@@ -63,9 +62,7 @@ pub spaces_and_returns : (text : Text) (len n : ℕ) → IsPassed text (blanks_o
 spaces_and_returns text len n passed feed = go (drop len text) refl
   where
     go : (rest : Text) → drop len text ≡ rest → IsMargin (margin_of text) (margin_found len n false)
-    go [] e =
-        let blanks = all_passed text (blanks_of len n) passed (ap blanks_at e) in
-        last_passed text text [] 0 (blanks_of len n) false (none_passed text) refl blanks (sym e) refl refl
+    go [] e = last_passed text text [] 0 (blanks_of len n) false (none_passed text) refl (all_passed text (blanks_of len n) passed (ap blanks_at e)) (sym e) refl refl
     go (b ∷ bs) e =
         let inside : len < length text = omega (arith, ap (λ (t : Text). length t) e, length-drop len text) in
         let split = at_front text len 10 inside (sym (feed inside)) in

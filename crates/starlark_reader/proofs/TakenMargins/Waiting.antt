@@ -1,47 +1,22 @@
 -- Pending lexemes.
-use Rattle.std.proofs.Common.{arith, ◌≡◌, Bool, false, ℕ, ◌+◌, ◌-◌, ◌<◌, ◌≤◌, List, [], ◌∷◌, ◌++◌, ap, drop, sym, take, ◌∙◌, map, refl, Some, None}
+use Rattle.std.proofs.Common.{rules, arith, ◌≡◌, Bool, false, ℕ, ◌+◌, ◌≤◌, List, [], ◌∷◌, ◌++◌, ap, sym, ◌∙◌, map, refl, Some, None}
 use Rattle.std.specs.Prelude.{Option, Result, Ok, Err, OnErr, option_to_list}
 use Rattle.starlark_grammar.specs.Words.{Text}
-use Rattle.starlark_grammar.specs.Margins.{comment_of, comments_from}
-use Rattle.starlark_grammar.specs.Tokens.{Comment, Lexeme, Spanned}
-use Rattle.starlark_token.specs.TokenViews.{TokenView, Whole, token_view}
+use Rattle.starlark_grammar.specs.Tokens.{Lexeme, Spanned}
+use Rattle.starlark_token.specs.TokenViews.{TokenView}
 use Rattle.starlark_token.specs.Lexemes.{lexeme_view, shown_lexeme}
-use Rattle.starlark_reader.specs.Inner.Pending.{IsFirst, IsFirstAfter, IsFirstComment, IsFirstPast, IsIdle, IsPending, comment_lexeme, lexemes_after, lines_between, pending_lexemes}
+use Rattle.starlark_reader.specs.Inner.Pending.{IsFirst, IsFirstAfter, IsFirstComment, IsFirstPast, IsIdle, IsPending, comment_lexeme, lexemes_after, pending_lexemes}
 use Rattle.starlark_reader.specs.declared.comments.CommentLine.{CommentLine}
 use Rattle.starlark_reader.specs.declared.pending.AfterComments.{AfterComments}
 use Rattle.starlark_reader.specs.declared.pending.Pending.{Pending}
 use Rattle.starlark_token.specs.declared.tokens.Token.{Token}
-use Rattle.starlark_reader.proofs.TakenMargins.Pending.{no_comments, no_lines_between, some_lines}
+use Rattle.starlark_reader.proofs.TakenMargins.Pending.{no_comments, no_lines_between}
 
 -- the first comment
 pub comment_first : (text : Text) (old : Pending) (found : CommentLine) → IsFirstComment text old.from old.to found
     → IsFirstPast text (comment_lexeme text found.begin found.end) old (record { from = old.from + found.len; to = old.to; remainder = old.remainder; is_flat = old.is_flat })
 unfolding pending_lexemes
-comment_first text old found is =
-    let later = comments_from (old.from + found.len) (lines_between text (old.from + found.len) old.to) in
-    let all : comments_from old.from (lines_between text old.from old.to) ≡ comment_of old.from is.line ∷ later =
-    ap (comments_from old.from) is.first ∙ ap (λ n. comment_of old.from is.line ∷ comments_from (old.from + n) (lines_between text (old.from + found.len) old.to)) is.whole in (
-      is.remainder,
-      ap (λ ls. map shown_lexeme (ls ++ lexemes_after old.remainder)) all ∙ ap (λ v. v ∷ map shown_lexeme (later ++ lexemes_after old.remainder)) (sym is.comment),
-    )
-
--- it is taken as its token
-pub comment_taken : (text : Text) (old : Pending) (found : CommentLine) (token : Token) → IsFirstComment text old.from old.to found → token_view token ≡ Whole (Comment (take (found.end - (found.begin + 1)) (drop (found.begin + 1) text)))
-    → IsFirst text old (record { from = old.from + found.len; to = old.to; remainder = old.remainder; is_flat = old.is_flat }) (Some (found.begin, token, found.end))
-comment_taken text old found token is same =
-    let past = comment_first text old found is in (
-      past.0,
-      past.1 ∙ ap (λ view. record { begin = found.begin; node = view; end = found.end } ∷ map shown_lexeme (pending_lexemes text (record { from = old.from + found.len; to = old.to; remainder = old.remainder; is_flat = old.is_flat }))) (sym same),
-    )
-
--- if comments are pending, so is a lexeme
-pub comments_left : (text : Text) (old : Pending) → IsPending text old → old.from < old.to → pending_lexemes text old ≡ [] → ⊥
-unfolding pending_lexemes
-comments_left text old is some none = go (lines_between text old.from old.to) refl none
-  where
-    go : (ls : List Text) → lines_between text old.from old.to ≡ ls → comments_from old.from ls ++ lexemes_after old.remainder ≡ [] → ⊥
-    go [] e h = some_lines text old.from old.to some is.inside e
-    go (l ∷ ls) e h = cc
+comment_first text old found is = search rules
 
 -- if no comments are pending, the first lexeme is the one after them
 pub after_first : (text : Text) (old : Pending) (new : AfterComments) (flat : Bool) (found : Option (ℕ × Token × ℕ)) → IsPending text old → old.to ≤ old.from → IsFirstAfter old.remainder new found → (found ≡ None → flat ≡ old.is_flat)

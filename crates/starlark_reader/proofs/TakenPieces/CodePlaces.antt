@@ -2,9 +2,10 @@
 use Rattle.std.proofs.Common.{◌≡◌, ℕ, ◌≤◌, ◌<◌, Bool, true, false, ◌&&◌, [], ◌∷◌, length, take, drop, refl, ap, ◌∙◌, arith, None, Some}
 use Rattle.std.proofs.lemmas.List.{length-take-le}
 use Rattle.std.specs.Str.{IsUtf8, IsCharBoundary}
+use Rattle.std.proofs.Math.Bool.{and-false}
 use Rattle.starlark_grammar.specs.Depths.{Mode, Outside, InText, AtTop, Deeper}
 use Rattle.starlark_grammar.specs.Front.{language_front, longest_front}
-use Rattle.starlark_grammar.specs.Pieces.{Situation, Before, Nothing, Layout, Gap, Other, by_mode, by_before, chunk, front_step, in_code, is_bang, takes_bang, token, step_at, word_step}
+use Rattle.starlark_grammar.specs.Pieces.{Situation, Before, Nothing, by_mode, by_before, chunk, front_step, in_code, is_bang, takes_bang, token, step_at, word_step}
 use Rattle.starlark_grammar.specs.Tokens.{FStringBang, Opening}
 use Rattle.starlark_grammar.specs.Words.{Text, class_in, language}
 use Rattle.starlark_grammar.specs.declared.class.Class.{Class}
@@ -19,9 +20,7 @@ by_read follows_gap s text remainder = go s.before remainder
   where
     go : (before : Before) → IsAfter follows_gap before → by_before language s before text ≡ by_mode language s s.mode text
     go Nothing h = absurd h
-    go Layout h = refl
-    go Gap h = refl
-    go Other h = refl
+    go before h = refl
 
 -- the step in f-string text
 pub in_text : (follows_gap : Bool) (s : Situation) (text : Text) (opening : Opening) → IsAfter follows_gap s.before → s.mode ≡ InText opening → step_at language s text ≡ chunk opening text
@@ -37,17 +36,13 @@ code_at follows_gap s text at code remainder here = by_read follows_gap s text r
     go AtTop code = refl
     go Deeper code = refl
 
-both_false : (x : Bool) → (x && false) ≡ false
-both_false true = refl
-both_false false = refl
-
 pub in_code_front : (s : Situation) (text : Text) (class : Class) (len : ℕ) → language_front text ≡ Some (class, len) → is_bang text ≡ false → in_code language s text ≡ word_step s class (take len text) (drop len text)
 unfolding language_front longest_front
 in_code_front s [] class len front bang = cc
-in_code_front s (b ∷ bs) class len front bang = rw (bang, both_false (takes_bang s.mode s.before), front) refl
+in_code_front s (b ∷ bs) class len front bang = rw (bang, and-false (takes_bang s.mode s.before), front) refl
 
 pub bang_in_code : (s : Situation) (text : Text) → (takes_bang s.mode s.before && is_bang text) ≡ true → in_code language s text ≡ token 1 FStringBang
-bang_in_code s [] bang = cc (both_false (takes_bang s.mode s.before), bang)
+bang_in_code s [] bang = cc (and-false (takes_bang s.mode s.before), bang)
 bang_in_code s (b ∷ bs) bang = rw bang refl
 
 -- the first character is a fault where neither a bang nor a word is
@@ -74,9 +69,7 @@ word_at follows_gap s text at class len code remainder here front bang = code_at
 -- a word is in its text, and its end is a character boundary
 pub word_len : (text : Text) (class : Class) (len : ℕ) → language_front text ≡ Some (class, len) → length (take len text) ≡ len
 unfolding language_front
-word_len text class len front =
-    let inside : len ≤ length text = (front_sound (class_in language) text class len front).1 in
-    length-take-le len text inside
+word_len text class len front = length-take-le len text ((front_sound (class_in language) text class len front).1)
 
 -- a word isn't empty
 pub word_some : (text : Text) (class : Class) (len : ℕ) → language_front text ≡ Some (class, len) → 1 ≤ len

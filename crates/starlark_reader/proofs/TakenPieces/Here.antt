@@ -1,5 +1,5 @@
 -- The piece at a reader's offset is in the text.
-use Rattle.std.proofs.Common.{◌≡◌, ℕ, ◌+◌, ◌<◌, ◌≤◌, false, length, drop, refl, ap, sym, ◌∙◌, arith}
+use Rattle.std.proofs.Common.{rules, ◌≡◌, ℕ, ◌+◌, ◌≤◌, false, length, drop, refl, ap, sym, ◌∙◌, arith}
 use Rattle.std.proofs.lemmas.List.{length-drop}
 use Rattle.starlark_grammar.specs.Words.{Text, language}
 use Rattle.starlark_grammar.specs.Tokens as grammar
@@ -10,10 +10,9 @@ use Rattle.starlark_token.specs.TokenViews.{Whole, token_view}
 use Rattle.starlark_token.specs.declared.tokens.Token.{Token}
 use Rattle.starlark_grammar.specs.Pieces.{Before, Piece, Stands, Fails}
 use Rattle.starlark_grammar.specs.Reading.{History}
-use Rattle.starlark_reader.specs.Inner.Reader.{IsStateAfter, before_view, history_from, left_to_read, step_here}
+use Rattle.starlark_reader.specs.Inner.Reader.{IsStateAfter, before_view, history_from, step_here}
 use Rattle.starlark_reader.specs.declared.reader.Before as code
 use Rattle.starlark_reader.specs.declared.reader.Before.TheVariants as sort
-use Rattle.starlark_reader.specs.declared.reader.Stage.TheVariants as stage
 use Rattle.starlark_reader.specs.declared.reader.Reader.{Reader}
 use Rattle.starlark_grammar.proofs.Reading.Steps.{is_nothing, least_len}
 use Rattle.starlark_grammar.proofs.Reading.Readings.{piece_fits, fault_fits}
@@ -24,13 +23,11 @@ after_some last before h = (ap is_nothing (sym h) ∙ begun last, ap least_len (
   where
     begun : (last : code.Before) → is_nothing (before_view last) ≡ false
     begun sort.Layout = refl
-    begun sort.Gap = refl
-    begun sort.Other = refl
+    begun last = refl
 
     one : (last : code.Before) → least_len (before_view last) ≡ 1
     one sort.Layout = refl
-    one sort.Gap = refl
-    one sort.Other = refl
+    one last = refl
 
 -- two readers differ at most in stage, pending lexemes and reads
 pub record IsHere (old new : Reader) : Type 0 where
@@ -55,17 +52,11 @@ kept_here text history old new here kept = record {
 pub piece_here : (text : Text) (history : History) (reader : Reader) (piece : Piece) → IsStateAfter text history reader → step_here text history reader ≡ Stands piece → (1 ≤ piece.len) × (reader.at + piece.len ≤ length text)
 piece_here text history reader piece kept stands =
     let fits = piece_fits language history (drop reader.at text) piece stands in
-    let least = (after_some reader.before history.before kept.before).1 in
-    let some : least_len history.before ≤ piece.len = fits.some in
-    let inside : piece.len ≤ length (drop reader.at text) = fits.inside in
-    (omega (arith, least, some), omega (arith, inside, length-drop reader.at text, kept.inside))
+    (omega (arith, (after_some reader.before history.before kept.before).1, fits.some), omega (arith, fits.inside, length-drop reader.at text, kept.inside))
 
 -- a fault here is in the text
 pub fault_here : (text : Text) (history : History) (reader : Reader) (fault : Spanned Fault) → IsStateAfter text history reader → step_here text history reader ≡ Fails fault → (fault.begin ≤ fault.end) × (reader.at + fault.end ≤ length text)
-fault_here text history reader fault kept fails =
-    let fits = fault_fits language history (drop reader.at text) fault fails in
-    let inside : fault.end ≤ length (drop reader.at text) = fits.inside in
-    (fits.order, omega (arith, inside, length-drop reader.at text, kept.inside))
+fault_here text history reader fault kept fails = search (rules, fault_fits, length-drop)
 
 -- a token that begins no f-string is shown as it is
 pub shown_own : (node : grammar.Token) → is_fstring_start node ≡ false → shown node ≡ node
@@ -83,7 +74,3 @@ pub shown_here : (at end : ℕ) (token : Token) (node : grammar.Token) → token
 shown_here at end token node view own =
     let none : at ≡ at + 0 = omega arith in
     ap (λ n. lexeme_view (n, token, at + end)) none ∙ shown_at at 0 end token node view own
-
--- less is left to read after a piece
-pub less_onward : (text : Text) (old new : Reader) (len : ℕ) → new.stage ≡ stage.Onward → new.at ≡ old.at + len → 1 ≤ len → old.at + len ≤ length text → left_to_read text new new.stage < left_to_read text old stage.Onward
-less_onward text old new len onward at some inside = rw onward (omega (arith, at, some, inside))

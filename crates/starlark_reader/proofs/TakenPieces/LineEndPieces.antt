@@ -30,16 +30,14 @@ line_end_front (suc n) (b ∷ bs) some is = go (nat_eq 10 b && true) (nat_eq 13 
     go : (feed return : Bool) (n : ℕ) (bs : Text)
         → (if feed then 1 else (if return && starts_with nat_eq (take n bs) (10 ∷ []) then 2 else 0)) ≡ suc n
         → (if feed then 1 else (if return && starts_with nat_eq bs (10 ∷ []) then 2 else 0)) ≡ suc n
-    go true return n bs is = is
-    go false false n bs is = is
     go false true zero bs is = absurd (omega (arith, is))
     go false true (suc n) [] is = is
     go false true (suc n) (c ∷ cs) is = is
+    go feed return n bs is = is
 
 -- the word at the start of a text
 pub line_end_here : (text : Text) (len : ℕ) → Some (word.LineEnd, len) ≡ language_front text → IsLineEnd len text
 unfolding language_front
 line_end_here text len front =
     let sound = front_sound (class_in language) text word.LineEnd len (sym front) in
-    let whole : line_end_len (take len text) ≡ len = (line_end_word (take len text) sound.2).1 ∙ length-take-le len text sound.1 in
-    (sound.0, line_end_front len text sound.0 whole)
+    (sound.0, line_end_front len text sound.0 ((line_end_word (take len text) sound.2).1 ∙ length-take-le len text sound.1))

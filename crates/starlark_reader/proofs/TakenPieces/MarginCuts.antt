@@ -1,5 +1,5 @@
 -- Cuts that a reader finds, in margins with nothing open before them.
-use Rattle.std.proofs.Common.{◌≡◌, ℕ, suc, ◌+◌, ◌≤◌, ◌<◌, true, false, List, [], ◌∷◌, ◌++◌, length, take, drop, map, refl, ap, ◌∙◌, sym, subst, Option, None, Some, arith, length-append, inl, inr, ◌⊎◌}
+use Rattle.std.proofs.Common.{◌≡◌, ℕ, suc, ◌+◌, ◌≤◌, ◌<◌, true, false, List, [], ◌∷◌, ◌++◌, length, take, drop, map, refl, ap, ◌∙◌, sym, subst, Option, None, Some, arith, length-append, zero-add, inl, inr, ◌⊎◌, rules}
 use Rattle.std.specs.Prelude.{codes, nat_eq, not, ⊤}
 use Rattle.std.specs.List.{AllByRecursion, ends_with, list_all, prefix_len}
 use Rattle.std.proofs.Common.{drop_of_length-le}
@@ -12,12 +12,12 @@ use Rattle.starlark_grammar.specs.Words.{Text, class_in, language}
 use Rattle.starlark_grammar.specs.Front.{longest_front}
 use Rattle.starlark_grammar.specs.Tokens as grammar
 use Rattle.starlark_grammar.specs.Tokens.{Lexeme, Outcome, Spanned, moved}
-use Rattle.starlark_grammar.specs.Depths.{Mode, is_balanced, mode_after}
-use Rattle.starlark_grammar.specs.Margins.{comment_lines, fits, has_tab, is_comment_only, is_content, lines, margin_of, open_widths, width_of}
+use Rattle.starlark_grammar.specs.Depths.{is_balanced, mode_after}
+use Rattle.starlark_grammar.specs.Margins.{fits, has_tab, is_comment_only, is_content, lines, margin_of, open_widths, width_of}
 use Rattle.starlark_grammar.specs.Pieces.{Ends, Fails, Piece, Stands, counts, first_margin, line_end, margin_step}
 use Rattle.starlark_grammar.specs.Reading.{History, after, after_all, lexemes_along, next_step, nothing, outcome, pieces_len, read, situation}
 use Rattle.starlark_grammar.specs.Longest.{IsReading}
-use Rattle.starlark_grammar.specs.Cuts.{is_clean_cut, is_layout, is_outside, without_closing}
+use Rattle.starlark_grammar.specs.Cuts.{is_clean_cut, is_layout, without_closing}
 use Rattle.starlark_grammar.proofs.Lists.{drop-sum}
 use Rattle.starlark_grammar.proofs.Words.Fronts.{front_sound}
 use Rattle.starlark_grammar.proofs.Order.OrderedLexemes.{Split, first_line}
@@ -38,7 +38,7 @@ use Rattle.starlark_reader.specs.Inner.Pending.{IsPending, lines_between, pendin
 use Rattle.starlark_reader.specs.Inner.Reader.{IsReadTo, remaining_outcome}
 use Rattle.starlark_reader.specs.declared.pending.Pending.{Pending}
 use Rattle.starlark_reader.proofs.TakenMargins.Pending.{margin_lines}
-use Rattle.starlark_reader.proofs.TakenPieces.Onward.{first_stands, margin_first, onward_stands}
+use Rattle.starlark_reader.proofs.TakenPieces.Onward.{GoesOn, first_stands, margin_first, onward_stands}
 
 -- Readings
 
@@ -60,25 +60,23 @@ read_first text next piece stands is = record {
 
 -- Lexemes that were read, and those that are left
 
+-- with one more piece before others
+along_step : (history : History) (at : ℕ) (text : Text) (piece : Piece) (pieces : List Piece) (whole : Outcome) → GoesOn at piece whole (remaining_outcome (after history piece) (at + piece.len) (drop piece.len text))
+    → length (remaining_outcome (after history piece) (at + piece.len) (drop piece.len text)).lexemes
+    ≡ length (lexemes_along (at + piece.len) pieces) + length (remaining_outcome (after_all (after history piece) pieces) (at + piece.len + pieces_len pieces) (drop (pieces_len pieces) (drop piece.len text))).lexemes
+    → length whole.lexemes ≡ length (lexemes_along at (piece ∷ pieces)) + length (remaining_outcome (after_all history (piece ∷ pieces)) (at + pieces_len (piece ∷ pieces)) (drop (pieces_len (piece ∷ pieces)) text)).lexemes
+along_step history at text piece pieces whole goes more =
+    let total = sum_by-cons (λ (piece : Piece). piece.len) piece pieces in
+    let place : at + pieces_len (piece ∷ pieces) ≡ at + piece.len + pieces_len pieces = omega (arith, total) in
+    let left : drop (pieces_len (piece ∷ pieces)) text ≡ drop (pieces_len pieces) (drop piece.len text) = ap (λ n. drop n text) total ∙ drop-sum piece.len (pieces_len pieces) text in
+    rw (place, left) (omega (arith, more, ap length goes.lexemes, length-append (map (moved at) piece.lexemes) (remaining_outcome (after history piece) (at + piece.len) (drop piece.len text)).lexemes, length-append (map (moved at) piece.lexemes) (lexemes_along (at + piece.len) pieces)))
+
 along_rest : (history : History) (at : ℕ) (text : Text) (pieces : List Piece) → is_nothing history.before ≡ false → IsReading language history text pieces
     → length (remaining_outcome history at text).lexemes ≡ length (lexemes_along at pieces) + length (remaining_outcome (after_all history pieces) (at + pieces_len pieces) (drop (pieces_len pieces) text)).lexemes
 along_rest history at text [] begun reads = let same : at + 0 ≡ at = omega arith in omega (arith, ap (λ n. length (remaining_outcome history n text).lexemes) same)
 along_rest history at text (piece ∷ pieces) begun reads =
-    let goes = onward_stands history at text piece begun reads.0 in
-    let more = along_rest (after history piece) (at + piece.len) (drop piece.len text) pieces (started history piece (piece_fits language history text piece reads.0).sort) reads.1 in
-    let total : pieces_len (piece ∷ pieces) ≡ piece.len + pieces_len pieces = sum_by-cons (λ (piece : Piece). piece.len) piece pieces in
-    let place : at + pieces_len (piece ∷ pieces) ≡ at + piece.len + pieces_len pieces = omega (arith, total) in
-    let left : drop (pieces_len (piece ∷ pieces)) text ≡ drop (pieces_len pieces) (drop piece.len text) = ap (λ n. drop n text) total ∙ drop-sum piece.len (pieces_len pieces) text in
-    let rest : remaining_outcome (after_all (after history piece) pieces) (at + pieces_len (piece ∷ pieces)) (drop (pieces_len (piece ∷ pieces)) text) ≡ remaining_outcome (after_all (after history piece) pieces) (at + piece.len + pieces_len pieces) (drop (pieces_len pieces) (drop piece.len text)) =
-    ap (λ n. remaining_outcome (after_all (after history piece) pieces) n (drop (pieces_len (piece ∷ pieces)) text)) place ∙ ap (remaining_outcome (after_all (after history piece) pieces) (at + piece.len + pieces_len pieces)) left in
-    omega (
-      arith,
-      ap length goes.lexemes,
-      length-append (map (moved at) piece.lexemes) (remaining_outcome (after history piece) (at + piece.len) (drop piece.len text)).lexemes,
-      more,
-      length-append (map (moved at) piece.lexemes) (lexemes_along (at + piece.len) pieces),
-      ap (λ (o : Outcome). length o.lexemes) rest,
-    )
+    along_step history at text piece pieces (remaining_outcome history at text) (onward_stands history at text piece begun reads.0)
+    (along_rest (after history piece) (at + piece.len) (drop piece.len text) pieces (started history piece (piece_fits language history text piece reads.0).sort) reads.1)
 
 -- the number of all lexemes of a text, by the pieces up to an offset
 all_lexemes : (text : Text) (history : History) (at : ℕ) (read : IsReadTo text history at) → is_nothing history.before ≡ false → length (outcome text).lexemes ≡ length (lexemes_along 0 read.pieces) + length (remaining_outcome history at (drop at text)).lexemes
@@ -90,45 +88,26 @@ all_lexemes text history at read begun =
     go : (pieces : List Piece) → IsReading language nothing text pieces → after_all nothing pieces ≡ history → length (outcome text).lexemes ≡ length (lexemes_along 0 pieces) + length (remaining_outcome (after_all nothing pieces) (pieces_len pieces) (drop (pieces_len pieces) text)).lexemes
     go [] reads same = let both : true ≡ false = ap (λ (h : History). is_nothing h.before) same ∙ begun in cc
     go (piece ∷ pieces) reads same =
-        let goes = first_stands text piece (sym (margin_first text) ∙ reads.0) in
-        let more = along_rest (after nothing piece) (0 + piece.len) (drop piece.len text) pieces (started nothing piece (piece_fits language nothing text piece reads.0).sort) reads.1 in
-        let total : pieces_len (piece ∷ pieces) ≡ piece.len + pieces_len pieces = sum_by-cons (λ (piece : Piece). piece.len) piece pieces in
-        let place : pieces_len (piece ∷ pieces) ≡ 0 + piece.len + pieces_len pieces = omega (arith, total) in
-        let left : drop (pieces_len (piece ∷ pieces)) text ≡ drop (pieces_len pieces) (drop piece.len text) = ap (λ n. drop n text) total ∙ drop-sum piece.len (pieces_len pieces) text in
-        let rest : remaining_outcome (after_all (after nothing piece) pieces) (pieces_len (piece ∷ pieces)) (drop (pieces_len (piece ∷ pieces)) text) ≡ remaining_outcome (after_all (after nothing piece) pieces) (0 + piece.len + pieces_len pieces) (drop (pieces_len pieces) (drop piece.len text)) =
-        ap (λ n. remaining_outcome (after_all (after nothing piece) pieces) n (drop (pieces_len (piece ∷ pieces)) text)) place ∙ ap (remaining_outcome (after_all (after nothing piece) pieces) (0 + piece.len + pieces_len pieces)) left in
-        omega (
-          arith,
-          ap length goes.lexemes,
-          length-append (map (moved 0) piece.lexemes) (remaining_outcome (after nothing piece) (0 + piece.len) (drop piece.len text)).lexemes,
-          more,
-          length-append (map (moved 0) piece.lexemes) (lexemes_along (0 + piece.len) pieces),
-          ap (λ (o : Outcome). length o.lexemes) rest,
-        )
+        let rest = along_rest (after nothing piece) (0 + piece.len) (drop piece.len text) pieces (started nothing piece (piece_fits language nothing text piece reads.0).sort) reads.1 in
+        along_step nothing 0 text piece pieces (outcome text) (first_stands text piece (sym (margin_first text) ∙ reads.0)) rest ∙ rw (zero-add (pieces_len (piece ∷ pieces))) refl
 
 -- Margins
 
 -- the comment-only lines of a margin are the first lines from its start on
 lines_ahead : (text : Text) (begin : ℕ) (levels : List ℕ) (pending : Pending) → IsOfMargin begin (margin_of (drop begin text)).at levels pending
     → lines (drop pending.from text) ≡ lines_between text pending.from pending.to ++ drop (prefix_len is_comment_only (lines (drop begin text))) (lines (drop begin text))
-lines_ahead text begin levels pending of =
-    ap (λ n. lines (drop n text)) of.from
-    ∙ sym (take-append-drop (prefix_len is_comment_only (lines (drop begin text))) (lines (drop begin text)))
-    ∙ ap (λ (ls : List Text). ls ++ drop (prefix_len is_comment_only (lines (drop begin text))) (lines (drop begin text)))
-    (sym (margin_lines text begin (margin_of (drop begin text)).at refl) ∙ ap (λ n. lines_between text n (begin + (margin_of (drop begin text)).at)) (sym of.from) ∙ ap (lines_between text pending.from) (sym of.to))
+lines_ahead text begin levels pending of = search (rules, take-append-drop, margin_lines)
 
 -- The text's first margin was taken.
 pub first_ahead_cut : (text : Text) (levels : List ℕ) (piece : Piece) (pending : Pending) → first_margin text ≡ Stands piece → IsOfMargin 0 (margin_of (drop 0 text)).at levels pending → map (moved 0) piece.lexemes ≡ pending_lexemes text pending
     → IsMarginAhead text pending (length (pending_lexemes text pending) + length (remaining_outcome (after nothing piece) (0 + piece.len) (drop piece.len text)).lexemes)
 first_ahead_cut text levels piece pending stands of lexemes =
     let goes = first_stands text piece stands in
-    let len = margin_step_len 0 [] [] (margin_of text) piece stands in
-    let reach = reading_reach text (piece ∷ []) (margin_first text ∙ stands, tt) in
     record {
       before = 0;
       more = drop (prefix_len is_comment_only (lines (drop 0 text))) (lines (drop 0 text));
       lines_left = lines_ahead text 0 levels pending of;
-      reach = omega (arith, of.to, len, reach, sum_by-cons (λ (piece : Piece). piece.len) piece []);
+      reach = omega (arith, of.to, margin_step_len 0 [] [] (margin_of text) piece stands, reading_reach text (piece ∷ []) (margin_first text ∙ stands, tt), sum_by-cons (λ (piece : Piece). piece.len) piece []);
       known = inl (of.from, refl);
       count = omega (arith, ap length goes.lexemes, length-append (map (moved 0) piece.lexemes) (remaining_outcome (after nothing piece) (0 + piece.len) (drop piece.len text)).lexemes, ap length lexemes);
     }
@@ -155,8 +134,7 @@ module _ (text : Text) (history : History) (at len : ℕ) (piece : Piece) (read 
   same_len =
       let here = newline_first len (open_widths history.widths) (drop (at + len) text) piece is in
       let there = newline_first (length (take counted.len (drop at text))) (situation history).levels (drop counted.len (drop at text)) piece counted.stands in
-      let inside = front_sound (class_in language) (drop at text) class.LineEnd counted.len counted.front in
-      omega (arith, length-take-le counted.len (drop at text) inside.1, first_end _ _ _ _ (sym here.1 ∙ there.1))
+      omega (arith, length-take-le counted.len (drop at text) (front_sound (class_in language) (drop at text) class.LineEnd counted.len counted.front).1, first_end _ _ _ _ (sym here.1 ∙ there.1))
     where
       end_of : List Lexeme → ℕ
       end_of [] = 0
@@ -177,26 +155,17 @@ module _ (text : Text) (history : History) (at len : ℕ) (piece : Piece) (read 
 
   flat_there : IsFlat (after_all nothing read.pieces)
   unfolding mode_after
-  flat_there =
-      let place = outside (mode_after (after_all nothing read.pieces).tokens) (is_balanced (after_all nothing read.pieces).tokens) counts_there in
-      record {
-        none_open = outside_none _ (ap is_outside place);
-        balanced = subst (λ (m : Mode). counts m (is_balanced (after_all nothing read.pieces).tokens) ≡ true) place counts_there;
-        no_width = ap (λ (h : History). open_widths h.widths) read.is_history ∙ flat;
-      }
+  flat_there = search (rules, outside, counts_there, outside_none)
 
   line_inside : (1 ≤ len) × (at + len ≤ length text)
-  line_inside =
-      let sound = front_sound (class_in language) (drop at text) class.LineEnd len front_here in
-      (omega (arith, sound.0), omega (arith, sound.0, sound.1, length-drop at text))
+  line_inside = search (rules, front_sound, front_here, length-drop)
 
   front_text : take (at + len) text ≡ take at text ++ take len (drop at text)
   front_text = take-add at len text
 
   no_lines : drop len (drop (pieces_len read.pieces) (take (at + len) text)) ≡ []
   no_lines =
-      let inside = line_inside.1 in
-      drop_of_length-le (drop (pieces_len read.pieces) (take (at + len) text)) (omega (arith, read.reach, inside, length-drop (pieces_len read.pieces) (take (at + len) text), length-take-le (at + len) text inside))
+      drop_of_length-le (drop (pieces_len read.pieces) (take (at + len) text)) (omega (arith, read.reach, line_inside.1, length-drop (pieces_len read.pieces) (take (at + len) text), length-take-le (at + len) text line_inside.1))
 
   laid : IsLaid text (at + len)
   unfolding lines
@@ -228,12 +197,11 @@ module _ (text : Text) (history : History) (at len : ℕ) (piece : Piece) (read 
       let goes = onward_stands history at (drop at text) piece begun stands in
       let whole = margin_step_len len (record { begin = 0; node = grammar.Newline; end = len } ∷ []) (open_widths history.widths) (margin_of (drop (at + len) text)) piece is in
       let more = read_more text history at (at + piece.len) piece read stands refl in
-      let reach = reading_reach text more.pieces more.reads in
       record {
         before = length (lexemes_along 0 read.pieces) + 1;
         more = drop (prefix_len is_comment_only (lines (drop (at + len) text))) (lines (drop (at + len) text));
         lines_left = lines_ahead text (at + len) levels pending of;
-        reach = omega (arith, of.to, whole, reach, more.reach);
+        reach = omega (arith, of.to, whole, reading_reach text more.pieces more.reads, more.reach);
         known = inr (ap (λ n. is_clean_cut (take n text)) of.from ∙ laid_clean text (at + len) laid, ap (lexemes_before text) of.from ∙ lexemes_there);
         count = omega (arith, all, ap length goes.lexemes, length-append (map (moved at) piece.lexemes) (remaining_outcome (after history piece) (at + piece.len) (drop piece.len (drop at text))).lexemes, ap length lexemes);
       }
@@ -241,11 +209,10 @@ module _ (text : Text) (history : History) (at len : ℕ) (piece : Piece) (read 
 -- one of the pending lines was passed
 pub passed_cut : (text : Text) (old new : Pending) (ahead : ℕ) → IsPending text old → IsPassedLine text old new → new.from < length text → IsMarginAhead text old (suc ahead) → IsMarginAhead text new ahead
 passed_cut text old new ahead is passed inside at =
-    let cut = split in
     record {
       before = at.before + 1;
       more = at.more;
-      lines_left = ap lines (sym remainder) ∙ cut.left;
+      lines_left = ap lines (sym remainder) ∙ split.left;
       reach = omega (arith, passed.to, at.reach);
       known = inr (known at.known);
       count = omega (arith, at.count);
@@ -311,10 +278,9 @@ cut_of_piece text history at piece read begun stands x remainder is least most =
     let parts = kept_parts text x is.is_kept in
     let here = ap (λ (h : History). next_step language h (drop (pieces_len read.pieces) text)) read.is_history ∙ ap (λ n. next_step language history (drop n text)) read.reach ∙ stands in
     let whole = length-append (map (moved at) piece.lexemes) (left_over text history at piece).lexemes in
-    let count = is.count in
     cut_in text x read.pieces piece parts.1 parts.0 read.reads here
-    (omega (arith, all, ap length goes.lexemes, whole, length-map piece.lexemes (moved at), count, most))
-    (omega (arith, all, ap length goes.lexemes, whole, length-map piece.lexemes (moved at), count, least))
+    (omega (arith, all, ap length goes.lexemes, whole, length-map piece.lexemes (moved at), is.count, most))
+    (omega (arith, all, ap length goes.lexemes, whole, length-map piece.lexemes (moved at), is.count, least))
 
 -- a cut is in a text's first margin if fewer lexemes are after it than in the text, and no fewer
 -- than after the margin
@@ -324,24 +290,14 @@ cut_of_first text piece stands x remainder is least most =
     let goes = first_stands text piece stands in
     let parts = kept_parts text x is.is_kept in
     let whole = length-append (map (moved 0) piece.lexemes) (left_over text nothing 0 piece).lexemes in
-    let count = is.count in
     cut_in text x [] piece parts.1 parts.0 tt (margin_first text ∙ stands)
-    (omega (arith, ap length goes.lexemes, whole, length-map piece.lexemes (moved 0), count, most))
-    (omega (arith, ap length goes.lexemes, whole, length-map piece.lexemes (moved 0), count, least))
+    (omega (arith, ap length goes.lexemes, whole, length-map piece.lexemes (moved 0), is.count, most))
+    (omega (arith, ap length goes.lexemes, whole, length-map piece.lexemes (moved 0), is.count, least))
 
 -- the lines of a margin are the pending ones
 lines_ahead_of : (text : Text) (x remainder ahead : ℕ) (pieces : List Piece) (n line begin : ℕ) (levels : List ℕ) (pending : Pending) (found : HasPassed text x pieces n line) → IsOfMargin begin (margin_of (drop begin text)).at levels pending
     → pieces_len pieces + n ≡ begin → remainder + found.passed ≡ ahead → IsAfterLines text pending x remainder ahead
-lines_ahead_of text x remainder ahead pieces n line begin levels pending found of place count =
-    let left : drop n (drop (pieces_len pieces) text) ≡ drop begin text = sym (drop-sum (pieces_len pieces) n text) ∙ ap (λ k. drop k text) place in
-    let lines : lines_between text pending.from pending.to ≡ comment_lines (drop n (drop (pieces_len pieces) text)) =
-    ap (λ k. lines_between text k pending.to) of.from ∙ ap (lines_between text begin) of.to ∙ margin_lines text begin (margin_of (drop begin text)).at refl ∙ ap comment_lines (sym left) in
-    record {
-      passed = found.passed;
-      few = omega (arith, found.few, ap length lines);
-      place = omega (arith, found.place, place, of.from, ap (λ (ls : List Text). lines_sum (take found.passed ls)) lines);
-      count = count;
-    }
+lines_ahead_of text x remainder ahead pieces n line begin levels pending found of place count = search (rules, drop-sum, margin_lines, lines_sum)
 
 module _ (text : Text) (history : History) (at len : ℕ) (piece : Piece) (read : IsReadTo text history at) (begun : is_nothing history.before ≡ false) (stands : next_step language history (drop at text) ≡ Stands piece)
     (is : line_end len (open_widths history.widths) (drop (at + len) text) ≡ Stands piece) (layout : is_layout piece.sort ≡ true) where
@@ -361,20 +317,15 @@ module _ (text : Text) (history : History) (at len : ℕ) (piece : Piece) (read 
 
       count_of : (passed : ℕ) → lexemes_before text x ≡ length (lexemes_along 0 read.pieces) + (1 + passed) → remainder + passed ≡ length (pending_lexemes text pending) + length (left_over text history at piece).lexemes
       count_of passed before =
-          let all = all_lexemes text history at read begun in
           let goes = onward_stands history at (drop at text) piece begun stands in
-          let whole = length-append (map (moved at) piece.lexemes) (left_over text history at piece).lexemes in
-          let count = cut.count in
-          omega (arith, all, ap length goes.lexemes, whole, count, before, ap length lexemes)
+          omega (arith, all_lexemes text history at read begun, ap length goes.lexemes, length-append (map (moved at) piece.lexemes) (left_over text history at piece).lexemes, cut.count, before, ap length lexemes)
 
       by : open_widths history.widths ≡ [] → (n : ℕ) (margin : MarginAt text read.pieces n) → HasPassed text x read.pieces n (line_count margin) → IsAfterLines text pending x remainder (length (pending_lexemes text pending) + length (left_over text history at piece).lexemes)
       by flat n (First none zero_len) found = let both : true ≡ false = ap (λ (ps : List Piece). is_nothing (after_all nothing ps).before) (sym none) ∙ ap (λ (h : History). is_nothing h.before) read.is_history ∙ begun in cc
       by flat n (AfterComments started counted front) found =
           let here = front_here text history at len piece read begun stands is layout flat in
           let there : longest_front (class_in language) (drop at text) ≡ Some (class.LineEnd, n) = ap (λ k. longest_front (class_in language) (drop k text)) (sym read.reach) ∙ front in
-          let both : Some (class.LineEnd, n) ≡ Some (class.LineEnd, len) = sym there ∙ here in
-          let same : n ≡ len = ap len_of both in
-          lines_ahead_of text x remainder _ read.pieces n 1 (at + len) levels pending found of (omega (arith, read.reach, same)) (count_of found.passed found.count)
+          lines_ahead_of text x remainder _ read.pieces n 1 (at + len) levels pending found of (omega (arith, read.reach, ap len_of (sym there ∙ here))) (count_of found.passed found.count)
 
 -- a cut in the first margin of the text
 pub first_cut : (text : Text) (levels : List ℕ) (piece : Piece) (pending : Pending) → first_margin text ≡ Stands piece → IsOfMargin 0 (margin_of (drop 0 text)).at levels pending → map (moved 0) piece.lexemes ≡ pending_lexemes text pending
@@ -386,28 +337,22 @@ first_cut text levels piece pending stands of lexemes x remainder cut least most
   where
     by : (n : ℕ) (margin : MarginAt text [] n) → HasPassed text x [] n (line_count margin) → IsAfterLines text pending x remainder (length (pending_lexemes text pending) + length (left_over text nothing 0 piece).lexemes)
     by n (First none zero_len) found =
-        let goes = first_stands text piece stands in
         let whole = length-append (map (moved 0) piece.lexemes) (left_over text nothing 0 piece).lexemes in
-        let count = cut.count in
-        lines_ahead_of text x remainder _ [] n 0 0 levels pending found of (omega (arith, zero_len)) (omega (arith, ap length goes.lexemes, whole, count, found.count, ap length lexemes))
+        lines_ahead_of text x remainder _ [] n 0 0 levels pending found of (omega (arith, zero_len)) (omega (arith, ap length (first_stands text piece stands).lexemes, whole, cut.count, found.count, ap length lexemes))
     by n (AfterComments started counted front) found = cc
 
 -- no cut is after the lexemes of all pieces
 pub none_at_end : (text : Text) (history : History) (at : ℕ) (read : IsReadTo text history at) → is_nothing history.before ≡ false → next_step language history (drop at text) ≡ Ends
     → (x remainder : ℕ) → IsCutBefore text x remainder → remainder < length (remaining_outcome history at (drop at text)).lexemes → ⊥
 none_at_end text history at read begun ends x remainder is most =
-    let all = all_lexemes text history at read begun in
     let parts = kept_parts text x is.is_kept in
     let here = ap (λ (h : History). next_step language h (drop (pieces_len read.pieces) text)) read.is_history ∙ ap (λ n. next_step language history (drop n text)) read.reach ∙ ends in
     let same = one_longest language nothing text _ _ _ _ (read_is language text) (record { reads = read.reads; stands_last = here; no_piece = λ piece e. let both : Ends ≡ Stands piece = e in cc }) in
-    let few = cut_few text x parts.1 parts.0 in
-    let count = is.count in
-    omega (arith, all, count, most, few, ap (λ (ps : List Piece). length (lexemes_along 0 ps)) same.0)
+    omega (arith, all_lexemes text history at read begun, is.count, most, cut_few text x parts.1 parts.0, ap (λ (ps : List Piece). length (lexemes_along 0 ps)) same.0)
 
 -- no cut is in a text whose first margin has a fault
 pub none_at_fault : (text : Text) (fault : Spanned grammar.Fault) → first_margin text ≡ Fails fault → (x remainder : ℕ) → IsCutBefore text x remainder → ⊥
 none_at_fault text fault fails x remainder is =
     let parts = kept_parts text x is.is_kept in
     let none = one_longest language nothing text _ _ _ _ (read_is language text) (stops_here language nothing text (Fails fault) (margin_first text ∙ fails) (λ piece e. let both : Fails fault ≡ Stands piece = e in cc)) in
-    let some : 0 < length (take x text) = ends_some (take x text) (cut (take x text) parts.1).ends in
-    omega (arith, parts.0, ap pieces_len none.0, some, length-take x text)
+    omega (arith, parts.0, ap pieces_len none.0, ends_some (take x text) (cut (take x text) parts.1).ends, length-take x text)

@@ -1,11 +1,11 @@
 -- Lexing begins again after a margin that is a fault, and its reads.
-use Rattle.std.proofs.Common.{◌≡◌, ℕ, zero, suc, ◌+◌, ◌-◌, ◌*◌, ◌<◌, ◌≤◌, ◌∙◌, ◌==◌, ◌&&◌, ◌||◌, ◌⊎◌, inl, inr, Bool, true, false, [], ◌∷◌, length, drop, nat_eq, refl, ap, sym, subst, arith}
-use Rattle.std.proofs.lemmas.Bool.{eqb-true}
+use Rattle.std.proofs.Common.{◌≡◌, ℕ, zero, suc, ◌+◌, ◌-◌, ◌*◌, ◌<◌, ◌≤◌, ◌∙◌, ◌==◌, ◌&&◌, ◌||◌, ◌⊎◌, inl, inr, Bool, true, false, [], ◌∷◌, length, drop, nat_eq, refl, ap, sym, subst, arith, rules}
+use Rattle.std.proofs.lemmas.Bool.{eqb-true, or_right}
 use Rattle.std.proofs.lemmas.Bool.Decides.{nat_tests}
 use Rattle.std.proofs.lemmas.List.Folds.{length-prefix_len}
 use Rattle.std.specs.List.{list_any, starts_with}
 use Rattle.std.specs.Prelude.{codes, if◌then◌else◌, not}
-use Rattle.starlark_grammar.specs.AfterFaults.{is_margin_tab, is_tab, line_end_len, margin_line, next_line, restart, stopped_at}
+use Rattle.starlark_grammar.specs.AfterFaults.{is_margin_tab, is_tab, line_end_len, margin_line, next_line, restart}
 use Rattle.starlark_grammar.specs.Margins.{begins_with_line_end, blanks_len, has_tab, is_blank, is_lf, lines, margin_len, margin_of}
 use Rattle.starlark_grammar.specs.Inner.KeptFaults.{may_keep}
 use Rattle.starlark_grammar.specs.Margins as grammar
@@ -35,9 +35,7 @@ blanks_in_line : (text : Text) → length (margin_of text).blanks ≤ next_line 
 unfolding margin_of
 blanks_in_line text =
     let line = drop (margin_of text).at text in
-    let len : length (margin_of text).blanks ≡ blanks_len line = length-prefix_len is_blank line in
-    let inside = first_line line (blanks_len line) (longer_run is_blank (λ b. not (is_lf b)) blank_in_line line) in
-    omega (arith, len, inside)
+    omega (arith, length-prefix_len is_blank line, first_line line (blanks_len line) (longer_run is_blank (λ b. not (is_lf b)) blank_in_line line))
 
 -- where a margin begins after an offset, its blanks are before the line after its last
 last_line : (text : Text) (from : ℕ) → from + margin_len (margin_of (drop from text)) ≤ length text → from + margin_len (margin_of (drop from text)) ≤ next_line text (from + (margin_of (drop from text)).at)
@@ -60,18 +58,14 @@ none_before [] some = absurd (omega (arith, some))
 none_before (b ∷ bs) some = by (nat_eq 10 b) refl (nat_eq 13 b) refl bs some
   where
     returned : (c : ℕ) (cs : Text) (feed : Bool) → nat_eq 13 b ≡ true → nat_eq 10 c ≡ feed → 0 < (if feed && true then 2 else 0) → (margin_of (b ∷ c ∷ cs)).at ≡ 0
-    returned c cs true f g some =
-        let first : 13 ≡ b = eqb-true 13 b f in
-        let second : 10 ≡ c = eqb-true 10 c g in
-        subst (λ x. (margin_of (x ∷ c ∷ cs)).at ≡ 0) first (subst (λ x. (margin_of (13 ∷ x ∷ cs)).at ≡ 0) second (return_none cs))
+    returned c cs true f g some = subst (λ x. (margin_of (x ∷ c ∷ cs)).at ≡ 0) (eqb-true 13 b f) (subst (λ x. (margin_of (13 ∷ x ∷ cs)).at ≡ 0) (eqb-true 10 c g) (return_none cs))
     returned c cs false f g some = absurd (omega (arith, some))
 
     by : (feed : Bool) → nat_eq 10 b ≡ feed → (return : Bool) → nat_eq 13 b ≡ return → (bs : Text)
         → 0 < (if feed && true then 1 else (if return && starts_with nat_eq bs (10 ∷ []) then 2 else 0)) → (margin_of (b ∷ bs)).at ≡ 0
     by true e return f bs some = let same : 10 ≡ b = eqb-true 10 b e in subst (λ x. (margin_of (x ∷ bs)).at ≡ 0) same (feed_none bs)
-    by false e true f [] some = absurd (omega (arith, some))
     by false e true f (c ∷ cs) some = returned c cs (nat_eq 10 c) f refl some
-    by false e false f bs some = absurd (omega (arith, some))
+    by false e return f bs some = absurd (omega (arith, some))
 
 -- the last line of a text's first margin
 first_last : (text : Text) → (margin_of text).at ≤ margin_line text (line_end_len text)
@@ -86,9 +80,8 @@ line_end_begins : (text : Text) → 0 < line_end_len text → begins_with_line_e
 line_end_begins text some = by (starts_with nat_eq text (codes "\n")) (starts_with nat_eq text (codes "\r\n")) some
   where
     by : (one two : Bool) → 0 < (if one then 1 else (if two then 2 else 0)) → (one || two) ≡ true
-    by true two some = refl
-    by false true some = refl
     by false false some = absurd (omega (arith, some))
+    by one two some = refl
 
 -- a margin is at the start of the text, or after a line end
 abbrev pub IsMarginAt : Text → ℕ → ℕ → Type 0
@@ -98,19 +91,13 @@ IsMarginAt text begin len = ((begin ≡ 0) × (len ≡ 0)) ⊎ IsLineEnd len (dr
 tab_there : (text : Text) (begin len end : ℕ) (node : Fault) → IsMarginAt text begin len → node ≡ InvalidTab → is_margin_tab text (record { begin = begin; node = node; end = end }) ≡ true
 tab_there text begin len end node there tab = rw tab (by there)
   where
-    or_true : (x : Bool) → (x || true) ≡ true
-    or_true true = refl
-    or_true false = refl
-
     by : IsMarginAt text begin len → (begin == 0 || begins_with_line_end (drop begin text)) ≡ true
     by (inl start) = rw (start.0) refl
-    by (inr is) = rw (line_end_begins (drop begin text) (omega (arith, is.0, is.1))) (or_true (begin == 0))
+    by (inr is) = rw (line_end_begins (drop begin text) (omega (arith, is.0, is.1))) (or_right (begin == 0) true refl)
 
 -- its last line
 start_last : (text : Text) → 0 + 0 + (margin_of (drop (0 + 0) text)).at ≤ margin_line text (0 + line_end_len (drop 0 text))
-start_last text =
-    let none : line_end_len text ≡ 0 + line_end_len text = omega arith in
-    subst (λ n. 0 + 0 + (margin_of text).at ≤ margin_line text n) none (omega (arith, first_last text))
+start_last text = search (rules, first_last)
 
 last_there : (text : Text) (begin len : ℕ) → IsMarginAt text begin len → begin + len + (margin_of (drop (begin + len) text)).at ≤ margin_line text (begin + line_end_len (drop begin text))
 last_there text begin len (inl start) = rw (start.0, start.1) (start_last text)
@@ -143,8 +130,7 @@ margin_search : (text : Text) (begin len end : ℕ) (margin : Margin) (fault : L
     → IsMargin (margin_of (drop (begin + len) text)) margin → IsFaultFound (margin_fault len (margin_of (drop (begin + len) text))) (fault, end)
     → AtFault begin fault (begin + end) (MarginSearch text begin len margin)
 margin_search text begin len end margin fault there inside is found = λ node view.
-    let same : node ≡ found.0 = cc (view, found.1) in
-    by node same (has_tab (margin_of (drop (begin + len) text))) refl found.2
+    by node (cc (view, found.1)) (has_tab (margin_of (drop (begin + len) text))) refl found.2
   where
     seen : grammar.Margin
     seen = margin_of (drop (begin + len) text)
@@ -157,23 +143,16 @@ margin_search text begin len end margin fault there inside is found = λ node vi
     by node same true e fails =
         let spanned : Spanned Fault = record { begin = begin; node = node; end = begin + end } in
         let tab : node ≡ InvalidTab = same ∙ sym (ap fails_with fails) in
-        let blanks = last_line text (begin + len) (omega (arith, whole, inside)) in
         let line = next_line_later text (begin + len + seen.at) (margin_line text (begin + line_end_len (drop begin text))) (last_there text begin len there) in
         let in_margin = tab_there text begin len (begin + end) node there tab in
-        let after = restart_margin text spanned in_margin in
-        let least : begin + len + (margin.at + margin.blanks.len) ≤ restart text spanned = omega (arith, whole, blanks, line, after) in
-        let some : 1 ≤ margin.blanks.len = omega (arith, some_blank seen.blanks e, is.blanks.len) in
-        let search = tab_search text spanned (ap is_tab tab) in
-        record { after = least; reads = omega (arith, least, some, search); keeps_none = λ keeps. in_margin }
+        let least : begin + len + (margin.at + margin.blanks.len) ≤ restart text spanned = omega (arith, whole, last_line text (begin + len) (omega (arith, whole, inside)), line, restart_margin text spanned in_margin) in
+        record { after = least; reads = omega (arith, least, some_blank seen.blanks e, is.blanks.len, tab_search text spanned (ap is_tab tab)); keeps_none = λ keeps. in_margin }
     by node same false e fails =
         let spanned : Spanned Fault = record { begin = begin; node = node; end = begin + end } in
         let other : node ≡ Indentation = same ∙ sym (ap fails_with fails) in
         let last : end ≡ len + margin_len seen = sym (ap fails_to fails) in
-        let after = restart_end text spanned (omega (arith, last, whole, inside)) in
-        let least : begin + len + (margin.at + margin.blanks.len) ≤ restart text spanned = omega (arith, last, whole, after) in
-        let stopped : begin + end - 1 ≤ stopped_at text spanned = stopped_end text spanned in
-        let search = other_search text spanned (ap is_tab other) in
-        record { after = least; reads = omega (arith, least, last, whole, stopped, search); keeps_none = λ keeps. absurd (never_kept (sym (ap may_keep other) ∙ keeps)) }
+        let least : begin + len + (margin.at + margin.blanks.len) ≤ restart text spanned = omega (arith, last, whole, restart_end text spanned (omega (arith, last, whole, inside))) in
+        record { after = least; reads = omega (arith, least, last, whole, stopped_end text spanned, other_search text spanned (ap is_tab other)); keeps_none = λ keeps. absurd (never_kept (sym (ap may_keep other) ∙ keeps)) }
 
 -- the reads at the fault of a margin after a newline
 pub refused_reads : (text : Text) (len end : ℕ) (margin : Margin) (fault : LexemeError) (old new : Reader) → IsLineEnd len (drop old.at text) → old.at + len + (margin.at + margin.blanks.len) ≤ length text
@@ -181,8 +160,7 @@ pub refused_reads : (text : Text) (len end : ℕ) (margin : Margin) (fault : Lex
     → AreReads 0 (5 * margin.at + margin.blanks.len + 2) old.reads new.reads → owed new.pending ≡ 0 → IsMarginRead text len old new new.stage
 refused_reads text len end margin fault old new there inside is found stops read none =
     let here : old.at + 0 ≡ old.at = omega arith in
-    let stage : new.stage ≡ stages.Fault old.at fault (old.at + end) = stops ∙ ap (λ at. stages.Fault at fault (old.at + end)) here in
-    subst (IsMarginRead text len old new) (sym stage) (
+    subst (IsMarginRead text len old new) (sym (stops ∙ ap (λ at. stages.Fault at fault (old.at + end)) here)) (
       refl,
       read.0,
       λ node view.
@@ -197,8 +175,7 @@ pub first_refused_reads : (text : Text) (end : ℕ) (margin : Margin) (fault : L
 first_refused_reads text end margin fault old new inside is found stops read owes has =
     let begin : old.at + 0 ≡ 0 = omega (arith, has.0) in
     let last : old.at + end ≡ 0 + end = omega (arith, has.0) in
-    let stage : new.stage ≡ stages.Fault 0 fault (0 + end) = stops ∙ ap (λ at. stages.Fault at fault (old.at + end)) begin ∙ ap (stages.Fault 0 fault) last in
-    subst (HasReadAt text new) (sym stage) (
+    subst (HasReadAt text new) (sym (stops ∙ ap (λ at. stages.Fault at fault (old.at + end)) begin ∙ ap (stages.Fault 0 fault) last)) (
       omega arith,
       λ node view.
           let search = margin_search text 0 0 end margin fault (inl (refl, refl)) (omega (arith, inside)) is found node view in

@@ -1,9 +1,9 @@
 -- What a reader yields next.
-use Rattle.std.proofs.Common.{◌≡◌, Bool, true, false, ℕ, zero, suc, ◌+◌, ◌<◌, ◌≤◌, length, length-append, take, arith, List, [], ◌∷◌, ◌++◌, map, drop, refl, sym, ap, subst, ◌∙◌, None, Some, ◌⊎◌, inl, inr}
+use Rattle.std.proofs.Common.{◌≡◌, Bool, true, false, ℕ, zero, suc, ◌+◌, ◌<◌, ◌≤◌, length, length-append, take, arith, List, [], ◌∷◌, ◌++◌, map, drop, refl, sym, ap, subst, ◌∙◌, None, Some, ◌⊎◌, inl, inr, rules}
 use Rattle.std.specs.Prelude.{Option, nat_lt, sum_by}
 use Rattle.starlark_grammar.specs.Words.{Text, language}
 use Rattle.starlark_grammar.specs.Tokens.{Fault, Lexeme, Outcome, Spanned}
-use Rattle.starlark_grammar.specs.Pieces.{Piece, Step, Stands, Fails, Ends}
+use Rattle.starlark_grammar.specs.Pieces.{Piece, Step, Fails}
 use Rattle.starlark_grammar.specs.Reading.{History, lexemes_along, outcome, outcome_in, outcome_of, read, read_from}
 use Rattle.starlark_token.specs.Lexemes.{lexeme_view, shown_lexeme}
 use Rattle.starlark_reader.specs.Inner.MarginCuts.{IsAfterLines, IsCutBefore, IsMarginAhead}
@@ -104,9 +104,7 @@ lexeme_past text old new x lexemes fault here same first lines stays ahead = (
     after_first : (at remainder : ℕ) → IsCutBefore text at remainder → length ahead.left.lexemes ≤ remainder → remainder ≤ length more → IsInFlatMargin new new.stage × IsAfterLines text new.pending at remainder (length more)
     after_first at remainder cut least most =
         let lies = ahead.cuts at remainder cut least (omega (arith, most, all)) in
-        let count = lies.1.count in
-        let some : old.pending.from < old.pending.to = lines_some text old.pending.from old.pending.to (omega (arith, count, lies.1.few, most, all)) in
-        let flat = stays some ∙ lies.0.2 in
+        let flat = stays (lines_some text old.pending.from old.pending.to (omega (arith, lies.1.count, lies.1.few, most, all))) ∙ lies.0.2 in
         let passed = lines flat in (
           (same ∙ lies.0.0, here.before ∙ lies.0.1, flat),
           after_passed text old.pending new.pending at remainder (length more) passed (subst (IsAfterLines text old.pending at remainder) all lies.1) most,
@@ -121,30 +119,11 @@ mark_next text old new (Some x) lexemes fault here same none first lines ahead =
 -- the fault is returned after the last lexeme
 pub fault_next : (text : Text) (old new : Reader) (lexemes : List (Spanned TokenView)) (fault : Option (Spanned Fault)) (begin : ℕ) (error : LexemeError) (end : ℕ) → IsHere old new → IsIdle text old.pending → old.stage ≡ stage.Fault begin error end → IsAhead text old old.stage lexemes fault
     → IsLast text lexemes fault (Some (begin, error, end)) new
-fault_next text old new lexemes fault begin error end here idle e ahead =
-    let is = same_left text old new (stage.Fault begin error end) ahead.left here (subst (λ (s : Stage). IsLeft text old s ahead.left) e ahead.is_left) in
-    let both = none_before text old old.stage lexemes fault _ idle ahead is.2 in
-    (both.0, (_, both.1, (refl, is.1, refl)), is.3, is.5)
+fault_next text old new lexemes fault begin error end here idle e ahead = search (rules, same_left, none_before)
 
 pub nothing_next : (text : Text) (old new : Reader) (lexemes : List (Spanned TokenView)) (fault : Option (Spanned Fault)) → IsHere old new → IsIdle text old.pending → new.pending ≡ old.pending → old.stage ≡ stage.Closed → new.stage ≡ stage.Closed
     → IsAhead text old old.stage lexemes fault → (lexemes ≡ []) × (fault ≡ None) × IsAhead text new new.stage [] None × IsStateAfter text (history_of text) new
-nothing_next text old new lexemes fault here idle same e e_now ahead =
-    let is = subst (λ (s : Stage). IsLeft text old s ahead.left) e ahead.is_left in
-    let kept = kept_here text (history_of text) old new here is.1 in
-    let both = none_before text old old.stage lexemes fault _ idle ahead is.0 in (
-      both.0,
-      both.1,
-      record {
-        left = record { lexemes = []; fault = None };
-        is_left = subst (λ (s : Stage). IsLeft text new s (record { lexemes = []; fault = None })) (sym e_now) (refl, kept);
-        is_pending = rw same idle.0;
-        ahead = ap (λ ls. map shown_lexeme ls ++ []) (sym (ap (pending_lexemes text) same ∙ idle.1));
-        those_after = refl;
-        cut = λ on. let over_now : stage.Closed ≡ stage.Onward = sym e_now ∙ on in cc;
-        cuts = λ x remainder cut least most. absurd (omega (arith, most));
-      },
-      kept,
-    )
+nothing_next text old new lexemes fault here idle same e e_now ahead = search (rules, kept_here, none_before)
 
 -- Something is ahead of a text that isn't read to its end.
 
@@ -153,9 +132,8 @@ some_lexeme [] y ys e = cc
 some_lexeme (x ∷ xs) y ys e = cc
 
 along_something : (history : History) (at : ℕ) (pieces : List Piece) (last : Step) → map shown_lexeme (outcome_along history at pieces last).lexemes ≡ [] → (outcome_along history at pieces last).fault ≡ None → ⊥
-along_something history at pieces (Stands piece) e none = some_lexeme (lexemes_along at pieces) _ _ e
 along_something history at pieces (Fails fault) e none = cc
-along_something history at pieces Ends e none = some_lexeme (lexemes_along at pieces) _ _ e
+along_something history at pieces last e none = some_lexeme (lexemes_along at pieces) _ _ e
 
 rest_something : (history : History) (at : ℕ) (text : Text) → map shown_lexeme (remaining_outcome history at text).lexemes ≡ [] → (remaining_outcome history at text).fault ≡ None → ⊥
 unfolding remaining_outcome
@@ -166,39 +144,19 @@ unfolding outcome outcome_in
 whole_something text e none = go (read language text).pieces (read language text).last e none
   where
     go : (pieces : List Piece) (last : Step) → map shown_lexeme (outcome_of text pieces last).lexemes ≡ [] → (outcome_of text pieces last).fault ≡ None → ⊥
-    go pieces (Stands piece) e none = some_lexeme (lexemes_along 0 pieces) _ _ e
     go pieces (Fails fault) e none = cc
-    go pieces Ends e none = some_lexeme (lexemes_along 0 pieces) _ _ e
+    go pieces last e none = some_lexeme (lexemes_along 0 pieces) _ _ e
 
 pub begin_something : (text : Text) (reader : Reader) (lexemes : List (Spanned TokenView)) (fault : Option (Spanned Fault)) → IsIdle text reader.pending → reader.stage ≡ stage.Begin → IsAhead text reader reader.stage lexemes fault → IsSomething lexemes fault
-begin_something text reader lexemes fault idle e ahead =
-    let is = subst (λ (s : Stage). IsLeft text reader s ahead.left) e ahead.is_left in
-    let both = none_before text reader reader.stage lexemes fault (outcome text) idle ahead is.0 in
-    λ empty faultless. whole_something text (sym both.0 ∙ empty) (sym both.1 ∙ faultless)
+begin_something text reader lexemes fault idle e ahead = search (rules, none_before, whole_something)
 
 pub onward_something : (text : Text) (reader : Reader) (lexemes : List (Spanned TokenView)) (fault : Option (Spanned Fault)) → IsIdle text reader.pending → reader.stage ≡ stage.Onward → IsAhead text reader reader.stage lexemes fault → IsSomething lexemes fault
-onward_something text reader lexemes fault idle e ahead =
-    let is = subst (λ (s : Stage). IsLeft text reader s ahead.left) e ahead.is_left in
-    let both = none_before text reader reader.stage lexemes fault _ idle ahead is.2 in
-    λ empty faultless. rest_something is.0 reader.at (drop reader.at text) (sym both.0 ∙ empty) (sym both.1 ∙ faultless)
-
--- something is ahead if a lexeme is pending
-pub pending_something : (text : Text) (reader : Reader) (lexemes : List (Spanned TokenView)) (fault : Option (Spanned Fault)) → (pending_lexemes text reader.pending ≡ [] → ⊥) → IsAhead text reader reader.stage lexemes fault → IsSomething lexemes fault
-pending_something text reader lexemes fault some ahead = λ empty faultless. go (pending_lexemes text reader.pending) refl (sym ahead.ahead ∙ empty)
-  where
-    go : (ls : List Lexeme) → pending_lexemes text reader.pending ≡ ls → map shown_lexeme ls ++ map shown_lexeme ahead.left.lexemes ≡ [] → ⊥
-    go [] e h = some e
-    go (l ∷ ls) e h = cc
+onward_something text reader lexemes fault idle e ahead = search (rules, none_before, rest_something)
 
 -- no lexeme is pending if none was taken
 pub none_left : (text : Text) (old : Reader) (new : Pending) (found : Option (ℕ × Token × ℕ)) → ((x : ℕ × Token × ℕ) → found ≡ Some x → ⊥) → IsFirst text old.pending new found → IsReady text old old.stage → IsIdle text old.pending × (new ≡ old.pending)
 none_left text old new None none first ready = ((ready.2.is_pending, first.0), first.1)
 none_left text old new (Some x) none first ready = absurd (none x refl)
-
--- what was ahead is still ahead
-pub ahead_now : (text : Text) (old : Reader) (new : Pending) (now : Stage) (lexemes : List (Spanned TokenView)) (fault : Option (Spanned Fault)) → new ≡ old.pending → old.stage ≡ now → IsAhead text old old.stage lexemes fault → IsAhead text (record old { pending = new }) now lexemes fault
-ahead_now text old new now lexemes fault same e ahead =
-    subst (λ (s : Stage). IsAhead text (record old { pending = new }) s lexemes fault) e (ahead_here text old (record old { pending = new }) lexemes fault (record { at = refl; nesting = refl; levels = refl; before = refl }) refl same ahead)
 
 -- all pieces are read at a fault and at the end
 pub over : (now : Stage) → ((begin : ℕ) × (error : LexemeError) × (end : ℕ) × (now ≡ stage.Fault begin error end)) ⊎ (now ≡ stage.Closed) → IsOver now
@@ -210,7 +168,6 @@ pub last_next : (text : Text) (old new : Reader) (lexemes : List (Spanned TokenV
 last_next text old new lexemes fault here idle same all none e_now ahead = by old.stage refl all
   where
     by : (now : Stage) → old.stage ≡ now → IsOver now → (lexemes ≡ []) × (fault ≡ None) × IsAhead text new new.stage [] None × IsStateAfter text (history_of text) new
-    by stage.Begin e h = absurd h
-    by stage.Onward e h = absurd h
     by (stage.Fault begin error end) e h = absurd (none begin error end e)
     by stage.Closed e h = nothing_next text old new lexemes fault here idle same e e_now ahead
+    by now e h = absurd h

@@ -1,7 +1,8 @@
 -- What a reader does with the piece at its offset.
-use Rattle.std.proofs.Common.{◌≡◌, ◌≢◌, ℕ, ◌+◌, ◌≤◌, ◌==◌, ◌&&◌, Bool, true, false, List, [], ◌∷◌, length, drop, refl, sym, ap, ◌∙◌, subst, arith, append-nil, take, None}
-use Rattle.std.specs.Prelude.{IfOk, Ok, Err, Result, Option, String, Vec, string_bytes, if◌then◌else◌}
+use Rattle.std.proofs.Common.{rules, ◌≡◌, ◌≢◌, ℕ, ◌+◌, ◌≤◌, ◌==◌, Bool, true, false, List, [], ◌∷◌, length, drop, refl, sym, ap, ◌∙◌, subst, arith, append-nil, take, None}
+use Rattle.std.specs.Prelude.{⊤, ◌++◌, IfOk, Ok, Err, Result, Option, String, Vec, string_bytes, if◌then◌else◌}
 use Rattle.std.specs.Str.{IsCharBoundary, IsUtf8}
+use Rattle.std.proofs.Math.Bool.{and-false}
 use Rattle.std.specs.declared.alloc.Global.{Global}
 use Rattle.starlark_grammar.specs.Words.{Text, language}
 use Rattle.starlark_grammar.specs.Numbers.{integer_of}
@@ -15,43 +16,45 @@ use Rattle.starlark_grammar.specs.declared.class.LiteralKind.TheVariants.{Text a
 use Rattle.starlark_grammar.specs.declared.class.Quote.{Quote}
 use Rattle.starlark_grammar.specs.declared.class.Terminal.{Terminal}
 use Rattle.starlark_grammar.specs.declared.class.Terminal.TheVariants as terminals
-use Rattle.starlark_grammar.specs.Depths.{AtTop, InText, Mode}
+use Rattle.starlark_grammar.specs.Depths.{AtTop, Curly, InText, Mode, is_opening}
+use Rattle.starlark_grammar.specs.Items.{Body, Stop, Closing, OpeningBrace, body_at, body_len, body_value}
+use Rattle.starlark_grammar.proofs.Reading.Steps.{Each}
+use Rattle.std.specs.List.{AllByRecursion}
 use Rattle.starlark_words.specs.Inner.LiteralViews.{IsPlainBody}
 use Rattle.starlark_grammar.specs.Inner.Openings.{opening_view}
 use Rattle.starlark_grammar.specs.declared.class.Opening.{Opening}
 use Rattle.std.proofs.lemmas.Str.{IsUtf8-drop}
 use Rattle.starlark_grammar.proofs.Order.Edges.{boundary_shift}
 use Rattle.starlark_reader.proofs.ReadLiterals.LiteralPieces.{opener_plain}
-use Rattle.starlark_reader.proofs.OpenBrackets.OpenFStrings.{keeps, one_kept}
+use Rattle.starlark_reader.proofs.OpenBrackets.OpenFStrings.{one_kept}
 use Rattle.starlark_token.specs.Lexemes.{shown_lexeme}
 use Rattle.starlark_reader.specs.Inner.StepViews.{IsPlainText, IsStep, text_step}
-use Rattle.starlark_reader.specs.Inner.Nesting.{Represents, change_by, is_fstring_start, mode_view}
-use Rattle.starlark_reader.specs.declared.literal.chunks.PlainText.{PlainText}
+use Rattle.starlark_reader.specs.Inner.Nesting.{Represents, is_fstring_start, keeps_nesting, mode_view}
+use Rattle.starlark_reader.specs.declared.literal.chunks.Chunk.{Chunk}
 use Rattle.starlark_reader.specs.declared.literal.pieces.Step.TheVariants as step
 use Rattle.starlark_reader.specs.declared.reader.Stage.{Stage}
 use Rattle.starlark_token.specs.declared.tokens.Token.TheVariants as token
 use Rattle.starlark_grammar.specs.Depths.{is_balanced, mode_after}
 use Rattle.starlark_grammar.specs.Margins.{open_widths}
 use Rattle.starlark_grammar.specs.Pieces as pieces
-use Rattle.starlark_grammar.specs.Pieces.{Piece, Situation, Stands, step_at}
+use Rattle.starlark_grammar.specs.Pieces.{Piece, Situation, Stands, Step, step_at}
 use Rattle.starlark_grammar.specs.Reading.{History, next_step, situation}
 use Rattle.starlark_reader.specs.Inner.Pending.{IsIdle}
 use Rattle.starlark_token.specs.declared.tokens.Token.{Token}
 use Rattle.starlark_words.specs.declared.scanner.word.Word.{Word}
 use Rattle.starlark_reader.specs.Inner.PieceViews.{IsAfter, is_code, nothing_of}
-use Rattle.starlark_reader.specs.Inner.Reader.{IsAhead, IsAheadAfter, IsAheadPast, IsBangHere, IsInCode, IsPlainTextHere, IsStateAfter, IsRead, IsReadPast, IsReady, IsTokenOf, IsWordHere, before_view, left_here, silent_sort, step_here}
+use Rattle.starlark_reader.specs.Inner.Reader.{IsAhead, IsAheadAfter, IsAheadPast, IsBangHere, IsPlainTextHere, IsStateAfter, IsRead, IsReadPast, IsReady, IsTokenOf, IsWordHere, before_view, left_here, silent_sort, step_here}
 use Rattle.starlark_reader.specs.Inner.StepViews.{IsDigitAt}
 use Rattle.starlark_token.specs.TokenViews.{TokenView, Whole, token_view}
 use Rattle.starlark_reader.specs.declared.nesting.LexerMode.{LexerMode}
 use Rattle.starlark_reader.specs.declared.nesting.LexerMode.TheVariants as modes
-use Rattle.starlark_reader.specs.declared.changes.NestingChange.TheVariants as change
 use Rattle.starlark_reader.specs.declared.reader.Before as sort
 use Rattle.starlark_reader.specs.declared.reader.Before.TheVariants as before
 use Rattle.starlark_reader.specs.declared.reader.Reader.{Reader}
 use Rattle.starlark_reader.specs.declared.reader.Stage.TheVariants as stage
 use Rattle.starlark_reader.proofs.TakenPieces.CodePlaces.{bang_at, in_text, word_at, word_cut, word_len, word_some}
 use Rattle.starlark_reader.proofs.TakenPieces.Here.{piece_here, shown_own}
-use Rattle.starlark_reader.proofs.TakenPieces.Taken.{none_before, past_ahead, read_ahead, took, took_past}
+use Rattle.starlark_reader.proofs.TakenPieces.Taken.{none_before, past_ahead, read_ahead, took_past}
 use Rattle.starlark_reader.proofs.TakenMargins.Waiting.{HandsPast, hands_none, passes_one}
 
 -- whether the piece right before is a skipped one
@@ -60,27 +63,54 @@ is_gap_sort before.Gap = true
 is_gap_sort sort = false
 
 pub after_sort : (sort : sort.Before) (before : pieces.Before) → before_view sort ≡ before → IsAfter (is_gap_sort sort) before
-after_sort before.Layout before is = subst (IsAfter false) is refl
 after_sort before.Gap before is = subst (IsAfter true) is refl
-after_sort before.Other before is = subst (IsAfter false) is refl
+after_sort sort before is = subst (IsAfter false) is refl
 
--- the gap that was read is the step at the reader's offset
-pub gap_read : (text : Text) (history : History) (reader : Reader) (rest : Text) (len : ℕ) → rest ≡ drop reader.at text → IsStateAfter text history reader → IsInCode reader
-    → ((s : Situation) (follows_gap : Bool) → is_code s.mode ≡ true → IsAfter follows_gap s.before → step_at language s rest ≡ pieces.gap len)
-    → step_here text history reader ≡ pieces.gap len
+pub no_gap : (sort : sort.Before) (there : pieces.Before) → (sort ≡ before.Gap → ⊥) → before_view sort ≡ there → IsAfter false there
+no_gap before.Layout there other is = subst (IsAfter false) is refl
+no_gap before.Gap there other is = absurd (other refl)
+no_gap before.Other there other is = subst (IsAfter false) is refl
+
+-- no token of an f-string's text opens a brace
+abbrev NoBrace : Step → Type 0
+NoBrace step = Each (λ piece. AllByRecursion (λ (lexeme : Tokens.Lexeme). is_opening Curly lexeme.node ≡ false) piece.lexemes) (λ fault. ⊤) step
+
+chunk_braces : (opening : Tokens.Opening) (text : Text) → NoBrace (pieces.chunk opening text)
+unfolding pieces.chunk
+chunk_braces opening text = by (body_at (record { kind = OfFString; opening = opening }) text) _
+  where
+    all : (len end : ℕ) (value : Text) (node : Tokens.Token) → is_opening Curly node ≡ false
+        → AllByRecursion (λ (lexeme : Tokens.Lexeme). is_opening Curly lexeme.node ≡ false) (pieces.chunk_text len value ++ record { begin = len; node = node; end = end } ∷ [])
+    all len end [] node none = (none, tt)
+    all len end (b ∷ bs) node none = (refl, (none, tt))
+
+    by : (body : Body) (stop : Stop) → NoBrace (pieces.chunk_by opening text body stop)
+    by body OpeningBrace = all (body_len body) _ (body_value body) Tokens.FStringExprStart refl
+    by body Closing = all (body_len body) _ (body_value body) Tokens.FStringEnd refl
+    by body stop = tt
+
+-- a token that opens a brace is in code
+pub brace_in_code : (text : Text) (history : History) (reader : Reader) (len : ℕ) (node : Tokens.Token) → IsStateAfter text history reader → step_here text history reader ≡ pieces.token len node → is_opening Curly node ≡ true → is_code (mode_after history.tokens) ≡ true
 unfolding next_step situation
-gap_read text history reader rest len e kept code is =
-    subst (λ (t : Text). step_at language (situation history) t ≡ pieces.gap len) e (is (situation history) (is_gap_sort reader.before) (code history.tokens kept.nesting) (after_sort reader.before history.before kept.before))
+brace_in_code text history reader len node kept stands brace = go (mode_after history.tokens) refl
+  where
+    go : (mode : Mode) → mode_after history.tokens ≡ mode → is_code mode ≡ true
+    go (InText opening) e =
+        let chunk = in_text (is_gap_sort reader.before) (situation history) (drop reader.at text) opening (after_sort reader.before history.before kept.before) e in
+        let none : NoBrace (pieces.token len node) = subst NoBrace (sym chunk ∙ stands) (chunk_braces opening (drop reader.at text)) in
+        let both : false ≡ true = sym none.0 ∙ brace in
+        cc
+    go mode e = refl
 
 -- the f-string text without escapes that was read is the step at the reader's offset
-plain_read : (text rest : Text) (history : History) (reader : Reader) (opening : Opening) (found : PlainText) → rest ≡ drop reader.at text → IsStateAfter text history reader → mode_after history.tokens ≡ InText (opening_view opening)
-    → IsPlainText opening rest found → step_here text history reader ≡ text_step found.len (take found.len (drop reader.at text)) found.stop found.stop_len
+plain_read : (text rest : Text) (history : History) (reader : Reader) (opening : Opening) (found : Chunk) → rest ≡ drop reader.at text → IsStateAfter text history reader → mode_after history.tokens ≡ InText (opening_view opening)
+    → IsPlainText opening rest found → step_here text history reader ≡ text_step (take found.len (drop reader.at text)) found
 unfolding next_step situation
 plain_read text rest history reader opening found e kept mode is =
-    subst (λ (t : Text). step_at language (situation history) t ≡ text_step found.len (take found.len t) found.stop found.stop_len) e
+    subst (λ (t : Text). step_at language (situation history) t ≡ text_step (take found.len t) found) e
     (in_text (is_gap_sort reader.before) (situation history) rest (opening_view opening) (after_sort reader.before history.before kept.before) mode ∙ is.stands)
 
-pub plain_here : (text rest : Text) (reader : Reader) (mode : LexerMode) (opening : Opening) (found : Result PlainText ℕ) → rest ≡ drop reader.at text → reader.stage ≡ stage.Onward → IsIdle text reader.pending → mode ≡ modes.InText opening
+pub plain_here : (text rest : Text) (reader : Reader) (mode : LexerMode) (opening : Opening) (found : Result Chunk ℕ) → rest ≡ drop reader.at text → reader.stage ≡ stage.Onward → IsIdle text reader.pending → mode ≡ modes.InText opening
     → ((tokens : List Tokens.Token) → Represents tokens reader.nesting → mode_view mode ≡ mode_after tokens) → IfOk found (IsPlainText opening rest) → IfOk found (IsPlainTextHere text reader)
 plain_here text rest reader mode opening (Err run) e on idle in_text here is = tt
 plain_here text rest reader mode opening (Ok found) e on idle in_text here is = record {
@@ -107,16 +137,6 @@ word_within text history reader it len kept here =
     let rest = drop reader.at text in
     (word_some rest it len (sym here.front), omega (arith, word_len rest it len (sym here.front), length-take len rest, length-drop reader.at text, kept.inside))
 
-pub name_step : (text : Text) (history : History) (reader : Reader) (len : ℕ) (value : String Global) → IsStateAfter text history reader → IsWordHere text reader (record { class = class.Identifier; len = len })
-    → string_bytes value ≡ take len (drop reader.at text) → IsStep (step_here text history reader) (step.Token (token.Identifier value) len)
-unfolding token_view
-name_step text history reader len value kept here is = (
-  Tokens.Identifier (take len (drop reader.at text)),
-  ap (λ t. Whole (Tokens.Identifier t)) is,
-  refl,
-  name_here text history reader len kept here,
-)
-
 pub gap_here : (text : Text) (history : History) (reader : Reader) (len : ℕ) → IsStateAfter text history reader → IsWordHere text reader (record { class = class.Skipped; len = len }) → step_here text history reader ≡ pieces.gap len
 gap_here text history reader len kept here = word_read text history reader (record { class = class.Skipped; len = len }) kept here ∙ ap pieces.gap (word_len (drop reader.at text) class.Skipped len (sym here.front))
 
@@ -130,27 +150,9 @@ comment_step text history reader len value kept here is = (
   word_read text history reader (record { class = class.Comment; len = len }) kept here ∙ ap (λ n. pieces.token n (Tokens.Comment (drop 1 (take len (drop reader.at text))))) (word_len (drop reader.at text) class.Comment len (sym here.front)),
 )
 
--- bytes and comments change neither brackets nor f-strings
-pub bytes_changes : (value : Vec ℕ Global) → change_by (token_view (token.Bytes value)) ≡ change.Nothing
-unfolding token_view change_by
-bytes_changes value = refl
-
-pub comment_changes : (value : String Global) → change_by (token_view (token.Comment value)) ≡ change.Nothing
-unfolding token_view change_by
-comment_changes value = refl
-
--- an integer of one digit changes neither brackets nor f-strings
-pub digit_changes : (found : Token) (digit : ℕ) → token_view found ≡ Whole (Tokens.Int (integer_of 10 ((digit + 48) ∷ []))) → change_by (token_view found) ≡ change.Nothing
-unfolding change_by
-digit_changes found digit view = ap change_by view
-
 -- the step of an integer of one digit
 digit_word : (s : Situation) (digit : ℕ) (word remainder : Text) → word ≡ (digit + 48) ∷ [] → pieces.word_step s class.Decimal word remainder ≡ pieces.token 1 (Tokens.Int (integer_of 10 word))
-digit_word s digit word remainder e = rw e (rw (and_false (digit + 48 == 48)) refl)
-  where
-    and_false : (x : Bool) → (x && false) ≡ false
-    and_false true = refl
-    and_false false = refl
+digit_word s digit word remainder e = rw e (rw (and-false (digit + 48 == 48)) refl)
 
 pub digit_step : (text : Text) (history : History) (reader : Reader) (digit : ℕ) (found : Token) → IsStateAfter text history reader → IsWordHere text reader (record { class = class.Decimal; len = 1 })
     → IsDigitAt digit (drop reader.at text) → token_view found ≡ Whole (Tokens.Int (integer_of 10 ((digit + 48) ∷ []))) → IsStep (step_here text history reader) (step.Token found 1)
@@ -161,26 +163,20 @@ digit_step text history reader digit found kept here at view = (
   word_read text history reader (record { class = class.Decimal; len = 1 }) kept here ∙ digit_word (situation history) digit (take 1 (drop reader.at text)) (drop 1 (drop reader.at text)) at.1,
 )
 
--- a bang at the reader's offset, by its mode and the piece before
-pub bang_read : (text : Text) (history : History) (reader : Reader) (mode : LexerMode) (follows_gap : Bool) (rest : Text) → rest ≡ drop reader.at text → IsStateAfter text history reader → IsInCode reader
-    → ((tokens : List Tokens.Token) → Represents tokens reader.nesting → mode_view mode ≡ mode_after tokens)
-    → ((before : pieces.Before) → before_view reader.before ≡ before → IsAfter follows_gap before)
-    → ((before : pieces.Before) → IsAfter follows_gap before → true ≡ (pieces.takes_bang (mode_view mode) before && pieces.is_bang rest))
-    → step_here text history reader ≡ pieces.token 1 Tokens.FStringBang
+-- a bang at the reader's offset, at the top of an f-string expression
+pub bang_read : (text : Text) (history : History) (reader : Reader) → mode_after history.tokens ≡ AtTop → IsAfter false history.before → pieces.is_bang (drop reader.at text) ≡ true → step_here text history reader ≡ pieces.token 1 Tokens.FStringBang
 unfolding next_step situation
-bang_read text history reader mode follows_gap rest e kept code here gap bang =
-    let remainder = gap history.before kept.before in
-    let at = here history.tokens kept.nesting in
-    subst (λ (t : Text). step_at language (situation history) t ≡ pieces.token 1 Tokens.FStringBang) e
-    (bang_at follows_gap (situation history) rest (mode_view mode) (ap is_code at ∙ code history.tokens kept.nesting) remainder (sym at) (sym (bang history.before remainder)))
+bang_read text history reader top remainder bang = bang_at false (situation history) (drop reader.at text) AtTop refl remainder top (rw (takes history.before remainder, bang) refl)
+  where
+    takes : (before : pieces.Before) → IsAfter false before → pieces.takes_bang AtTop before ≡ true
+    takes pieces.Nothing after = absurd after
+    takes pieces.Layout after = refl
+    takes pieces.Gap after = cc
+    takes pieces.Other after = refl
 
 pub bang_step : (text : Text) (history : History) (reader : Reader) → IsStateAfter text history reader → IsBangHere text reader → IsStep (step_here text history reader) (step.Token token.FStringBang 1)
 unfolding token_view
 bang_step text history reader kept here = (Tokens.FStringBang, refl, refl, here.stands history kept)
-
-pub bang_changes : change_by (token_view token.FStringBang) ≡ change.Nothing
-unfolding change_by token_view
-bang_changes = refl
 
 -- a literal without escapes that one quote closes
 plain_opener : (mode : Mode) (kind : LiteralKind) (is_raw : Bool) (quote : Quote) (begin count : ℕ) (remainder : Text) → kind ≢ OfFString → IsPlainBody kind is_raw quote remainder count
@@ -202,9 +198,7 @@ plain_front : (text : Text) (history : History) (reader : Reader) (kind : Litera
     → step_here text history reader ≡ pieces.token (len + count + 1) (pieces.literal_token kind (take count (drop len (drop reader.at text))))
 unfolding situation
 plain_front text history reader kind is_raw quote len count other kept here plain =
-    word_read text history reader (record { class = class.Opener kind is_raw quote; len = len }) kept here
-    ∙ ap (λ n. pieces.opener (mode_after history.tokens) kind (pieces.opening_of is_raw quote (drop len (drop reader.at text))) n (drop len (drop reader.at text))) (word_len (drop reader.at text) (class.Opener kind is_raw quote) len (sym here.front))
-    ∙ plain_opener (mode_after history.tokens) kind is_raw quote len count (drop len (drop reader.at text)) other plain
+    rw (word_read text history reader (record { class = class.Opener kind is_raw quote; len = len }) kept here, word_len (drop reader.at text) (class.Opener kind is_raw quote) len (sym here.front)) (plain_opener (mode_after history.tokens) kind is_raw quote len count (drop len (drop reader.at text)) other plain)
 
 pub text_here : (text : Text) (history : History) (reader : Reader) (is_raw : Bool) (quote : Quote) (len count : ℕ) → IsStateAfter text history reader
     → IsWordHere text reader (record { class = class.Opener OfText is_raw quote; len = len }) → IsPlainBody OfText is_raw quote (drop len (drop reader.at text)) count
@@ -223,17 +217,30 @@ bytes_step text history reader is_raw quote len count value kept here plain is =
 )
 
 pub terminal_step : (text : Text) (history : History) (reader : Reader) (terminal : Terminal) (len : ℕ) (found : Token) → IsStateAfter text history reader → IsWordHere text reader (record { class = class.Fixed terminal; len = len })
-    → ((before : List Tokens.Token) → Represents before reader.nesting → token_view found ≡ Whole (pieces.terminal_token (mode_after before) terminal))
-    → ((before : List Tokens.Token) → Represents before reader.nesting → is_fstring_start (pieces.terminal_token (mode_after before) terminal) ≡ false)
-    → IsStep (step_here text history reader) (step.Token found len)
+    → token_view found ≡ Whole (pieces.terminal_token (mode_after history.tokens) terminal) → IsStep (step_here text history reader) (step.Token found len)
 unfolding situation
-terminal_step text history reader terminal len found kept here view own = (
+terminal_step text history reader terminal len found kept here view = (
   pieces.terminal_token (mode_after history.tokens) terminal,
-  view history.tokens kept.nesting,
-  own history.tokens kept.nesting,
+  view,
+  own (mode_after history.tokens) terminal,
   word_read text history reader (record { class = class.Fixed terminal; len = len }) kept here
       ∙ ap (λ n. pieces.token n (pieces.terminal_token (mode_after history.tokens) terminal)) (word_len (drop reader.at text) (class.Fixed terminal) len (sym here.front)),
 )
+  where
+    own : (mode : Mode) (terminal : Terminal) → is_fstring_start (pieces.terminal_token mode terminal) ≡ false
+    own AtTop terminals.ClosingCurly = refl
+    own mode terminal = refl
+
+-- only a closing brace has another token than itself, and only at the top of an expression
+pub other_terminal : (mode : Mode) (terminal : Terminal) → (terminal ≡ terminals.ClosingCurly → ⊥) → pieces.terminal_token mode terminal ≡ Tokens.Word terminal
+other_terminal AtTop terminals.ClosingCurly other = absurd (other refl)
+other_terminal mode terminal other = refl
+
+pub brace_deeper : (mode : LexerMode) → (mode ≡ modes.AtTop → ⊥) → pieces.terminal_token (mode_view mode) terminals.ClosingCurly ≡ Tokens.Word terminals.ClosingCurly
+brace_deeper modes.Outside other = refl
+brace_deeper (modes.InText opening) other = refl
+brace_deeper modes.AtTop other = absurd (other refl)
+brace_deeper modes.Deeper other = refl
 
 -- the step of an f-string's start, from its opener and the text after that
 pub fstring_step : (text : Text) (history : History) (reader : Reader) (is_raw : Bool) (quote : Quote) (opening : Tokens.Opening) (word len : ℕ) → IsStateAfter text history reader → IsWordHere text reader (record { class = class.Opener OfFString is_raw quote; len = word })
@@ -241,35 +248,17 @@ pub fstring_step : (text : Text) (history : History) (reader : Reader) (is_raw :
     → step_here text history reader ≡ pieces.token len (Tokens.FStringStart opening)
 unfolding situation
 fstring_step text history reader is_raw quote opening word len kept here is whole =
-    word_read text history reader (record { class = class.Opener OfFString is_raw quote; len = word }) kept here
-    ∙ ap (λ n. pieces.opener (mode_after history.tokens) OfFString (pieces.opening_of is_raw quote (drop word (drop reader.at text))) n (drop word (drop reader.at text))) (word_len (drop reader.at text) (class.Opener OfFString is_raw quote) word (sym here.front))
-    ∙ ap (λ o. pieces.token (word + pieces.more_quotes o) (Tokens.FStringStart o)) (sym is) ∙ ap (λ n. pieces.token n (Tokens.FStringStart opening)) (sym whole)
+    rw (word_read text history reader (record { class = class.Opener OfFString is_raw quote; len = word }) kept here, word_len (drop reader.at text) (class.Opener OfFString is_raw quote) word (sym here.front), whole, is) refl
 
--- the step of a newline at the reader's offset, which counts or doesn't
-pub line_end_step : (text : Text) (history : History) (reader : Reader) (len : ℕ) → IsStateAfter text history reader → IsWordHere text reader (record { class = class.LineEnd; len = len })
-    → step_here text history reader ≡ (if pieces.counts (mode_after history.tokens) (is_balanced history.tokens) then pieces.line_end len (open_widths history.widths) (drop len (drop reader.at text)) else pieces.piece len [])
+-- the step of a newline at the reader's offset, by whether it counts
+pub line_end_step : (text : Text) (history : History) (reader : Reader) (len : ℕ) (counts : Bool) → IsStateAfter text history reader → IsWordHere text reader (record { class = class.LineEnd; len = len })
+    → ((before : List Tokens.Token) → Represents before reader.nesting → counts ≡ pieces.counts (mode_after before) (is_balanced before))
+    → step_here text history reader ≡ (if counts then pieces.line_end len (open_widths history.widths) (drop len (drop reader.at text)) else pieces.piece len [])
 unfolding situation
-line_end_step text history reader len kept here =
+line_end_step text history reader len counts kept here is =
     word_read text history reader (record { class = class.LineEnd; len = len }) kept here
     ∙ ap (λ n. if pieces.counts (mode_after history.tokens) (is_balanced history.tokens) then pieces.line_end n (open_widths history.widths) (drop len (drop reader.at text)) else pieces.piece n []) (word_len (drop reader.at text) class.LineEnd len (sym here.front))
-
--- a newline that doesn't count yields no lexeme
-pub silent_line_end : (text : Text) (history : History) (reader : Reader) (len : ℕ) (mode : LexerMode) (balanced : Bool) → IsStateAfter text history reader → IsWordHere text reader (record { class = class.LineEnd; len = len })
-    → ((before : List Tokens.Token) → Represents before reader.nesting → mode_view mode ≡ mode_after before)
-    → ((before : List Tokens.Token) → Represents before reader.nesting → balanced ≡ is_balanced before)
-    → pieces.counts (mode_view mode) balanced ≡ false → step_here text history reader ≡ nothing_of len false
-silent_line_end text history reader len mode balanced kept here at count silent =
-    line_end_step text history reader len kept here
-    ∙ ap (λ (b : Bool). if b then pieces.line_end len (open_widths history.widths) (drop len (drop reader.at text)) else pieces.piece len [])
-    (ap (λ m. pieces.counts m (is_balanced history.tokens)) (sym (at history.tokens kept.nesting)) ∙ ap (pieces.counts (mode_view mode)) (sym (count history.tokens kept.nesting)) ∙ silent)
-
--- a newline that counts takes its margin with it
-pub counting_line_end : (text : Text) (history : History) (reader : Reader) (len : ℕ) → IsStateAfter text history reader → IsWordHere text reader (record { class = class.LineEnd; len = len })
-    → ((before : List Tokens.Token) → Represents before reader.nesting → pieces.counts (mode_after before) (is_balanced before) ≡ true)
-    → step_here text history reader ≡ pieces.line_end len (open_widths history.widths) (drop len (drop reader.at text))
-counting_line_end text history reader len kept here counts =
-    line_end_step text history reader len kept here
-    ∙ ap (λ (b : Bool). if b then pieces.line_end len (open_widths history.widths) (drop len (drop reader.at text)) else pieces.piece len []) (counts history.tokens kept.nesting)
+    ∙ ap (λ (b : Bool). if b then pieces.line_end len (open_widths history.widths) (drop len (drop reader.at text)) else pieces.piece len []) (sym (is history.tokens kept.nesting))
 
 -- what is left after the reader's offset
 pub left_onward : (text : Text) (reader : Reader) (lexemes : List (Spanned TokenView)) (fault : Option (Spanned Fault)) → reader.stage ≡ stage.Onward → IsAhead text reader reader.stage lexemes fault → IsAhead text reader stage.Onward lexemes fault
@@ -279,17 +268,13 @@ left_onward text reader lexemes fault on ahead = subst (λ (s : Stage). IsAhead 
 pub onward_past : (text : Text) (old : Reader) (lexeme : Spanned TokenView) (new : Reader) (lexemes : List (Spanned TokenView)) (fault : Option (Spanned Fault)) → ((history : History) → IsStateAfter text history old → IsReadPast text (left_here text history old) (lexeme ∷ []) new)
     → IsIdle text old.pending → IsAhead text old stage.Onward lexemes fault → IsAheadPast text lexeme new lexemes fault
 onward_past text old lexeme new lexemes fault read idle ahead =
-    let history = ahead.is_left.0 in
-    let both = none_before text old stage.Onward lexemes fault (left_here text history old) idle ahead ahead.is_left.2 in
-    past_ahead text (left_here text history old) lexeme new lexemes fault (read history ahead.is_left.1) both.0 both.1
+    let both = none_before text old stage.Onward lexemes fault (left_here text ahead.is_left.0 old) idle ahead ahead.is_left.2 in
+    past_ahead text (left_here text ahead.is_left.0 old) lexeme new lexemes fault (read ahead.is_left.0 ahead.is_left.1) both.0 both.1
 
 -- what is ahead is still ahead after the piece here is read, whatever the history
 pub onward_ahead : (text : Text) (old : Reader) (given : Option (ℕ × Token × ℕ)) (new : Reader) (lexemes : List (Spanned TokenView)) (fault : Option (Spanned Fault)) → ((history : History) → IsStateAfter text history old → IsRead text (left_here text history old) given new)
     → IsIdle text old.pending → IsAhead text old stage.Onward lexemes fault → IsAheadAfter text given new lexemes fault
-onward_ahead text old given new lexemes fault read idle ahead =
-    let history = ahead.is_left.0 in
-    let both = none_before text old stage.Onward lexemes fault (left_here text history old) idle ahead ahead.is_left.2 in
-    read_ahead text (left_here text history old) given new lexemes fault (read history ahead.is_left.1) both.0 both.1
+onward_ahead text old given new lexemes fault read idle ahead = search (rules, none_before, read_ahead)
 
 abbrev pub nothing_piece : ℕ → Bool → Piece
 nothing_piece len true = record { len = len; lexemes = []; width = None; sort = pieces.Gap }
@@ -305,27 +290,17 @@ nothing_len len false = refl
 
 -- a piece without lexemes is not empty, and is in the text
 pub nothing_here : (text : Text) (history : History) (reader : Reader) (len : ℕ) (is_gap : Bool) → IsStateAfter text history reader → step_here text history reader ≡ nothing_of len is_gap → (1 ≤ len) × (reader.at + len ≤ length text)
-nothing_here text history reader len is_gap kept stands =
-    let here = piece_here text history reader (nothing_piece len is_gap) kept (stands ∙ nothing_stands len is_gap) in
-    let same = nothing_len len is_gap in
-    (omega (arith, here.0, same), omega (arith, here.1, same))
-
--- a newline that isn't a token lies in the text
-pub silent_here : (text : Text) (history : History) (reader : Reader) (len : ℕ) (mode : LexerMode) (balanced : Bool) → IsStateAfter text history reader → IsWordHere text reader (record { class = class.LineEnd; len = len })
-    → ((before : List Tokens.Token) → Represents before reader.nesting → mode_view mode ≡ mode_after before)
-    → ((before : List Tokens.Token) → Represents before reader.nesting → balanced ≡ is_balanced before)
-    → pieces.counts (mode_view mode) balanced ≡ false → (1 ≤ len) × (reader.at + len ≤ length text)
-silent_here text history reader len mode balanced kept here at count silent = nothing_here text history reader len false kept (silent_line_end text history reader len mode balanced kept here at count silent)
+nothing_here text history reader len is_gap kept stands = search (rules, piece_here, nothing_stands, nothing_len)
 
 -- a piece without lexemes changes only the offset and the kind of the piece before it
 pub nothing_taken : (text : Text) (history : History) (old new : Reader) (len : ℕ) (is_gap : Bool) → IsUtf8 text → IsStateAfter text history old → step_here text history old ≡ nothing_of len is_gap → IsIdle text old.pending
     → new ≡ record old { at = old.at + len; before = silent_sort is_gap; stage = stage.Onward } → IsRead text (left_here text history old) None new
 nothing_taken text history old new len true utf8 kept stands idle is =
     let here = piece_here text history old (nothing_piece len true) kept stands in
-    rw is (took text history old None _ (nothing_piece len true) utf8 kept stands refl kept.nesting (kept.levels ∙ ap open_widths (sym (append-nil history.widths))) refl refl (omega (arith, kept.few, here.0)) refl (hands_none text old.pending idle))
+    rw is (took_past text history old _ _ (nothing_piece len true) utf8 kept stands refl kept.nesting (kept.levels ∙ ap open_widths (sym (append-nil history.widths))) refl refl (omega (arith, kept.few, here.0)) refl (hands_none text old.pending idle))
 nothing_taken text history old new len false utf8 kept stands idle is =
     let here = piece_here text history old (nothing_piece len false) kept stands in
-    rw is (took text history old None _ (nothing_piece len false) utf8 kept stands refl kept.nesting (kept.levels ∙ ap open_widths (sym (append-nil history.widths))) refl refl (omega (arith, kept.few, here.0)) refl (hands_none text old.pending idle))
+    rw is (took_past text history old _ _ (nothing_piece len false) utf8 kept stands refl kept.nesting (kept.levels ∙ ap open_widths (sym (append-nil history.widths))) refl refl (omega (arith, kept.few, here.0)) refl (hands_none text old.pending idle))
 
 -- a token that changes neither brackets nor f-strings
 abbrev pub one_token : ℕ → Tokens.Token → Piece
@@ -335,24 +310,15 @@ pub token_inside : (text : Text) (history : History) (reader : Reader) (len : �
 token_inside text history reader len node kept stands = piece_here text history reader (one_token len node) kept stands
 
 pub token_passed : (text : Text) (history : History) (old new : Reader) (len : ℕ) (node : Tokens.Token) → IsUtf8 text → IsStateAfter text history old → step_here text history old ≡ pieces.token len node → IsIdle text old.pending → is_fstring_start node ≡ false
-    → keeps node ≡ true → change_by (Whole node) ≡ change.Nothing → new ≡ record old { at = old.at + len; before = before.Other; stage = stage.Onward } → IsReadPast text (left_here text history old) (record { begin = old.at; node = Whole node; end = old.at + len } ∷ []) new
-token_passed text history old new len node utf8 kept stands idle own keeps none is =
+    → keeps_nesting (Whole node) ≡ true → new ≡ record old { at = old.at + len; before = before.Other; stage = stage.Onward } → IsReadPast text (left_here text history old) (record { begin = old.at; node = Whole node; end = old.at + len } ∷ []) new
+token_passed text history old new len node utf8 kept stands idle own keeps is =
     let here = piece_here text history old (one_token len node) kept stands in
     let start : old.at + 0 ≡ old.at = omega arith in
     let shown : shown_lexeme (moved old.at (record { begin = 0; node = node; end = len })) ≡ record { begin = old.at; node = Whole node; end = old.at + len } = rw (start, shown_own node own) refl in
     rw is (took_past text history old (record { begin = old.at; node = Whole node; end = old.at + len } ∷ []) _ (one_token len node) utf8 kept stands refl
-    (one_kept node history.tokens old.nesting keeps none kept.nesting)
+    (one_kept node history.tokens old.nesting keeps kept.nesting)
     (kept.levels ∙ ap open_widths (sym (append-nil history.widths))) refl refl (omega (arith, kept.few, here.0)) refl
     (subst (λ (view : Spanned TokenView). HandsPast text (view ∷ []) old.pending (moved old.at (record { begin = 0; node = node; end = len }) ∷ [])) shown (passes_one text old.pending (moved old.at (record { begin = 0; node = node; end = len })) idle)))
-
--- names and texts change neither brackets nor f-strings
-pub name_changes : (name : Text) → change_by (Whole (Tokens.Identifier name)) ≡ change.Nothing
-unfolding change_by
-name_changes name = refl
-
-pub text_changes : (value : Text) → change_by (Whole (Tokens.String value)) ≡ change.Nothing
-unfolding change_by
-text_changes value = refl
 
 -- the token of a keyword or symbol, in any mode
 pub terminal_shown : (mode : Mode) (terminal : Terminal) (view : TokenView) → view ≡ Whole (pieces.terminal_token mode terminal) → IsTokenOf terminal view

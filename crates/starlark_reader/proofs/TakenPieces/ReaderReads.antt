@@ -1,5 +1,5 @@
 -- The reads of a reader after each of its steps.
-use Rattle.std.proofs.Common.{◌≡◌, ◌≢◌, ◌≤◌, ◌<◌, ◌+◌, ◌*◌, ℕ, Bool, List, Option, drop, length, refl, subst, sym, arith}
+use Rattle.std.proofs.Common.{◌≡◌, ◌≤◌, ◌<◌, ◌+◌, ◌*◌, ℕ, Bool, List, Option, drop, length, refl, subst, sym, arith}
 use Rattle.std.specs.Prelude.{IfErr, Result, Ok, Err}
 use Rattle.starlark_grammar.specs.AfterFaults.{next_line}
 use Rattle.starlark_grammar.specs.Depths.{InText, mode_after}
@@ -19,15 +19,13 @@ use Rattle.starlark_reader.specs.Inner.Lookaheads.{IsTextRun}
 use Rattle.starlark_reader.specs.Inner.Nesting.{Represents}
 use Rattle.starlark_reader.specs.Inner.Pending.{IsIdle, owed}
 use Rattle.starlark_reader.specs.Inner.StepViews.{IsStep}
-use Rattle.starlark_reader.specs.Inner.ReadBounds.{AreStepReads, HasStarted, HasLookedHere, HasRead, HasReadAt, IsMarginRead, IsPassed, IsPassedBy, IsTaken, LeavesReads}
+use Rattle.starlark_reader.specs.Inner.ReadBounds.{AreStepReads, HasLookedHere, HasRead, HasReadAt, IsMarginRead, IsPassed, IsPassedBy, LeavesReads}
 use Rattle.starlark_reader.proofs.TakenPieces.Here.{fault_here}
 use Rattle.starlark_reader.proofs.TakenPieces.RepairReads.{moved_repair}
 use Rattle.starlark_reader.proofs.TakenPieces.SearchReads.{fault_restart, step_search}
-use Rattle.starlark_reader.specs.declared.literal.chunks.PlainText.{PlainText}
+use Rattle.starlark_reader.specs.declared.literal.chunks.Chunk.{Chunk}
 use Rattle.starlark_reader.specs.declared.literal.pieces.Step.{Step}
 use Rattle.starlark_reader.specs.declared.literal.pieces.Step.TheVariants as steps
-use Rattle.starlark_reader.specs.declared.reader.LineEnd.{LineEnd}
-use Rattle.starlark_reader.specs.declared.reader.LineEnd.TheVariants as line_end
 use Rattle.starlark_reader.specs.declared.reader.Reader.{Reader}
 use Rattle.starlark_reader.specs.declared.reader.Stage.{Stage}
 use Rattle.starlark_reader.specs.declared.reader.Stage.TheVariants as stages
@@ -46,7 +44,7 @@ onward_reads text len before old new has read passed =
 pub step_reads : (text : Text) (before : ℕ) (history : History) (step : Step) (old new : Reader) → IsStateAfter text history old → IsStep (step_here text history old) step
     → IsReadBefore before old.at (owed old.pending) → AreStepReads 0 10 (next_line (drop old.at text) 0) 10 step before old.reads → LeavesReads 0 (drop old.at text) step before old.reads → IsPassed old step new → HasRead text new
 step_reads text before history (steps.Token token len) old new kept stands has read leaves passed = onward_reads text len before old new has (omega (arith, read.0.0), omega (arith, read.0.1)) passed
-step_reads text before history (steps.Text chunk chunk_len stop len) old new kept stands has read leaves passed = onward_reads text (chunk_len + len) before old new has (omega (arith, read.0.0), omega (arith, read.0.1)) passed
+step_reads text before history (steps.Text value chunk) old new kept stands has read leaves passed = onward_reads text (chunk.len + chunk.stop_len) before old new has (omega (arith, read.0.0), omega (arith, read.0.1)) passed
 step_reads text before history (steps.Fault begin fault end) old new kept stands has read leaves passed =
     let here = fault_here text history old (record { begin = begin; node = stands.0; end = end }) kept stands.2 in
     subst (HasReadAt text new) (sym passed.1) (
@@ -54,18 +52,8 @@ step_reads text before history (steps.Fault begin fault end) old new kept stands
       λ node is.
           let after = fault_restart text old.at begin end node kept.inside here.1 in
           let search = step_search text old.at begin end fault node is kept.inside here.1 in
-          let repair = moved_repair text old.at begin end node in
-          (omega (arith, after, search, has.1, read.1, passed.0.1, passed.0.2), λ keeps inside. omega (arith, repair, leaves node is keeps, has.1, passed.0.1, passed.0.2)),
+          (omega (arith, after, search, has.1, read.1, passed.0.1, passed.0.2), λ keeps inside. omega (arith, moved_repair text old.at begin end node, leaves node is keeps, has.1, passed.0.1, passed.0.2)),
     )
-
--- a word that was taken as it is
-pub word_taken : (text : Text) (len before : ℕ) (old new : Reader) → IsReadBefore before old.at (owed old.pending) → AreReads len (5 * len + 3) before old.reads → IsTaken len old new → HasRead text new
-word_taken text len before old new has read taken = onward_reads text len before old new has (read.0, omega (arith, read.1, taken.0)) (taken.1, taken.2)
-
--- an f-string that begins
-pub word_begun : (text : Text) (len before : ℕ) (old new : Reader) → 1 ≤ len → IsReadBefore before old.at (owed old.pending) → AreReads len (5 * len + 3) before old.reads → HasStarted len old new → HasRead text new
-word_begun text len before old new some has read begun =
-    subst (HasReadAt text new) (sym begun.2) (omega (arith, has.0, read.0, begun.1, begun.4.0), omega (arith, some, has.1, read.0, read.1, begun.0, begun.3, begun.4.1))
 
 -- the reads after a newline and its margin
 pub line_reads : (text : Text) (len before : ℕ) (old new : Reader) → old.at + len ≤ length text → IsReadBefore before old.at (owed old.pending) → AreReads len (5 * len + 3) before old.reads → 0 < len
@@ -73,26 +61,9 @@ pub line_reads : (text : Text) (len before : ℕ) (old new : Reader) → old.at 
 line_reads text len before old new inside has read some margin = go new.stage margin
   where
     go : (stage : Stage) → IsMarginRead text len old new stage → HasReadAt text new stage
-    go stages.Begin margin = absurd margin
     go stages.Onward margin = (omega (arith, has.0, read.0, margin.0.0, margin.1), omega (arith, has.1, read.1, some, margin.0.1, margin.1))
     go (stages.Fault begin fault end) margin = (omega (arith, has.0, read.0, margin.0, margin.1), λ node is. let there = margin.2 node is in (omega (arith, has.1, read.1, there.0, there.1, there.2), λ keeps inside. let tab = there.3 keeps in cc))
-    go stages.Closed margin = absurd margin
-
--- the reads after a newline, which counts or is passed
-pub newline_reads : (text : Text) (len before : ℕ) (it : LineEnd) (old new : Reader) → 1 ≤ len → old.at + len ≤ length text → IsReadBefore before old.at (owed old.pending) → AreReads len (5 * len + 3) before old.reads
-    → (it ≡ line_end.Passed → IsTaken len old new) → (it ≢ line_end.Passed → IsMarginRead text len old new new.stage) → HasRead text new
-newline_reads text len before line_end.Passed old new some inside has read taken margin = word_taken text len before old new has read (taken refl)
-newline_reads text len before line_end.Newline old new some inside has read taken margin = line_reads text len before old new inside has read some (margin (λ e. cc))
-newline_reads text len before line_end.Pending old new some inside has read taken margin = line_reads text len before old new inside has read some (margin (λ e. cc))
-newline_reads text len before line_end.Fault old new some inside has read taken margin = line_reads text len before old new inside has read some (margin (λ e. cc))
-
--- the reads after a pending lexeme was yielded
-pub pending_reads : (text : Text) (old new : Reader) → new.at ≡ old.at → more_reads old.reads 0 ≤ new.reads → new.reads + 5 * owed new.pending ≤ old.reads + 5 * owed old.pending
-    → (stage : Stage) → HasReadAt text old stage → HasReadAt text new stage
-pending_reads text old new same least most stages.Begin has = (omega (arith, same, has.0), omega (arith, has.1, most))
-pending_reads text old new same least most stages.Onward has = (omega (arith, same, has.0, least), omega (arith, same, has.1, most))
-pending_reads text old new same least most (stages.Fault begin fault end) has = (omega (arith, has.0, least), λ node is. let there = has.1 node is in (omega (arith, there.0, most), λ keeps inside. omega (arith, there.1 keeps inside, most)))
-pending_reads text old new same least most stages.Closed has = (omega (arith, has.0, least), omega (arith, has.1, most))
+    go stage margin = absurd margin
 
 -- the run that was peeked after an opener, …
 pub opened_run : (rest : Text) (reads : ℕ) (reader : Reader) (kind : LiteralKind) (is_raw : Bool) (quote : Quote) (len : ℕ) (found : Result ℕ ℕ) → rest ≡ drop len (drop reader.at reader.text.now)
@@ -102,7 +73,7 @@ opened_run rest reads reader kind is_raw quote len (Ok value) e other = tt
 opened_run rest reads reader kind is_raw quote len (Err run) e other = (subst (λ (t : Text). IsRun (single_literal kind is_raw quote) t run) e other.0, (refl, refl, omega arith, other.1))
 
 -- … and in the text of an f-string
-pub text_run : (text rest : Text) (reads : ℕ) (reader : Reader) (opening : code.Opening) (found : Result PlainText ℕ) → rest ≡ drop reader.at text → reader.stage ≡ stages.Onward → IsIdle text reader.pending
+pub text_run : (text rest : Text) (reads : ℕ) (reader : Reader) (opening : code.Opening) (found : Result Chunk ℕ) → rest ≡ drop reader.at text → reader.stage ≡ stages.Onward → IsIdle text reader.pending
     → ((tokens : List Token) → Represents tokens reader.nesting → mode_after tokens ≡ InText (opening_view opening)) → IfErr found (λ run. IsRun (fstring_literal (opening_view opening)) rest run × AreReads run (6 * run + 4) reader.reads reads)
     → IfErr found (λ run. IsTextRun text run (record reader { reads = reads }) × HasLookedHere run (6 * run + 4) reader (record reader { reads = reads }))
 text_run text rest reads reader opening (Ok value) e onward idle inside other = tt

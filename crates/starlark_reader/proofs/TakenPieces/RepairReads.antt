@@ -1,12 +1,12 @@
 -- Reads of a fault that may keep its line leave some for its repair.
-use Rattle.std.proofs.Common.{◌≡◌, ◌≤◌, ◌+◌, ◌-◌, ◌*◌, Bool, true, false, ℕ, zero, suc, List, [], ◌∷◌, Some, cond, length, drop, take, nat_eq, refl, ap, sym, subst, ◌∙◌, arith}
+use Rattle.std.proofs.Common.{◌≡◌, ◌≤◌, ◌+◌, ◌-◌, ◌*◌, Bool, true, false, ℕ, zero, suc, List, [], ◌∷◌, Some, length, drop, take, nat_eq, refl, ap, sym, subst, ◌∙◌, arith, rules}
 use Rattle.std.specs.Prelude.{if◌then◌else◌}
 use Rattle.std.specs.List.{list_all, prefix_len}
 use Rattle.std.proofs.lemmas.Bool.{and_parts}
 use Rattle.starlark_grammar.specs.AfterFaults.{is_tab}
 use Rattle.starlark_grammar.specs.Inner.KeptFaults.{may_keep}
 use Rattle.starlark_grammar.specs.Pieces as grammar
-use Rattle.starlark_grammar.specs.Pieces.{Fails, Situation, starts_zero, word_step}
+use Rattle.starlark_grammar.specs.Pieces.{Fails}
 use Rattle.starlark_grammar.specs.Repairs.{repair_end}
 use Rattle.starlark_grammar.specs.Tokens.{Fault, InvalidTab, Opening, Spanned}
 use Rattle.starlark_grammar.specs.Words.{Text, class_in, is_run, language, line_ends, names, openers, symbols}
@@ -17,8 +17,10 @@ use Rattle.starlark_grammar.specs.declared.class.LiteralKind.TheVariants.{FStrin
 use Rattle.starlark_grammar.proofs.Repairs.Faults.{chunk_lost, step_keeps}
 use Rattle.starlark_grammar.proofs.Lists.{drop-sum}
 use Rattle.starlark_grammar.proofs.Words.Classes.{RowsFit, language_all_fit, patterns_all_fit}
-use Rattle.starlark_reader.specs.Inner.ReadBounds.{AreStepReads, IsFaultAt, LeavesReads, is_tab_view}
+use Rattle.starlark_reader.proofs.NextLines.{front_run}
+use Rattle.starlark_reader.specs.Inner.ReadBounds.{AreStepReads, LeavesReads, is_tab_error, is_tab_view}
 use Rattle.starlark_words.specs.Inner.Reads.{AreReads}
+use Rattle.starlark_token.specs.declared.lexeme_error.LexemeError.{LexemeError}
 use Rattle.starlark_reader.specs.Inner.StepViews.{IsStep}
 use Rattle.starlark_reader.specs.declared.literal.pieces.Step.{Step}
 use Rattle.starlark_reader.specs.declared.literal.pieces.Step.TheVariants as steps
@@ -31,7 +33,7 @@ Leaves spent text stands before after =
 -- so it says it of the step of the code
 pub step_leaves : (spent : ℕ) (text : Text) (stands : grammar.Step) (step : Step) (before after : ℕ) → IsStep stands step → Leaves spent text stands before after → LeavesReads spent text step before after
 step_leaves spent text stands (steps.Token token len) before after is leaves = tt
-step_leaves spent text stands (steps.Text value text_len stop len) before after is leaves = tt
+step_leaves spent text stands (steps.Text value chunk) before after is leaves = tt
 step_leaves spent text stands (steps.Fault begin fault end) before after is leaves = λ node view keeps.
     let both : ◌≡◌ {A = _} (Some is.0) (Some node) = sym is.1 ∙ view in
     let same : is.0 ≡ node = cc in
@@ -47,9 +49,7 @@ chunk_keeps_none opening text = chunk_lost opening text (body_at (record { kind 
 
 -- a fault that is all of a word
 pub word_leaves : (text : Text) (spent n : ℕ) (node : Fault) (before after : ℕ) → is_tab node ≡ false → after + spent + n + 1 ≤ before + 10 * n → Leaves spent text (grammar.fault 0 node n) before after
-word_leaves text spent n node before after other few = λ fault e keeps.
-    let same : record { begin = 0; node = node; end = n } ≡ fault = cc in
-    subst (λ (fault : Spanned Fault). after + spent + (repair_end text fault - fault.begin) + 1 ≤ before + 10 * (repair_end text fault - fault.begin)) same (rw other (omega (arith, few)))
+word_leaves text spent n node before after other few = search rules
 
 -- Tabs
 
@@ -78,22 +78,10 @@ tabs_leave word reads known some = λ fault e keeps.
     let whole = run_passed (nat_eq 9) word (tabs_are word class.Tabs known) in
     subst (λ (fault : Spanned Fault). reads + (5 * length word + 3) + (repair_end word fault - fault.begin) + 1 ≤ reads + 10 * (repair_end word fault - fault.begin)) same (omega (arith, whole, some))
 
--- A text has at least the tabs of its front.
-front_tabs : (n : ℕ) (text : Text) → prefix_len (nat_eq 9) (take n text) ≤ prefix_len (nat_eq 9) text
-front_tabs zero text = omega arith
-front_tabs (suc n) [] = omega arith
-front_tabs (suc n) (b ∷ bs) = by (nat_eq 9 b) (front_tabs n bs)
-  where
-    by : (tab : Bool) → prefix_len (nat_eq 9) (take n bs) ≤ prefix_len (nat_eq 9) bs → cond tab (1 + prefix_len (nat_eq 9) (take n bs)) 0 ≤ cond tab (1 + prefix_len (nat_eq 9) bs) 0
-    by true more = omega (arith, more)
-    by false more = omega arith
-
 drop_of_front : {A : Type 0} (at n : ℕ) (text : List A) → (k : ℕ) × (drop at (take n text) ≡ take k (drop at text))
 drop_of_front zero n text = (n, refl)
-drop_of_front (suc at) zero [] = (0, refl)
-drop_of_front (suc at) zero (b ∷ bs) = (0, refl)
-drop_of_front (suc at) (suc n) [] = (0, refl)
 drop_of_front (suc at) (suc n) (b ∷ bs) = drop_of_front at n bs
+drop_of_front (suc at) n text = (0, refl)
 
 front_repair : (n : ℕ) (text : Text) (fault : Spanned Fault) → repair_end (take n text) fault ≤ repair_end text fault
 front_repair n text fault = by (is_tab fault.node)
@@ -101,30 +89,28 @@ front_repair n text fault = by (is_tab fault.node)
     by : (tab : Bool) → (if tab then fault.begin + prefix_len (nat_eq 9) (drop fault.begin (take n text)) else fault.end) ≤ (if tab then fault.begin + prefix_len (nat_eq 9) (drop fault.begin text) else fault.end)
     by true =
         let front = drop_of_front fault.begin n text in
-        omega (arith, front_tabs front.0 (drop fault.begin text), ap (prefix_len (nat_eq 9)) front.1)
+        omega (arith, front_run (nat_eq 9) front.0 (drop fault.begin text), ap (prefix_len (nat_eq 9)) front.1)
     by false = omega arith
 
 -- the reads of a word's step, with those of the word itself
 pub front_leaves : (n spent : ℕ) (text : Text) (it : Step) (before between after : ℕ) → between ≤ before + spent → LeavesReads spent (take n text) it between after → LeavesReads 0 text it before after
 front_leaves n spent text (steps.Token token len) before between after read leaves = tt
-front_leaves n spent text (steps.Text value text_len stop len) before between after read leaves = tt
+front_leaves n spent text (steps.Text value chunk) before between after read leaves = tt
 front_leaves n spent text (steps.Fault begin fault end) before between after read leaves = λ node view keeps.
     omega (arith, read, leaves node view keeps, front_repair n text (record { begin = begin; node = node; end = end }))
 
 -- the same text, with reads before
 pub none_leave : (spent : ℕ) (text : Text) (it : Step) (before between after : ℕ) → between ≤ before + spent → LeavesReads spent text it between after → LeavesReads 0 text it before after
 none_leave spent text (steps.Token token len) before between after read leaves = tt
-none_leave spent text (steps.Text value text_len stop len) before between after read leaves = tt
+none_leave spent text (steps.Text value chunk) before between after read leaves = tt
 none_leave spent text (steps.Fault begin fault end) before between after read leaves = λ node view keeps. omega (arith, read, leaves node view keeps)
 
 -- a character that begins no word, after the lookahead for a bang
-pub character_leaves : (text : Text) (from to : ℕ) (step : Step) (before between after : ℕ) → from ≡ 0 → 1 ≤ to → AreReads 2 2 before between → IsFaultAt from to step → AreStepReads 0 1 0 0 step between after → LeavesReads 3 text step before after
-character_leaves text from to (steps.Token token len) before between after start some bang is reads = absurd is
-character_leaves text from to (steps.Text value text_len stop len) before between after start some bang is reads = absurd is
-character_leaves text from to (steps.Fault begin fault end) before between after start some bang is reads = λ node view keeps.
-    let other : is_tab node ≡ false = sym (ap is_tab_view view) ∙ is.2 in
-    let read : after ≤ between + (1 * end + 0) = subst (λ tab. after ≤ between + (if tab then 5 * 0 + 3 else 1 * end + 0)) is.2 reads.1 in
-    rw other (omega (arith, start, some, bang.1, is.0, is.1, read))
+pub character_leaves : (text : Text) (end : ℕ) (fault : LexemeError) (before between after : ℕ) → 1 ≤ end → AreReads 2 2 before between → is_tab_error fault ≡ false → AreStepReads 0 1 0 0 (steps.Fault 0 fault end) between after → LeavesReads 3 text (steps.Fault 0 fault end) before after
+character_leaves text end fault before between after some bang untabbed reads = λ node view keeps.
+    let other : is_tab node ≡ false = sym (ap is_tab_view view) ∙ untabbed in
+    let read : after ≤ between + (1 * end + 0) = subst (λ tab. after ≤ between + (if tab then 5 * 0 + 3 else 1 * end + 0)) untabbed reads.1 in
+    rw other (omega (arith, some, bang.1, read))
 
 -- a repair in the rest of a text, at its place in the text
 pub moved_repair : (text : Text) (at begin end : ℕ) (node : Fault) → repair_end text (record { begin = at + begin; node = node; end = at + end }) ≡ at + repair_end (drop at text) (record { begin = begin; node = node; end = end })

@@ -10,8 +10,8 @@ use Rattle.starlark_grammar.specs.Words.{Text, language}
 use Rattle.starlark_grammar.specs.Found.{passed_count}
 use Rattle.starlark_grammar.specs.Longest.{IsReading}
 use Rattle.starlark_grammar.specs.Margins.{open_widths}
-use Rattle.starlark_grammar.specs.Pieces.{Before, Ends, Fails, Gap, Layout, Nothing, Other, Piece, Situation, Stands, Step, by_before, by_mode, first_margin, margin_step, step_at}
-use Rattle.starlark_grammar.specs.Depths.{AtTop, Deeper, InText, Mode, Outside}
+use Rattle.starlark_grammar.specs.Pieces.{Before, Ends, Fails, Nothing, Piece, Situation, Step, by_before, by_mode, first_margin, margin_step, step_at}
+use Rattle.starlark_grammar.specs.Depths.{InText, Mode}
 use Rattle.starlark_grammar.specs.Reading.{History, after, after_all, next_step, nothing, outcome, pieces_len, read, read_from, situation}
 use Rattle.starlark_grammar.specs.RepairLaws.{KeepsLine}
 use Rattle.starlark_grammar.specs.Repairs.{repair_end, repaired}
@@ -25,7 +25,7 @@ use Rattle.starlark_grammar.proofs.Reading.Steps.{is_nothing}
 use Rattle.starlark_grammar.proofs.Repairs.RepairedTexts.{repaired_left, repaired_len}
 use Rattle.starlark_grammar.proofs.Repairs.Readings.{IsRepaired, closes, is_repaired, kept as kept_fault, outcome_from}
 use Rattle.starlark_grammar.proofs.Repairs.Semicolons.{is_in_text, semicolon, semicolons_len}
-use Rattle.starlark_reader.specs.Inner.Nesting.{Represents, bracket_count, change_by}
+use Rattle.starlark_reader.specs.Inner.Nesting.{Represents, bracket_count}
 use Rattle.starlark_reader.specs.Inner.Pending.{IsIdle}
 use Rattle.starlark_reader.specs.Inner.Reader.{IsAhead, IsLeft, IsStateAfter, before_view, begins_with_tab, history_from, history_of, outcome_along, remaining_outcome}
 use Rattle.starlark_reader.specs.declared.nesting.Nesting.{Nesting}
@@ -42,9 +42,9 @@ reading_prefix text pieces reads begun =
 
 -- brackets and f-strings stay open after each `;`
 semicolons_represented : (n : ℕ) (history : History) (nesting : Nesting) → Represents history.tokens nesting → Represents (after_all history (replicate n semicolon)).tokens nesting
-unfolding after change_by
+unfolding after
 semicolons_represented zero history nesting same = same
-semicolons_represented (suc n) history nesting same = semicolons_represented n (after history semicolon) nesting (one_kept (Word terminal.Semicolon) history.tokens nesting refl refl same)
+semicolons_represented (suc n) history nesting same = semicolons_represented n (after history semicolon) nesting (one_kept (Word terminal.Semicolon) history.tokens nesting refl same)
 
 left_same : (history : History) (at : ℕ) (text : Text) → outcome_from history at text ≡ remaining_outcome history at text
 unfolding outcome_from remaining_outcome
@@ -52,8 +52,7 @@ left_same history at text = by (read_from language history 0 text).pieces (read_
   where
     by : (pieces : List Piece) (last : Step) → closes at history pieces last ≡ outcome_along history at pieces last
     by pieces (Fails fault) = refl
-    by pieces (Stands piece) = refl
-    by pieces Ends = refl
+    by pieces last = refl
 
 module _ (text : Text) (fault : Spanned Fault) (keeps : KeepsLine text fault) (old new : Reader) where
   abbrev is : IsRepaired text fault
@@ -65,24 +64,19 @@ module _ (text : Text) (fault : Spanned Fault) (keeps : KeepsLine text fault) (o
 
   history_is : is.history ≡ after_all (history_of text) (replicate (repair_end text fault - fault.begin) semicolon)
   unfolding history_of
-  history_is =
-      let past = is.past in
-      let whole = is.whole in
-      past ∙ ap (after_all nothing) whole ∙ past_both nothing (read language text).pieces (replicate (repair_end text fault - fault.begin) semicolon)
+  history_is = is.past ∙ ap (after_all nothing) is.whole ∙ past_both nothing (read language text).pieces (replicate (repair_end text fault - fault.begin) semicolon)
 
   -- what a reader had read is before the end of the repair
   earlier : IsStateAfter text (history_of text) old → is_nothing (history_of text).before ≡ false → old.at ≤ repair_end text fault
   earlier kept some =
       let to = kept.read in
-      let prefix = reading_prefix text to.pieces to.reads (ap (λ (h : History). is_nothing h.before) to.is_history ∙ some) in
-      let rest : List Piece = (read_from language (after_all nothing to.pieces) 0 (drop (pieces_len to.pieces) text)).pieces in
       omega (
         arith,
         to.reach,
         is.reach,
         is.bytes,
-        ap pieces_len prefix,
-        pieces_both to.pieces rest,
+        ap pieces_len (reading_prefix text to.pieces to.reads (ap (λ (h : History). is_nothing h.before) to.is_history ∙ some)),
+        pieces_both to.pieces ((read_from language (after_all nothing to.pieces) 0 (drop (pieces_len to.pieces) text)).pieces),
         ap pieces_len is.whole,
         pieces_both (read language text).pieces (replicate (repair_end text fault - fault.begin) semicolon),
         semicolons_len (repair_end text fault - fault.begin),
@@ -92,36 +86,31 @@ module _ (text : Text) (fault : Spanned Fault) (keeps : KeepsLine text fault) (o
       → new.nesting ≡ old.nesting → new.levels ≡ old.levels → new.before ≡ sort.Other → new.at ≡ repair_end text fault → IsStateAfter (repaired text fault) is.history new
   unfolding situation history_of history_from
   state_repaired kept some boundary nesting levels before at =
-      let reach = is.reach in
-      let inside = is.inside in
       record {
         nesting = rw nesting (subst (λ (h : History). Represents h.tokens old.nesting) (sym history_is) (semicolons_represented (repair_end text fault - fault.begin) (history_of text) old.nesting kept.nesting));
         levels = levels ∙ kept.levels ∙ sym (ap (λ (h : History). open_widths h.widths) is.past ∙ ap (λ (s : Situation). s.levels) is.state);
         before = ap before_view before ∙ sym (ap (λ (h : History). h.before) is.past ∙ ap (λ (s : Situation). s.before) is.state);
-        inside = omega (arith, at, inside, repaired_len text fault keeps);
+        inside = omega (arith, at, is.inside, repaired_len text fault keeps);
         boundary = rw at boundary;
         few = let few = kept.few in omega (arith, few, ap bracket_count nesting, at, earlier kept some);
         onward =
-            let prefix = reading_prefix (repaired text fault) is.pieces is.reads begun in
-            let place : new.at ≡ pieces_len is.pieces = at ∙ sym reach in
-            ap (λ n. history_from is.history (drop n (repaired text fault))) place
+            ap (λ n. history_from is.history (drop n (repaired text fault))) (at ∙ sym is.reach)
             ∙ ap (λ (h : History). history_from h (drop (pieces_len is.pieces) (repaired text fault))) is.past
             ∙ sym (past_both nothing is.pieces (read_from language (after_all nothing is.pieces) 0 (drop (pieces_len is.pieces) (repaired text fault))).pieces)
-            ∙ ap (after_all nothing) (sym prefix);
-        read = record { pieces = is.pieces; reads = is.reads; is_history = sym is.past; reach = reach ∙ sym at };
+            ∙ ap (after_all nothing) (sym (reading_prefix (repaired text fault) is.pieces is.reads begun));
+        read = record { pieces = is.pieces; reads = is.reads; is_history = sym is.past; reach = is.reach ∙ sym at };
       }
 
   pub ahead_repaired : IsStateAfter text (history_of text) old → is_nothing (history_of text).before ≡ false → IsCharBoundary (repaired text fault) (repair_end text fault)
       → new.nesting ≡ old.nesting → new.levels ≡ old.levels → new.before ≡ sort.Other → new.at ≡ repair_end text fault → new.stage ≡ stage.Onward → IsIdle (repaired text fault) new.pending
       → IsAhead (repaired text fault) new new.stage (map shown_lexeme (drop (passed_count text fault) (outcome (repaired text fault)).lexemes)) (outcome (repaired text fault)).fault
   ahead_repaired kept some boundary nesting levels before at is_onward idle =
-      let later = is.later in
       record {
         left = left;
         is_left = subst (λ now. IsLeft (repaired text fault) new now left) (sym is_onward) (is.history, state_repaired kept some boundary nesting levels before at, sym (ap (λ n. remaining_outcome is.history n (drop n (repaired text fault))) at));
         is_pending = idle.0;
         ahead = ap (map shown_lexeme) lexemes ∙ ap (λ ls. map shown_lexeme ls ++ map shown_lexeme left.lexemes) (sym idle.1);
-        those_after = later ∙ ap (λ (o : Outcome). o.fault) same;
+        those_after = is.later ∙ ap (λ (o : Outcome). o.fault) same;
         cut = λ on layout flat inside. let wrong : sort.Other ≡ sort.Layout = sym before ∙ layout in cc;
         cuts = λ x remainder cut least most. absurd (omega (arith, least, most, count));
       }
@@ -144,12 +133,10 @@ unfolding margin_step
 untabbed text fault keeps = false_from_ne_true (begins_with_tab text) (λ e.
     let parts = and_parts (is_content (margin_of text).remainder) (has_tab (margin_of text)) e in
     let fails : first_margin text ≡ Fails (record { begin = 0; node = InvalidTab; end = 0 }) = rw (parts.0, parts.1) refl in
-    let found = ap (λ (o : Outcome). o.fault) (first_fails text (record { begin = 0; node = InvalidTab; end = 0 }) fails) in
-    let both : Some (record { begin = 0; node = InvalidTab; end = 0 }) ≡ Some fault = sym found ∙ keeps.0 in
+    let both : Some (record { begin = 0; node = InvalidTab; end = 0 }) ≡ Some fault = sym (ap (λ (o : Outcome). o.fault) (first_fails text (record { begin = 0; node = InvalidTab; end = 0 }) fails)) ∙ keeps.0 in
     let same : record { begin = 0; node = InvalidTab; end = 0 } ≡ fault = cc in
     let tab : is_margin_tab text fault ≡ true = subst (λ (f : Spanned Fault). is_margin_tab text f ≡ true) same refl in
-    let is = kept_fault text (outcome text).lexemes fault keeps.1 in
-    let none = is.no_margin in cc)
+    let none = (kept_fault text (outcome text).lexemes fault keeps.1).no_margin in cc)
 
 -- code ends where a text does
 code_ends : (s : Situation) → is_nothing s.before ≡ false → is_in_text s.mode ≡ false → step_at language s [] ≡ Ends
@@ -157,31 +144,21 @@ unfolding step_at
 code_ends s some code = by s.before some
   where
     at : (mode : Mode) → is_in_text mode ≡ false → by_mode language s mode [] ≡ Ends
-    at Outside code = refl
     at (InText opening) code = cc
-    at AtTop code = refl
-    at Deeper code = refl
+    at mode code = refl
 
     by : (before : Before) → is_nothing before ≡ false → by_before language s before [] ≡ Ends
     by Nothing some = cc
-    by Layout some = at s.mode code
-    by Gap some = at s.mode code
-    by Other some = at s.mode code
+    by before some = at s.mode code
 
 -- No fault is after a repair at the end of a text.
 pub last_repair : (text : Text) (fault : Spanned Fault) → KeepsLine text fault → repair_end text fault ≡ length text → (outcome (repaired text fault)).fault ≡ None
 unfolding next_step situation
 last_repair text fault keeps last =
     let is = is_repaired text fault keeps in
-    let past = is.past in
-    let code = is.code in
-    let later = is.later in
-    let state = is.state in
-    let some : is_nothing (after_all nothing is.pieces).before ≡ false = ap (λ (s : Situation). is_nothing s.before) state in
+    let some : is_nothing (after_all nothing is.pieces).before ≡ false = ap (λ (s : Situation). is_nothing s.before) is.state in
     let history = after_all nothing is.pieces in
-    let rest : drop (repair_end text fault) text ≡ [] = drop_all (repair_end text fault) text (omega (arith, last)) in
-    let ends : next_step language history [] ≡ Ends = code_ends (situation history) some code in
-    later
-    ∙ ap (λ (t : Text). (outcome_from is.history (repair_end text fault) t).fault) rest
-    ∙ ap (λ (h : History). (outcome_from h (repair_end text fault) []).fault) past
-    ∙ ap (λ (o : Outcome). o.fault) (left_same history (repair_end text fault) [] ∙ onward_ends history (repair_end text fault) [] some ends)
+    is.later
+    ∙ ap (λ (t : Text). (outcome_from is.history (repair_end text fault) t).fault) (drop_all (repair_end text fault) text (omega (arith, last)))
+    ∙ ap (λ (h : History). (outcome_from h (repair_end text fault) []).fault) is.past
+    ∙ ap (λ (o : Outcome). o.fault) (left_same history (repair_end text fault) [] ∙ onward_ends history (repair_end text fault) [] some (code_ends (situation history) some is.code))

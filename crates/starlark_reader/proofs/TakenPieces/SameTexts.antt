@@ -1,13 +1,13 @@
 -- One call after another on a reader, whose text stays the same.
-use Rattle.std.proofs.Common.{◌≡◌, ◌∷◌, [], ap, refl, subst, sym, ℕ}
-use Rattle.std.specs.Prelude.{List, None, Option, Some}
+use Rattle.std.proofs.Common.{rules, ◌≡◌, ◌∷◌, [], ap, refl, subst, sym, ℕ}
+use Rattle.std.specs.Prelude.{List, Option}
 use Rattle.starlark_grammar.specs.Pieces.{Step}
 use Rattle.starlark_grammar.specs.Reading.{History}
 use Rattle.starlark_grammar.specs.Tokens.{Fault, Outcome, Spanned}
 use Rattle.starlark_grammar.specs.Words.{Text}
 use Rattle.starlark_token.specs.TokenViews.{TokenView}
 use Rattle.starlark_token.specs.declared.tokens.Token.{Token}
-use Rattle.starlark_reader.specs.Inner.Reader.{HasSomething, IsAhead, IsAheadAfter, IsAheadPast, IsAtCode, IsAtStep, IsLeft, IsRead, IsReadPast, IsSomething, IsSound, IsStateAfter, IsText, KeepsAhead, PassesNext, TakesNext, history_of, left_here, step_here}
+use Rattle.starlark_reader.specs.Inner.Reader.{HasSomething, IsAhead, IsAheadAfter, IsAheadPast, IsAtCode, IsAtStep, IsLeft, IsRead, IsReadPast, IsSomething, IsSound, IsStateAfter, KeepsAhead, PassesNext, TakesNext, history_of, left_here, step_here}
 use Rattle.starlark_reader.proofs.TakenPieces.PieceTaken.{left_onward, onward_ahead, onward_past}
 use Rattle.starlark_reader.proofs.TakenPieces.ReaderReads.{reads_ahead}
 use Rattle.starlark_reader.specs.Inner.Pending.{IsIdle}
@@ -18,16 +18,12 @@ use Rattle.starlark_reader.specs.declared.reader.Stage.TheVariants as stages
 
 -- what the reader stores between two pieces
 pub state_here : (reader : Reader) → IsSound reader → reader.stage ≡ stages.Onward → (history : History) × IsStateAfter reader.text.now history reader
-state_here reader sound onward =
-    let left = (left_onward reader.text.now reader sound.ready.0 sound.ready.1 onward sound.ready.2).is_left in
-    (left.0, left.1)
+state_here reader sound onward = search (rules, left_onward)
 
 -- the step at the reader's offset, whatever the history
 pub at_step : (reader : Reader) (P : History → Step → Type 0) → IsSound reader → reader.stage ≡ stages.Onward → IsIdle reader.text.now reader.pending
     → ((history : History) → IsStateAfter reader.text.now history reader → P history (step_here reader.text.now history reader)) → IsAtStep reader P
-at_step reader P sound onward idle here =
-    let left = state_here reader sound onward in
-    record { text = sound.text; stage = onward; stands = (left.0, left.1, here left.0 left.1); idle = idle }
+at_step reader P sound onward idle here = search (rules, state_here)
 
 -- a lexeme was yielded, or passed, whatever the history
 pub taken_here : (old : Reader) (given : Option (ℕ × Token × ℕ)) (new : Reader) → old.stage ≡ stages.Onward → IsIdle old.text.now old.pending
@@ -39,13 +35,7 @@ pub passed_here : (old : Reader) (lexeme : Spanned TokenView) (new : Reader) →
 passed_here old lexeme new onward idle read = λ lexemes fault ahead. onward_past old.text.now old lexeme new lexemes fault read idle (left_onward old.text.now old lexemes fault onward ahead)
 
 pub sound_after : (old new : Reader) → new.text ≡ old.text → IsSound old → KeepsAhead old new → IsSound new
-sound_after old new same sound keeps =
-    let text = ap (λ t. t.now) same in
-    let ready = sound.ready in
-    record {
-      text = subst IsText (sym text) sound.text;
-      ready = (ready.0, ready.1, subst (λ (t : Text). IsAhead t new new.stage ready.0 ready.1) (sym text) (keeps ready.0 ready.1 ready.2));
-    }
+sound_after old new same sound keeps = search rules
 
 pub looked_sound : (reader : Reader) (reads : ℕ) → IsSound reader → IsSound (record reader { reads = reads })
 looked_sound reader reads sound = sound_after reader (record reader { reads = reads }) refl sound (λ lexemes fault ahead. reads_ahead reader.text.now reader reads reader.stage lexemes fault ahead)
@@ -66,11 +56,6 @@ module _ (old mid new : Reader) (same : mid.text ≡ old.text) (first : KeepsAhe
 pub keeps_something : (old mid : Reader) → mid.text ≡ old.text → KeepsAhead old mid → HasSomething mid → HasSomething old
 keeps_something old mid same first second = λ lexemes fault ahead.
     subst (λ (t : Text). (lexemes : List (Spanned TokenView)) (fault : Option (Spanned Fault)) → IsAhead t mid mid.stage lexemes fault → IsSomething lexemes fault) (ap (λ t. t.now) same) second lexemes fault (first lexemes fault ahead)
-
--- where no lexeme was given, all is still ahead
-pub none_given : (given : Option (ℕ × Token × ℕ)) (old new : Reader) → ((lexeme : ℕ × Token × ℕ) → given ≡ Some lexeme → ⊥) → TakesNext old given new → KeepsAhead old new
-none_given None old new none takes = takes
-none_given (Some lexeme) old new none takes = absurd (none lexeme refl)
 
 pub code_after : (old new : Reader) → new.text ≡ old.text → IsAtCode old.text.now new → IsAtCode new.text.now new
 code_after old new same = subst (λ (t : Text). IsAtCode t new) (sym (ap (λ t. t.now) same))
@@ -94,9 +79,7 @@ module _ (text : Text) (reader over : Reader) where
 
   pub over_reads : (stage : Stage) → HasReadAt text reader stage → HasReadAt text (record reader { text = over.text }) stage
   over_reads stages.Begin has = has
-  over_reads stages.Onward has = has
-  over_reads (stages.Fault begin fault end) has = has
-  over_reads stages.Closed has = has
+  over_reads stage has = has
 
   pub over_code : IsAtCode text reader → IsAtCode text (record reader { text = over.text })
   over_code code = record { stage = code.stage; idle = code.idle; code = code.code }

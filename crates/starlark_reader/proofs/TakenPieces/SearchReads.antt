@@ -24,8 +24,7 @@ other_search text fault other = rw other refl
 pub fault_restart : (text : Text) (at begin end : ℕ) (node : Fault) → at ≤ length text → at + end ≤ length text → at + max (next_line (drop at text) 0) end ≤ restart text (record { begin = at + begin; node = node; end = at + end })
 fault_restart text at begin end node here inside =
     let fault : Spanned Fault = record { begin = at + begin; node = node; end = at + end } in
-    let later = next_line_later text (at + 0) (at + begin) (omega arith) in
-    omega (arith, restart_end text fault inside, restart_line text fault, later, next_line_drop text at 0 here)
+    omega (arith, restart_end text fault inside, restart_line text fault, next_line_later text (at + 0) (at + begin) (omega arith), next_line_drop text at 0 here)
 
 -- the reads of a piece that is a fault, with those of the search after it
 pub step_search : (text : Text) (at begin end : ℕ) (error : LexemeError) (node : Fault) → fault_view error ≡ Some node → at ≤ length text → at + end ≤ length text
@@ -37,13 +36,5 @@ step_search text at begin end error node view here inside = by (is_tab_error err
     fault = record { begin = at + begin; node = node; end = at + end }
 
     by : (tab : Bool) → tab ≡ is_tab node → (if tab then 5 * next_line (drop at text) 0 + 3 else 10 * end + 10) + search_reads text fault ≤ 10 * (restart text fault - at) + 12
-    by true is =
-        let search = tab_search text fault (sym is) in
-        let after = fault_restart text at begin end node here inside in
-        omega (arith, search, after)
-    by false is =
-        let search = other_search text fault (sym is) in
-        let after = fault_restart text at begin end node here inside in
-        let first : at + begin ≤ stopped_at text fault = stopped_past text fault in
-        let last : at + end - 1 ≤ stopped_at text fault = stopped_end text fault in
-        omega (arith, search, after, first, last)
+    by true is = omega (arith, tab_search text fault (sym is), fault_restart text at begin end node here inside)
+    by false is = omega (arith, other_search text fault (sym is), fault_restart text at begin end node here inside, stopped_past text fault, stopped_end text fault)

@@ -1,11 +1,11 @@
 -- A reader before and after a piece.
-use Rattle.std.proofs.Common.{◌≡◌, ℕ, zero, suc, ◌+◌, ◌≤◌, ◌<◌, Bool, true, false, not, List, [], ◌∷◌, ◌++◌, length, drop, take, map, refl, ap, ◌∙◌, sym, subst, Option, Some, None, arith, append-nil, length-append, nat_lt}
-use Rattle.std.specs.Prelude.{⊤, ◌==◌, ◌&&◌, if◌then◌else◌, count_by, option_to_list, replicate, sum_by}
+use Rattle.std.proofs.Common.{◌≡◌, ℕ, zero, suc, ◌+◌, ◌≤◌, ◌<◌, Bool, true, false, not, List, [], ◌∷◌, ◌++◌, length, drop, map, refl, ap, ◌∙◌, sym, subst, Option, Some, None, arith, append-nil, length-append, nat_lt, rules}
+use Rattle.std.specs.Prelude.{⊤, ◌==◌, ◌&&◌, if◌then◌else◌, count_by, option_to_list, replicate}
 use Rattle.std.specs.List.{AllByRecursion}
 use Rattle.std.specs.Str.{IsCharBoundary, IsUtf8}
-use Rattle.std.proofs.lemmas.Bool.{and_parts, both_ways, eqb-true, false_from_ne_true}
+use Rattle.std.proofs.lemmas.Bool.{and_parts, and_right, both_ways, eqb-true, false_from_ne_true, ne_eqb}
 use Rattle.std.proofs.lemmas.List.Sums.{sum_by-cons}
-use Rattle.std.proofs.lemmas.List.{length-drop, length-map, map-append}
+use Rattle.std.proofs.lemmas.List.{length-drop, length-map, map-append, nil_from_length}
 use Rattle.std.proofs.lemmas.Str.{IsCharBoundary-start, IsUtf8-drop}
 use Rattle.starlark_grammar.specs.Words.{Text, language}
 use Rattle.starlark_grammar.specs.Tokens.{Lexeme, Outcome, Spanned, moved}
@@ -17,15 +17,14 @@ use Rattle.starlark_grammar.specs.Reading.{History, after, after_all, closing, n
 use Rattle.starlark_grammar.specs.Longest.{IsReading}
 use Rattle.starlark_token.specs.Lexemes.{fault_view, lexeme_view, shown_lexeme}
 use Rattle.starlark_reader.specs.Inner.MarginViews.{IsRefused, IsTaken}
-use Rattle.starlark_reader.specs.Inner.Pending.{IsIdle, IsPending, lines_between, pending_lexemes}
-use Rattle.starlark_reader.specs.Inner.Nesting.{Represents, bracket_count, change_by}
+use Rattle.starlark_reader.specs.Inner.Pending.{IsIdle, IsPending, pending_lexemes}
+use Rattle.starlark_reader.specs.Inner.Nesting.{Represents, bracket_count, keeps_nesting}
 use Rattle.starlark_reader.specs.Inner.MarginCuts.{IsAfterLines, IsCutBefore}
 use Rattle.starlark_reader.specs.Inner.MarginLines.{IsOfMargin}
 use Rattle.starlark_reader.specs.Inner.Reader.{HoldsCuts, IsAhead, IsAheadAfter, IsAheadPast, IsCutAhead, IsInFlatMargin, IsLeft, IsReached, IsRead, IsReadPast, IsReadTo, IsStateAfter, IsStateAtFault, before_view, begins_with_tab, has_read_none, history_from, history_of, left_here, left_to_read, remaining_outcome, step_here}
 use Rattle.starlark_token.specs.TokenViews.{TokenView, Whole, token_view}
 use Rattle.starlark_token.specs.declared.lexeme_error.LexemeError.{LexemeError}
 use Rattle.starlark_reader.specs.declared.nesting.Nesting.{Nesting}
-use Rattle.starlark_reader.specs.declared.changes.NestingChange.TheVariants as change
 use Rattle.starlark_reader.specs.declared.reader.Before.TheVariants as sort
 use Rattle.starlark_reader.specs.declared.reader.Reader.{Reader}
 use Rattle.starlark_reader.specs.declared.reader.Stage.{Stage}
@@ -33,14 +32,14 @@ use Rattle.starlark_reader.specs.declared.reader.Stage.TheVariants as stage
 use Rattle.starlark_reader.specs.declared.pending.Pending.{Pending}
 use Rattle.starlark_token.specs.declared.tokens.Token.{Token}
 use Rattle.starlark_grammar.proofs.Order.WholeTexts.{piece_bounded}
-use Rattle.starlark_reader.proofs.TakenMargins.CommentLines.{margin_comments}
+use Rattle.starlark_reader.proofs.TakenMargins.Pending.{margin_comments}
 use Rattle.starlark_grammar.proofs.Order.Edges.{boundary_shift}
 use Rattle.starlark_grammar.proofs.Lists.{drop-sum}
 use Rattle.starlark_reader.proofs.TakenPieces.Here.{IsHere, after_some, kept_here}
 use Rattle.starlark_reader.proofs.TakenPieces.Onward.{GoesOn, first_fails, first_stands, history_ends, history_fails, history_first, history_onward, margin_first, onward_ends, onward_fails, onward_stands}
 use Rattle.starlark_grammar.proofs.Reading.Readings.{one_least, piece_fits, started}
 use Rattle.starlark_grammar.proofs.Joining.Tabs.{margin_tab, tab, tab_of}
-use Rattle.starlark_reader.proofs.OpenBrackets.OpenFStrings.{keeps, one_kept}
+use Rattle.starlark_reader.proofs.OpenBrackets.OpenFStrings.{one_kept}
 use Rattle.starlark_grammar.proofs.Reading.Steps.{Each, is_nothing}
 use Rattle.starlark_grammar.proofs.Choices.{either}
 use Rattle.starlark_reader.proofs.TakenPieces.MarginCuts.{cut_of_piece, first_ahead_cut, first_cut, line_ahead_cut, line_cut, none_at_end, none_at_fault, read_first, read_more}
@@ -54,31 +53,14 @@ begun text history reader kept = (after_some reader.before history.before kept.b
 
 -- Layout
 
--- whether a token changes neither brackets nor f-strings: one of layout, or an f-string text
-abbrev pub is_quiet : grammar.Token → Bool
-is_quiet (grammar.FStringText value) = true
-is_quiet grammar.Newline = true
-is_quiet (grammar.Comment text) = true
-is_quiet grammar.Indent = true
-is_quiet grammar.Dedent = true
-is_quiet node = false
-
+-- the tokens change neither brackets nor f-strings
 abbrev pub AllQuiet : List Lexeme → Type 0
-AllQuiet lexemes = AllByRecursion (λ (lexeme : Lexeme). is_quiet lexeme.node ≡ true) lexemes
-
-quiet_is : (node : grammar.Token) → is_quiet node ≡ true → (keeps node ≡ true) × (change_by (Whole node) ≡ change.Nothing)
-unfolding change_by
-quiet_is (grammar.FStringText value) h = (refl, refl)
-quiet_is grammar.Newline h = (refl, refl)
-quiet_is (grammar.Comment text) h = (refl, refl)
-quiet_is grammar.Indent h = (refl, refl)
-quiet_is grammar.Dedent h = (refl, refl)
-quiet_is node h = (cc, cc)
+AllQuiet lexemes = AllByRecursion (λ (lexeme : Lexeme). keeps_nesting (Whole lexeme.node) ≡ true) lexemes
 
 -- tokens of layout and f-string texts leave brackets and f-strings unchanged
 pub quiet_kept : (lexemes : List Lexeme) (tokens : List grammar.Token) (nesting : Nesting) → AllQuiet lexemes → Represents tokens nesting → Represents (tokens_onto tokens lexemes) nesting
 quiet_kept [] tokens nesting h same = same
-quiet_kept (lexeme ∷ lexemes) tokens nesting h same = quiet_kept lexemes (lexeme.node ∷ tokens) nesting h.1 (one_kept lexeme.node tokens nesting (quiet_is lexeme.node h.0).0 (quiet_is lexeme.node h.0).1 same)
+quiet_kept (lexeme ∷ lexemes) tokens nesting h same = quiet_kept lexemes (lexeme.node ∷ tokens) nesting h.1 (one_kept lexeme.node tokens nesting h.0 same)
 
 quiet_both : (one other : List Lexeme) → AllQuiet one → AllQuiet other → AllQuiet (one ++ other)
 quiet_both [] other h k = k
@@ -136,14 +118,12 @@ kept_after : (text : Text) (history : History) (at : ℕ) (new : Reader) (piece 
     → history_from (after history piece) (drop piece.len (drop at text)) ≡ history_of text → IsReadTo text (after history piece) new.at → IsStateAfter text (after history piece) new
 unfolding after
 kept_after text history at new piece utf8 here stands nesting levels before is_at few onward read =
-    let found = piece_bounded history (drop at text) piece (IsUtf8-drop text at utf8 here) stands in
-    let end : IsCharBoundary text (at + piece.len) = boundary_shift text at piece.len here found.1 in
-    let last : at + piece.len ≤ length text = end.0 in
+    let end : IsCharBoundary text (at + piece.len) = boundary_shift text at piece.len here (piece_bounded history (drop at text) piece (IsUtf8-drop text at utf8 here) stands).1 in
     record {
       nesting = nesting;
       levels = levels;
       before = before;
-      inside = omega (arith, last, is_at);
+      inside = omega (arith, end.0, is_at);
       boundary = subst (IsCharBoundary text) (sym is_at) end;
       few = few;
       onward = ap (history_from (after history piece)) (ap (λ n. drop n text) is_at ∙ drop-sum at piece.len text) ∙ onward;
@@ -193,8 +173,7 @@ no_cut_in text history at piece read begun stands other x found = by found.n fou
     by n (AfterComments started counted front) =
         let here = ap (λ (h : History). next_step language h (drop (pieces_len read.pieces) text)) read.is_history ∙ ap (λ n. next_step language history (drop n text)) read.reach ∙ stands in
         let line = (line_laid (after_all nothing read.pieces) (drop (pieces_len read.pieces) text) n started counted front).step in
-        let layout = line_is_quiet n (open_widths (after_all nothing read.pieces).widths) (drop n (drop (pieces_len read.pieces) text)) piece (sym line ∙ here) in
-        let both : true ≡ false = sym (ap is_layout layout.sort) ∙ other in
+        let both : true ≡ false = sym (ap is_layout (line_is_quiet n (open_widths (after_all nothing read.pieces).widths) (drop n (drop (pieces_len read.pieces) text)) piece (sym line ∙ here)).sort) ∙ other in
         cc
 
 -- a piece that is no margin
@@ -225,25 +204,9 @@ took_first text new piece utf8 stands cuts nesting levels before is_at few is_on
 pub piece_inside : (text : Text) (history : History) (old : Reader) (piece : Piece) → IsStateAfter text history old → step_here text history old ≡ Stands piece → (old.at < old.at + piece.len) × (old.at + piece.len ≤ length text)
 piece_inside text history old piece kept stands =
     let fits = piece_fits language history (drop old.at text) piece stands in
-    let least = one_least history.before (begun text history old kept) in
-    let some = fits.some in
-    let inside = fits.inside in
-    let here = kept.inside in
-    (omega (arith, least, some), omega (arith, inside, here, length-drop old.at text))
+    (omega (arith, one_least history.before (begun text history old kept), fits.some), omega (arith, fits.inside, kept.inside, length-drop old.at text))
 
 -- The text's first margin
-
-and_false : (b : Bool) → (b && false) ≡ false
-and_false true = refl
-and_false false = refl
-
-not_zero : (n : ℕ) → 0 < n → (n == 0) ≡ false
-not_zero zero some = absurd (omega (arith, some))
-not_zero (suc n) some = go (suc n == 0) refl
-  where
-    go : (b : Bool) → (suc n == 0) ≡ b → b ≡ false
-    go true e = absurd (omega (arith, eqb-true (suc n) 0 e))
-    go false e = refl
 
 -- a first margin without fault has no tab before content
 pub no_tab : (text : Text) (piece : Piece) → first_margin text ≡ Stands piece → begins_with_tab text ≡ false
@@ -259,13 +222,11 @@ state_begun text history reader kept = go kept.read.pieces kept.read.reads kept.
   where
     unread : (piece : Piece) (pieces : List Piece) → IsReading language nothing text (piece ∷ pieces) → after_all nothing (piece ∷ pieces) ≡ history → pieces_len (piece ∷ pieces) ≡ reader.at → has_read_none reader ≡ false
     unread piece [] reads same reach =
-        let layout : before_view reader.before ≡ Layout = kept.before ∙ ap (λ (h : History). h.before) (sym same) ∙ (first_is_quiet text piece (sym (margin_first text) ∙ reads.0)).sort in
-        ap (λ b. reader.at == 0 && not (is_layout b)) layout ∙ and_false (reader.at == 0)
+        ap (λ b. reader.at == 0 && not (is_layout b)) (kept.before ∙ ap (λ (h : History). h.before) (sym same) ∙ (first_is_quiet text piece (sym (margin_first text) ∙ reads.0)).sort) ∙ and_right (reader.at == 0) false refl
     unread piece (next ∷ pieces) reads same reach =
-        let first = piece_fits language nothing text piece reads.0 in
-        let least = one_least (after nothing piece).before (started nothing piece first.sort) in
+        let least = one_least (after nothing piece).before (started nothing piece (piece_fits language nothing text piece reads.0).sort) in
         let some = (piece_fits language (after nothing piece) (drop piece.len text) next reads.1.0).some in
-        ap (λ b. b && not (is_layout (before_view reader.before))) (not_zero reader.at (omega (arith, reach, sum_by-cons (λ (piece : Piece). piece.len) piece (next ∷ pieces), sum_by-cons (λ (piece : Piece). piece.len) next pieces, least, some)))
+        ap (λ b. b && not (is_layout (before_view reader.before))) (ne_eqb reader.at 0 (λ zero. omega (arith, zero, reach, sum_by-cons (λ (piece : Piece). piece.len) piece (next ∷ pieces), sum_by-cons (λ (piece : Piece). piece.len) next pieces, least, some)))
 
     go : (pieces : List Piece) → IsReading language nothing text pieces → after_all nothing pieces ≡ history → pieces_len pieces ≡ reader.at → has_read_none reader ≡ begins_with_tab text
     go [] reads same reach = let both : true ≡ false = ap (λ (h : History). is_nothing h.before) same ∙ begun text history reader kept in cc
@@ -330,18 +291,13 @@ closed text history old given new here kept ends hands is =
 -- the lexemes that close a text
 pub closing_hands : (text : Text) (history : History) (at count : ℕ) (levels : List ℕ) (pending : Pending) (found : Token) → token_view found ≡ Whole grammar.Newline → levels ≡ open_widths history.widths → count ≡ length levels
     → (pending_lexemes text pending ≡ replicate count (record { begin = at; node = grammar.Dedent; end = at })) × IsPending text pending → Hands text (Some (at, found, at)) pending (closing at history)
-closing_hands text history at count levels pending found is open_now counted waits =
-    let total : count ≡ length (open_widths history.widths) = counted ∙ ap (λ (ws : List ℕ). length ws) open_now in
-    hands_first text pending (at, found, at) (record { begin = at; node = grammar.Newline; end = at }) (replicate (length (open_widths history.widths)) (record { begin = at; node = grammar.Dedent; end = at })) waits.1
-    (ap (λ view. record { begin = at; node = view; end = at }) is) (sym (waits.0 ∙ ap (λ n. replicate n (record { begin = at; node = grammar.Dedent; end = at })) total))
+closing_hands text history at count levels pending found is open_now counted waits = search (rules, hands_first)
 
 -- What is ahead, where something was read
 
 -- a cut before all pending lines is reached
 pub reached_by : (text : Text) (reader : Reader) (at ahead : ℕ) → IsInFlatMargin reader reader.stage × IsAfterLines text reader.pending at ahead ahead → IsReached reader at
-reached_by text reader at ahead is =
-    let none : is.1.passed ≡ 0 = omega (arith, is.1.count) in
-    (is.0, omega (arith, is.1.place, ap (λ n. sum_by (λ (line : Text). length line) (take n (lines_between text reader.pending.from reader.pending.to))) none))
+reached_by text reader at ahead is = search rules
 
 both_count : (one other : List Lexeme) → length one + length other ≡ length (map shown_lexeme one ++ map shown_lexeme other)
 both_count one other = omega (arith, length-append (map shown_lexeme one) (map shown_lexeme other), length-map one shown_lexeme, length-map other shown_lexeme)
@@ -395,16 +351,9 @@ read_ahead text whole None new lexemes fault read ahead remainder =
 -- Less is left to read
 
 pub less_taken : (text : Text) (history : History) (old new : Reader) (piece : Piece) → IsStateAfter text history old → step_here text history old ≡ Stands piece → new.stage ≡ stage.Onward → new.at ≡ old.at + piece.len → left_to_read text new new.stage < left_to_read text old stage.Onward
-less_taken text history old new piece kept stands is is_at =
-    let inside = piece_inside text history old piece kept stands in
-    let onward : left_to_read text new stage.Onward < left_to_read text old stage.Onward = omega (arith, inside.0, inside.1, is_at) in
-    subst (λ now. left_to_read text new now < left_to_read text old stage.Onward) (sym is) onward
+less_taken text history old new piece kept stands is is_at = search (rules, piece_inside)
 
 -- Margins, as they were read
-
-none_open : (levels : List ℕ) → (length levels == 0) ≡ true → levels ≡ []
-none_open [] h = refl
-none_open (level ∷ levels) h = absurd (omega (arith, eqb-true (length (level ∷ levels)) 0 h))
 
 module _ (text : Text) (history : History) (old : Reader) (len : ℕ) (kept : IsStateAfter text history old)
     (here : step_here text history old ≡ line_end len (open_widths history.widths) (drop len (drop old.at text))) where
@@ -431,7 +380,7 @@ module _ (text : Text) (history : History) (old : Reader) (len : ℕ) (kept : Is
       (ap (λ view. record { begin = old.at; node = view; end = old.at + len }) is) refl) in
       let cuts : AreCutsBehind text history old.at taken.piece new = record {
         cut = λ on layout_now flat inside.
-            line_ahead_cut text history old.at len taken.piece kept.read (begun text history old kept) stands taken.stands (ap is_layout layout.sort) (sym kept.levels ∙ none_open old.levels (sym of.flat ∙ flat)) old.levels (record { begin = old.at; node = grammar.Newline; end = old.at + len }) new.pending of taken.lexemes;
+            line_ahead_cut text history old.at len taken.piece kept.read (begun text history old kept) stands taken.stands (ap is_layout layout.sort) (sym kept.levels ∙ nil_from_length old.levels (eqb-true (length old.levels) 0 (sym of.flat ∙ flat))) old.levels (record { begin = old.at; node = grammar.Newline; end = old.at + len }) new.pending of taken.lexemes;
         cuts = λ x remainder cut least most.
             let lies = line_cut text history old.at len taken.piece kept.read (begun text history old kept) stands taken.stands (ap is_layout layout.sort) old.levels (record { begin = old.at; node = grammar.Newline; end = old.at + len }) new.pending of taken.lexemes x remainder cut least most in
             ((refl, before, of.flat ∙ ap (λ (levels : List ℕ). length levels == 0) (kept.levels ∙ lies.0)), lies.1);
@@ -476,10 +425,7 @@ module _ (text : Text) (old new : Reader) (is_new : IsNew old) where
 -- what is ahead where no lexeme is pending
 pub none_before : (text : Text) (reader : Reader) (now : Stage) (lexemes : List (Spanned TokenView)) (fault : Option (Spanned grammar.Fault)) (left : Outcome) → IsIdle text reader.pending → (ahead : IsAhead text reader now lexemes fault) → ahead.left ≡ left
     → (lexemes ≡ map shown_lexeme left.lexemes) × (fault ≡ left.fault)
-none_before text reader now lexemes fault left idle ahead e = (
-  ahead.ahead ∙ ap (λ ls. map shown_lexeme ls ++ map shown_lexeme ahead.left.lexemes) idle.1 ∙ ap (λ (o : Outcome). map shown_lexeme o.lexemes) e,
-  ahead.those_after ∙ ap (λ (o : Outcome). o.fault) e,
-)
+none_before text reader now lexemes fault left idle ahead e = search rules
 
 -- the outcome of a text is ahead, where something was read from its start on
 pub first_ahead : (text : Text) (old new : Reader) (lexemes : List (Spanned TokenView)) (fault : Option (Spanned grammar.Fault)) → IsRead text (outcome text) None new → IsIdle text old.pending → IsAhead text old stage.Begin lexemes fault → IsAhead text new new.stage lexemes fault

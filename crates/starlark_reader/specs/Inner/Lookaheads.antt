@@ -1,11 +1,12 @@
 -- What lookahead has found, and the reads that it took.
-use Rattle.std.specs.Prelude.{◌≡◌, ◌≢◌, ◌+◌, ◌-◌, ◌*◌, Bool, false, true, ℕ, List, None, drop}
+use Rattle.std.specs.Prelude.{◌≡◌, ◌≢◌, ◌+◌, ◌-◌, ◌*◌, Bool, false, true, ℕ, List, None, drop, take, if◌then◌else◌, ⊤}
 use Rattle.starlark_grammar.specs.Depths.{InText, mode_after}
 use Rattle.starlark_grammar.specs.Front.{language_front}
 use Rattle.starlark_grammar.specs.Tokens.{Token}
 use Rattle.starlark_grammar.specs.Words.{Text}
 use Rattle.starlark_grammar.specs.declared.class.Class.{Class}
 use Rattle.starlark_grammar.specs.declared.class.Class.TheVariants as class
+use Rattle.starlark_grammar.specs.declared.class.LiteralKind.TheVariants as kind
 use Rattle.starlark_grammar.specs.declared.class.LiteralKind.TheVariants.{FString as OfFString}
 use Rattle.starlark_grammar.specs.declared.class.Opening.{Opening}
 use Rattle.starlark_grammar.specs.Inner.Openings.{opening_view}
@@ -15,8 +16,9 @@ use Rattle.starlark_words.specs.Inner.Reads.{AreReads}
 use Rattle.starlark_words.specs.declared.scanner.word.Word.{Word}
 use Rattle.starlark_reader.specs.Inner.Nesting.{Represents}
 use Rattle.starlark_reader.specs.Inner.Pending.{IsIdle}
-use Rattle.starlark_reader.specs.Inner.Reader.{IsAtCode, IsWordHere}
+use Rattle.starlark_reader.specs.Inner.Reader.{IsAtCode, IsAtEnd, IsWordHere}
 use Rattle.starlark_reader.specs.Inner.ReadBounds.{HasRead, HasReadAt}
+use Rattle.starlark_reader.specs.Inner.StepViews.{IsFaultWord}
 use Rattle.starlark_reader.specs.declared.lookahead.Found.{Found}
 use Rattle.starlark_reader.specs.declared.lookahead.Found.TheVariants as found
 use Rattle.starlark_reader.specs.declared.lookahead.Lookahead.{Lookahead}
@@ -40,11 +42,27 @@ pub record IsTextRun (text : Text) (count : ℕ) (reader : Reader) : Type 0 wher
   pub inside : (tokens : List Token) → Represents tokens reader.nesting → mode_after tokens ≡ InText (opening_view opening)
   pub run : IsRun (fstring_literal (opening_view opening)) (drop reader.at text) count
 
+-- whether the fast path passes no word of a class
+abbrev pub is_slow : Class → Bool
+is_slow class.Identifier = false
+is_slow (class.Fixed terminal) = false
+is_slow class.LineEnd = false
+is_slow class.Skipped = false
+is_slow (class.Opener kind.Text is_raw quote) = false
+is_slow it = true
+
+abbrev pub is_opener : Class → Bool
+is_opener (class.Opener kind is_raw quote) = true
+is_opener it = false
+
+-- how many reads find a word, at most
+abbrev pub most_peeked : Word → ℕ
+most_peeked word = if is_opener word.class then 5 * word.len - 2 else 5 * word.len + 3
+
 -- what is found is at the reader's offset, and the reads that found it are few enough
 abbrev pub IsFound : Text → Reader → (word : Word) (run : ℕ) → Found → Type 0
 IsFound text reader word run found.Nothing = IsAtCode text reader × HasRead text reader
-IsFound text reader word run found.Named = IsWordHere text reader word × HasPeeked text word.len (5 * word.len - 2) reader
-IsFound text reader word run found.Unnamed = IsWordHere text reader word × HasPeeked text word.len (5 * word.len + 3) reader
+IsFound text reader word run found.Word = IsWordHere text reader word × (is_slow word.class ≡ true) × HasPeeked text word.len (most_peeked word) reader
 IsFound text reader word run found.Wordless = IsAtCode text reader × (language_front (drop reader.at text) ≡ None) × HasPeeked text 0 3 reader
 IsFound text reader word run found.Literal = IsWordHere text reader word × IsOpened word.class (drop word.len (drop reader.at text)) run × HasPeeked text (word.len + run) (5 * word.len + 8 * run + 3) reader
 IsFound text reader word run found.Text = IsTextRun text run reader × HasPeeked text run (8 * run + 4) reader
@@ -57,12 +75,9 @@ abbrev pub is_nothing : Found → Bool
 is_nothing found.Nothing = true
 is_nothing it = false
 
-abbrev pub is_all : Found → Bool
-is_all found.All = true
-is_all it = false
-
--- whether the reader looks before it takes a lexeme
-abbrev pub left_to_look : Found → ℕ
-left_to_look found.Nothing = 1
-left_to_look found.All = 1
-left_to_look it = 0
+-- The reader looked at what comes next, if something does; a word there is a fault.
+abbrev pub IsLooked : Text → Reader → Word → Found → Type 0
+IsLooked text reader word found.Nothing = ⊥
+IsLooked text reader word found.Word = IsFaultWord word.class (take word.len (drop reader.at text))
+IsLooked text reader word found.All = IsAtEnd text reader
+IsLooked text reader word it = ⊤

@@ -8,7 +8,7 @@ use Rattle.starlark_grammar.specs.Laws.{AtBoundaries}
 use Rattle.starlark_grammar.specs.Margins.{comment_of, comments_from, is_comment_only, lines}
 use Rattle.starlark_token.specs.Lexemes.{lexeme_view, shown_lexeme}
 use Rattle.starlark_token.specs.TokenViews.{TokenView, Whole}
-use Rattle.starlark_reader.specs.Inner.TextEnds.{text_end_node}
+use Rattle.starlark_reader.specs.Inner.PieceViews.{text_end}
 use Rattle.starlark_reader.specs.declared.comments.CommentLine.{CommentLine}
 use Rattle.starlark_reader.specs.declared.pending.AfterComments.{AfterComments}
 use Rattle.starlark_reader.specs.declared.pending.AfterComments.TheVariants as remainder
@@ -27,7 +27,7 @@ owed pending = pending.to - pending.from
 abbrev pub lexemes_after : AfterComments → List grammar.Lexeme
 lexemes_after (remainder.Dedents at count) = replicate count (record { begin = at; node = grammar.Dedent; end = at })
 lexemes_after (remainder.Indent begin end) = record { begin = begin; node = grammar.Indent; end = end } ∷ []
-lexemes_after (remainder.TextEnd begin stop end) = record { begin = begin; node = text_end_node stop; end = end } ∷ []
+lexemes_after (remainder.TextEnd begin before_expression end) = record { begin = begin; node = text_end before_expression; end = end } ∷ []
 
 -- all pending lexemes: comments of lines, and the lexemes after them
 unfoldable pub pending_lexemes : Text → Pending → List grammar.Lexeme

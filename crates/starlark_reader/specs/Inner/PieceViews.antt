@@ -2,6 +2,7 @@
 use Rattle.std.specs.Prelude.{◌≡◌, ◌<◌, ℕ, Bool, true, false, []}
 use Rattle.starlark_grammar.specs.AfterFaults.{line_end_len}
 use Rattle.starlark_grammar.specs.Depths.{Mode, InText}
+use Rattle.starlark_grammar.specs.Tokens.{Token, FStringExprStart, FStringEnd}
 use Rattle.starlark_grammar.specs.Words.{Text}
 use Rattle.starlark_grammar.specs.Pieces as grammar
 
@@ -9,6 +10,11 @@ use Rattle.starlark_grammar.specs.Pieces as grammar
 abbrev pub nothing_of : ℕ → Bool → grammar.Step
 nothing_of len true = grammar.gap len
 nothing_of len false = grammar.piece len []
+
+-- the token that ends a text of an f-string: an expression begins, or the f-string ends
+abbrev pub text_end : Bool → Token
+text_end true = FStringExprStart
+text_end false = FStringEnd
 
 -- the text begins with a line end of `len` bytes
 abbrev pub IsLineEnd : ℕ → Text → Type 0

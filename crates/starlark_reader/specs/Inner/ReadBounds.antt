@@ -28,14 +28,14 @@ is_tab_error error = is_tab_view (fault_view error)
 -- each byte before it and of bytes up to its end, and those of a tab's fault of the first `line` bytes
 abbrev pub AreStepReads : (passed factor line extra : ℕ) → Step → (before after : ℕ) → Type 0
 AreStepReads passed factor line extra (step.Token token len) before after = AreReads (len - passed) (factor * (len - passed)) before after × (passed < len)
-AreStepReads passed factor line extra (step.Text text text_len stop len) before after = AreReads (text_len + len - passed) (factor * (text_len + len - passed)) before after × (passed < text_len + len)
+AreStepReads passed factor line extra (step.Text value chunk) before after = AreReads (chunk.len + chunk.stop_len - passed) (factor * (chunk.len + chunk.stop_len - passed)) before after × (passed < chunk.len + chunk.stop_len)
 AreStepReads passed factor line extra (step.Fault begin fault end) before after = AreReads begin (if is_tab_error fault then 5 * line + 3 else factor * end + extra) before after
 
 -- the step takes a whole word of `len` bytes, or is a fault from there on that ends after them, and
 -- no tab's
 abbrev pub IsOfWord : ℕ → Step → Type 0
 IsOfWord len (step.Token token taken) = taken ≡ len
-IsOfWord len (step.Text text text_len stop taken) = ⊥
+IsOfWord len (step.Text value chunk) = ⊥
 IsOfWord len (step.Fault begin fault end) = (begin ≡ 0) × (len ≤ end) × (is_tab_error fault ≡ false)
 
 -- the step is a fault from one offset to another, and no tab's
@@ -57,7 +57,7 @@ AreFaultReads false passed line begin end most before after = AreReads (begin - 
 -- reads of a token or a fault after its word of `passed` bytes, which may be all of it
 abbrev pub AreWordReads : (passed factor more line extra : ℕ) → Step → (before after : ℕ) → Type 0
 AreWordReads passed factor more line extra (step.Token token len) before after = AreReads (len - passed) (factor * (len - passed) + more) before after × (passed ≤ len)
-AreWordReads passed factor more line extra (step.Text text text_len stop len) before after = ⊥
+AreWordReads passed factor more line extra (step.Text value chunk) before after = ⊥
 AreWordReads passed factor more line extra (step.Fault begin fault end) before after = AreFaultReads (is_tab_error fault) passed line begin end (factor * (end - passed) + extra) before after
 
 -- the fault is as `P` says, as the grammar sees it
@@ -96,7 +96,7 @@ HasStarted len old new = (old.at + len ≤ new.at) × (new.at ≤ old.at + len +
 -- the reader advanced past the step, or stopped at its fault, and read nothing
 abbrev pub IsPassed : Reader → Step → Reader → Type 0
 IsPassed old (step.Token token len) new = IsPassedBy (old.at + len) old new × (new.stage ≡ stage.Onward)
-IsPassed old (step.Text text text_len stop len) new = IsPassedBy (old.at + (text_len + len)) old new × (new.stage ≡ stage.Onward)
+IsPassed old (step.Text value chunk) new = IsPassedBy (old.at + (chunk.len + chunk.stop_len)) old new × (new.stage ≡ stage.Onward)
 IsPassed old (step.Fault begin fault end) new = IsPassedBy old.at old new × (new.stage ≡ stage.Fault (old.at + begin) fault (old.at + end))
 
 -- reads at a fault and in the search after it, at most: sixteen for each byte up to where lexing begins

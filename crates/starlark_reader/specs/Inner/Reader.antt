@@ -5,7 +5,7 @@ use Rattle.starlark_grammar.specs.Words.{Text, language}
 use Rattle.starlark_grammar.specs.Tokens as grammar
 use Rattle.starlark_grammar.specs.Margins.{has_tab, is_content, margin_of, open_widths}
 use Rattle.starlark_grammar.specs.Cuts.{is_layout}
-use Rattle.starlark_grammar.specs.Depths.{is_balanced, mode_after}
+use Rattle.starlark_grammar.specs.Depths.{mode_after}
 use Rattle.starlark_grammar.specs.Front.{language_front}
 use Rattle.starlark_grammar.specs.Pieces as pieces
 use Rattle.starlark_grammar.specs.Pieces.{Before, Gap, Layout, Other, Step, Piece, Fails, counts, is_bang}
@@ -19,7 +19,7 @@ use Rattle.starlark_reader.specs.Inner.Pending.{IsIdle, IsPending, pending_lexem
 use Rattle.starlark_reader.specs.Inner.Nesting.{Represents, bracket_count}
 use Rattle.starlark_reader.specs.Inner.PieceViews.{is_code}
 use Rattle.starlark_reader.specs.Inner.StepViews.{text_step}
-use Rattle.starlark_reader.specs.declared.literal.chunks.PlainText.{PlainText}
+use Rattle.starlark_reader.specs.declared.literal.chunks.Chunk.{Chunk}
 use Rattle.starlark_token.specs.TokenViews.{TokenView, Whole}
 use Rattle.starlark_grammar.specs.declared.class.Terminal.{Terminal}
 use Rattle.starlark_token.specs.declared.lexeme_error.LexemeError.{LexemeError}
@@ -233,6 +233,16 @@ IsOver now = ⊥
 abbrev pub IsAtEnd : Text → Reader → Type 0
 IsAtEnd text reader = IsIdle text reader.pending × IsOver reader.stage
 
+-- whether nothing was read, …
+abbrev pub is_begin : Stage → Bool
+is_begin stage.Begin = true
+is_begin now = false
+
+-- … or some pieces, and more come
+abbrev pub is_onward : Stage → Bool
+is_onward stage.Onward = true
+is_onward now = false
+
 -- whether a fault was reached
 abbrev pub is_fault : Stage → Bool
 is_fault (stage.Fault begin fault end) = true
@@ -281,15 +291,11 @@ pub record IsBangHere (text : Text) (reader : Reader) : Type 0 where
   pub stands : (history : History) → IsStateAfter text history reader → step_here text history reader ≡ pieces.token 1 grammar.FStringBang
 
 -- an f-string text without escapes is at the reader's offset, and no lexeme is pending
-pub record IsPlainTextHere (text : Text) (reader : Reader) (found : PlainText) : Type 0 where
+pub record IsPlainTextHere (text : Text) (reader : Reader) (found : Chunk) : Type 0 where
   pub stage : reader.stage ≡ stage.Onward
   pub idle : IsIdle text reader.pending
   pub boundary : IsCharBoundary (drop reader.at text) found.len
-  pub stands : (history : History) → IsStateAfter text history reader → step_here text history reader ≡ text_step found.len (take found.len (drop reader.at text)) found.stop found.stop_len
-
--- newlines count at the reader's offset: all brackets are closed, and no f-string is open
-abbrev pub CountsLineEnds : Reader → Type 0
-CountsLineEnds reader = (before : List grammar.Token) → Represents before reader.nesting → counts (mode_after before) (is_balanced before) ≡ true
+  pub stands : (history : History) → IsStateAfter text history reader → step_here text history reader ≡ text_step (take found.len (drop reader.at text)) found
 
 -- the `Newline` of a newline of `len` bytes at byte `at`, if its margin has no fault
 abbrev pub newline_if : Bool → ℕ → ℕ → Option (ℕ × Token × ℕ)
@@ -315,6 +321,10 @@ name_lexeme text at len = record { begin = at; node = Whole (grammar.Identifier 
 -- escapes, and which one quote closes
 abbrev pub text_lexeme : Text → ℕ → ℕ → ℕ → grammar.Spanned TokenView
 text_lexeme text at len body = record { begin = at; node = Whole (grammar.String (take body (drop len (drop at text)))); end = at + (len + body + 1) }
+
+-- the lexeme of an f-string text of `len` bytes at byte `at`, if its value isn't empty
+abbrev pub chunk_lexemes : ℕ → ℕ → Text → List (grammar.Spanned TokenView)
+chunk_lexemes at len value = map shown_lexeme (map (grammar.moved at) (pieces.chunk_text len value))
 
 -- the f-string text of `len` bytes at byte `at`, without escapes
 abbrev pub fstring_text_lexeme : Text → ℕ → ℕ → grammar.Spanned TokenView

@@ -9,18 +9,17 @@ use Rattle.starlark_grammar.specs.declared.class.Class.{Class}
 use Rattle.starlark_grammar.specs.declared.class.Class.TheVariants as class
 use Rattle.starlark_token.specs.TokenViews.{Whole, token_view}
 use Rattle.starlark_token.specs.Lexemes.{fault_view}
-use Rattle.starlark_reader.specs.Inner.TextEnds.{text_end_node}
-use Rattle.starlark_reader.specs.declared.text_end.TextEnd.{TextEnd}
+use Rattle.starlark_reader.specs.Inner.PieceViews.{text_end}
 use Rattle.starlark_grammar.specs.Inner.Openings.{opening_view}
 use Rattle.starlark_grammar.specs.declared.class.Opening.{Opening}
 use Rattle.starlark_reader.specs.Inner.Nesting.{is_fstring_start}
-use Rattle.starlark_reader.specs.declared.literal.chunks.PlainText.{PlainText}
+use Rattle.starlark_reader.specs.declared.literal.chunks.Chunk.{Chunk}
 use Rattle.starlark_reader.specs.declared.literal.pieces.Step.{Step}
 use Rattle.starlark_reader.specs.declared.literal.pieces.Step.TheVariants as step
 
--- the step of an f-string text of `text_len` bytes, its value, and the `len` bytes that end it
-abbrev pub text_step : ℕ → Text → TextEnd → ℕ → pieces.Step
-text_step text_len value stop len = pieces.piece (text_len + len) (pieces.chunk_text text_len value ++ record { begin = text_len; node = text_end_node stop; end = text_len + len } ∷ [])
+-- the step of an f-string text, by its value, and of what ends it
+abbrev pub text_step : Text → Chunk → pieces.Step
+text_step value chunk = pieces.piece (chunk.len + chunk.stop_len) (pieces.chunk_text chunk.len value ++ record { begin = chunk.len; node = text_end chunk.before_expression; end = chunk.len + chunk.stop_len } ∷ [])
 
 -- the text begins with a digit of this value
 abbrev pub IsDigitAt : ℕ → Text → Type 0
@@ -38,13 +37,13 @@ number_of it word = grammar.Float word
 -- fault
 abbrev pub IsStep : pieces.Step → Step → Type 0
 IsStep stands (step.Token token len) = (node : grammar.Token) × (token_view token ≡ Whole node) × (is_fstring_start node ≡ false) × (stands ≡ pieces.token len node)
-IsStep stands (step.Text text text_len stop len) = stands ≡ text_step text_len (string_bytes text) stop len
+IsStep stands (step.Text value chunk) = stands ≡ text_step (string_bytes value) chunk
 IsStep stands (step.Fault begin fault end) = (node : grammar.Fault) × (fault_view fault ≡ Some node) × (stands ≡ pieces.fault begin node end)
 
 -- the text begins with an f-string text without escapes, and what ends it
-pub record IsPlainText (opening : Opening) (text : Text) (found : PlainText) : Type 0 where
+pub record IsPlainText (opening : Opening) (text : Text) (found : Chunk) : Type 0 where
   pub boundary : IsCharBoundary text found.len
-  pub stands : pieces.chunk (opening_view opening) text ≡ text_step found.len (take found.len text) found.stop found.stop_len
+  pub stands : pieces.chunk (opening_view opening) text ≡ text_step (take found.len text) found
 
 -- a word that is a fault: tabs, a reserved word, or a 0 before more digits
 abbrev pub IsFaultWord : Class → Text → Type 0

@@ -10,7 +10,6 @@ ghost use Rattle.starlark_grammar.specs.Inner.Openings.{opening_view};
 ghost use Rattle.starlark_grammar.specs.Pieces as grammar;
 
 use super::pieces::Step;
-use crate::text_end::TextEnd;
 use starlark_grammar::class::Opening;
 use starlark_token::lexeme_error::LexemeError;
 use starlark_words::reads::ReadCounter;
@@ -45,16 +44,20 @@ pub(crate) fn chunk_from(
     };
     match stop {
         Stop::OpeningBrace => Ok(Step::Text {
-            text: value,
-            text_len,
-            stop: TextEnd::Expression,
-            len: 1,
+            value,
+            chunk: Chunk {
+                len: text_len,
+                before_expression: true,
+                stop_len: 1,
+            },
         }),
         Stop::Closing => Ok(Step::Text {
-            text: value,
-            text_len,
-            stop: TextEnd::FString,
-            len: closing_len(opening),
+            value,
+            chunk: Chunk {
+                len: text_len,
+                before_expression: false,
+                stop_len: closing_len(opening),
+            },
         }),
         Stop::ClosingBrace => Ok(Step::Fault {
             begin: text_len,
@@ -79,11 +82,12 @@ pub(crate) fn chunk_from(
     }
 }
 
-/// An f-string text without escapes: its length, what ends it, and the length of that, in bytes.
+/// An f-string text of `len` bytes, and the `stop_len` bytes that end it: the `{` before an
+/// expression, or the closing quotes.
 #[derive(Clone, Copy)]
-pub struct PlainText {
+pub struct Chunk {
     pub len: usize,
-    pub stop: TextEnd,
+    pub before_expression: bool,
     pub stop_len: usize,
 }
 
@@ -94,7 +98,7 @@ pub(crate) fn plain_text(
     reads: &mut ReadCounter,
     opening: Opening,
     text: &str,
-) -> Result<PlainText, usize>
+) -> Result<Chunk, usize>
     ensures plain { IfOk result (IsPlainText opening text.now) }
     ensures some { IfOk result (λ found. (0 < found.stop_len) × (found.stop_len ≤ 3)) }
     ensures reads { IfOk result (λ found. AreReads (found.len + 3) (6 * found.len + 4) reads.old reads.new) }
@@ -102,14 +106,14 @@ pub(crate) fn plain_text(
 {
     let (len, stop) = plain_chunk_len(reads, opening, text)?;
     match stop {
-        Stop::OpeningBrace => Ok(PlainText {
+        Stop::OpeningBrace => Ok(Chunk {
             len,
-            stop: TextEnd::Expression,
+            before_expression: true,
             stop_len: 1,
         }),
-        Stop::Closing => Ok(PlainText {
+        Stop::Closing => Ok(Chunk {
             len,
-            stop: TextEnd::FString,
+            before_expression: false,
             stop_len: closing_len(opening),
         }),
         _ => Err(len),

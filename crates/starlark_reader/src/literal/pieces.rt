@@ -1,14 +1,12 @@
 //! String and bytes literals as lexemes.
 
 ghost use Rattle.std.specs.Prelude.{◌≡◌, ◌≢◌, ◌+◌, ◌*◌, ◌<◌, ◌^◌, ℕ, Some, false, length, not, IfOk};
-ghost use Rattle.starlark_grammar.specs.Depths.{Mode};
 ghost use Rattle.starlark_grammar.specs.Items as items;
 ghost use Rattle.starlark_reader.specs.Inner.StepViews.{IsStep};
-ghost use Rattle.starlark_reader.specs.Inner.Nesting.{is_fstring_start};
+ghost use Rattle.starlark_reader.specs.Inner.Nesting.{is_fstring_start, mode_view};
 ghost use Rattle.starlark_reader.specs.Inner.ReadBounds.{AreWordReads, IsFaultAt, is_tab_error};
 ghost use Rattle.starlark_words.specs.Inner.Reads.{AreReads, more_reads};
 ghost use Rattle.starlark_token.specs.Lexemes.{fault_view};
-ghost use Rattle.starlark_grammar.specs.Cuts.{is_outside};
 ghost use Rattle.starlark_words.specs.Inner.LiteralViews.{bytes_of, holds_text, literal_view, single_literal};
 ghost use Rattle.starlark_words.specs.Inner.PlainRuns.{IsRun};
 ghost use Rattle.starlark_grammar.specs.Inner.Openings.{opening_view};
@@ -17,7 +15,8 @@ ghost use Rattle.starlark_token.specs.TokenViews.{Whole, fstring_quote_view, tok
 ghost use Rattle.starlark_grammar.specs.declared.class.LiteralKind.{LiteralKind as Kind};
 ghost use Rattle.starlark_grammar.specs.declared.class.LiteralKind.TheVariants.{FString as OfFString};
 
-use crate::text_end::TextEnd;
+use super::chunks::Chunk;
+use crate::nesting::LexerMode;
 use starlark_grammar::class::Opening;
 use starlark_token::fstring_style::FStringQuote;
 use starlark_token::lexeme_error::LexemeError;
@@ -28,8 +27,7 @@ use starlark_words::{Literal, LiteralValue, Stop, closing_len, read_body};
 use std::alloc::{AllocError, Global};
 
 /// A step at an offset: a token, an f-string text with its end, or a fault. Offsets and lengths are
-/// in bytes, from there on. An f-string text has `text_len` bytes; if its value is empty, it yields
-/// no token.
+/// in bytes, from there on. An f-string text whose value is empty yields no token.
 #[derive(Drop)]
 pub enum Step {
     Token {
@@ -37,10 +35,8 @@ pub enum Step {
         len: usize,
     },
     Text {
-        text: String,
-        text_len: usize,
-        stop: TextEnd,
-        len: usize,
+        value: String,
+        chunk: Chunk,
     },
     Fault {
         begin: usize,
@@ -62,15 +58,15 @@ fn is_plain(opening: Opening, text: &[u8]) -> bool
 /// opening.
 fn unfinished(
     reads: &mut ReadCounter,
-    outside: bool,
+    mode: LexerMode,
     literal: Literal,
     remainder: &str,
 ) -> LexemeError
-    ensures fault { (mode : Mode) → is_outside mode ≡ outside → fault_view result ≡ Some (grammar.unfinished mode literal.kind (opening_view literal.opening) remainder.now) }
+    ensures fault { fault_view result ≡ Some (grammar.unfinished (mode_view mode) literal.kind (opening_view literal.opening) remainder.now) }
     ensures reads { AreReads 0 (length remainder.now) reads.old reads.new }
     ensures untabbed { is_tab_error result ≡ false }
 {
-    if !outside
+    if !matches!(mode, LexerMode::Outside)
         && literal.kind == LiteralKind::Text
         && is_plain(
             literal.opening,
@@ -121,7 +117,7 @@ fn escape_fault(alloc: Global, begin: usize, read: &str) -> Result<Step, AllocEr
 fn literal_from(
     reads: &mut ReadCounter,
     alloc: Global,
-    outside: bool,
+    mode: LexerMode,
     literal: Literal,
     len: usize,
     run: usize,
@@ -129,7 +125,7 @@ fn literal_from(
 ) -> Result<Step, AllocError>
     requires fits { len + length remainder.now < 2 ^ 64 }
     requires run { IsRun (literal_view literal) remainder.now run }
-    ensures step { IfOk result (λ step. (mode : Mode) → is_outside mode ≡ outside → IsStep (grammar.literal mode literal.kind (opening_view literal.opening) len remainder.now) step) }
+    ensures step { IfOk result (IsStep (grammar.literal (mode_view mode) literal.kind (opening_view literal.opening) len remainder.now)) }
     ensures reads { IfOk result (λ step. (before : ℕ) → AreReads run (8 * run) before reads.old → AreWordReads len 9 0 0 6 step before reads.new) }
 {
     let body = read_body(reads, alloc, literal, run, remainder)?;
@@ -152,7 +148,7 @@ fn literal_from(
         }),
         _ => Ok(Step::Fault {
             begin: 0,
-            fault: unfinished(reads, outside, literal, remainder),
+            fault: unfinished(reads, mode, literal, remainder),
             end: len + remainder.len(),
         }),
     }
@@ -206,7 +202,7 @@ pub(crate) fn opening_of(
 pub(crate) fn literal_piece(
     reads: &mut ReadCounter,
     alloc: Global,
-    outside: bool,
+    mode: LexerMode,
     kind: LiteralKind,
     is_raw: bool,
     quote: Quote,
@@ -218,8 +214,7 @@ pub(crate) fn literal_piece(
     requires fits { len + length remainder.now < 2 ^ 64 }
     requires run { IsRun (single_literal kind is_raw quote) remainder.now run }
     ensures reads { IfOk result (λ step. (before : ℕ) → AreReads run (8 * run) before reads.old → AreWordReads len 9 2 0 8 step before reads.new) }
-    ensures step { IfOk result (λ step. (mode : Mode) → is_outside mode ≡ outside →
-        IsStep (grammar.opener mode kind (grammar.opening_of is_raw quote remainder.now) len remainder.now) step) }
+    ensures step { IfOk result (IsStep (grammar.opener (mode_view mode) kind (grammar.opening_of is_raw quote remainder.now) len remainder.now)) }
 {
     let opening = Opening {
         is_raw,
@@ -228,8 +223,8 @@ pub(crate) fn literal_piece(
     };
     let literal = Literal { kind, opening };
     if opening.is_triple {
-        literal_from(reads, alloc, outside, literal, len + 2, 0, &remainder[2..])
+        literal_from(reads, alloc, mode, literal, len + 2, 0, &remainder[2..])
     } else {
-        literal_from(reads, alloc, outside, literal, len, run, remainder)
+        literal_from(reads, alloc, mode, literal, len, run, remainder)
     }
 }

@@ -1,11 +1,11 @@
 -- The lexemes of a text that were handed out so far, in a list.
-use Rattle.std.proofs.Common.{◌≡◌, Bool, true, false, ℕ, ◌+◌, ◌-◌, ◌<◌, ◌≤◌, List, [], ◌∷◌, ◌++◌, drop, map, take, length, refl, ap, sym, subst, ◌∙◌, arith, append-nil, append_assoc, length-append, ◌||◌, None, Some, Ok, Result}
+use Rattle.std.proofs.Common.{◌≡◌, Bool, true, false, ℕ, ◌+◌, ◌-◌, ◌<◌, ◌≤◌, List, [], ◌∷◌, ◌++◌, drop, map, take, length, refl, ap, sym, subst, ◌∙◌, arith, append-nil, append_assoc, length-append, ◌||◌, None, Some, Ok, Result, rules}
 use Rattle.std.specs.Prelude.{◌&&◌, IfSome, Option, codes, nat_eq, nat_le, nat_lt}
 use Rattle.std.specs.List.{AllByRecursion, ends_with}
 use Rattle.starlark_base.specs.Diagnostics.{Diagnosed}
 use Rattle.std.specs.Option.{is_some}
 use Rattle.std.proofs.lemmas.Bool.{leb-false, leb-true, ltb-false, ltb-true}
-use Rattle.std.proofs.lemmas.List.{length-map, map-append}
+use Rattle.std.proofs.lemmas.List.{length-map, map-append, take_all}
 use Rattle.starlark_grammar.specs.Words.{Text}
 use Rattle.starlark_grammar.specs.Tokens.{Spanned}
 use Rattle.starlark_grammar.specs.Reading.{History, outcome}
@@ -17,14 +17,12 @@ use Rattle.starlark_grammar.proofs.Joining.LineCuts.{kept_parts}
 use Rattle.starlark_syntax.specs.Inner.LexedTexts.{AreCuts, IsCutOf, IsReadPart, IsRising, PartView, cuts_at, end_cuts, holds_cut}
 use Rattle.starlark_reader.specs.Inner.MarginCuts.{IsCutBefore, lexemes_before}
 use Rattle.starlark_syntax.specs.declared.cuts.Cut.{Cut}
-use Rattle.starlark_syntax.proofs.LexedTexts.CleanEnds.{faultless_cut, faulty_cut}
-use Rattle.starlark_syntax.proofs.LexedTexts.KeptCuts.{in_order, some_lexemes, take_all, whole_kept}
-use Rattle.starlark_syntax.proofs.LexedTexts.HeldCuts.{held_left, held_one, held_right, kept_inside, kept_some}
-use Rattle.starlark_syntax.proofs.LexedTexts.RelexedOutcomes.{all_both}
+use Rattle.starlark_syntax.proofs.LexedTexts.KeptCuts.{faultless_cut, faulty_cut, in_order, some_lexemes, whole_kept, held_left, held_one, held_right, kept_inside, kept_some}
+use Rattle.starlark_syntax.proofs.LexedTexts.Elements.{all_both, all_weaker}
 use Rattle.starlark_syntax.proofs.LexedTexts.JoinedLists.{begun}
 use Rattle.starlark_reader.proofs.TakenPieces.Onward.{margin_first}
 use Rattle.starlark_reader.proofs.TakenPieces.Taken.{no_tab}
-use Rattle.starlark_reader.specs.Inner.Reader.{IsReached, IsStateAfter, begins_with_tab, has_read_none, history_of}
+use Rattle.starlark_reader.specs.Inner.Reader.{IsReached, IsStateAfter, begins_with_tab, has_read_none}
 use Rattle.starlark_syntax.specs.Inner.RawItems.{IsRawIn}
 use Rattle.starlark_syntax.specs.Lexer.{is_ended_by, yielded_by}
 use Rattle.starlark_syntax.specs.Inner.LexerStates.{HasAnswered, HasTakenLast, IsBegun, IsLexing, StateView, left_in, view_of}
@@ -53,7 +51,6 @@ pub one_more : (text : Text) (old new : LexerState) (found : List (ℕ × Token 
     → view_of new ≡ record (view_of old) { yielded_count = old.yielded_count + 1; has_ended = false; reads = new.reader.reads }
     → IsCollected text new (found ++ lexeme ∷ []) × (length found < length (outcome text).lexemes) × ((at : ℕ) → IsCutBefore text at (length (left_in new)) → IsReached new.reader at)
 one_more text old new found lexeme is answer lexing after =
-    let same : old.reader.text.now ≡ text = text_is text old found is in
     let left : left_in new ≡ answer.0 =
     ap (λ (v : StateView). drop v.yielded_count (map shown_lexeme (outcome v.text).lexemes)) after ∙ (next_left (map shown_lexeme (outcome old.reader.text.now).lexemes) old.yielded_count (lexeme_view lexeme) answer.0 answer.1).1 in
     let all : map shown_lexeme (outcome text).lexemes ≡ map lexeme_view found ++ lexeme_view lexeme ∷ left_in new = is.all ∙ ap (λ vs. map lexeme_view found ++ vs) (answer.1 ∙ ap (λ vs. lexeme_view lexeme ∷ vs) (sym left)) in
@@ -67,16 +64,12 @@ one_more text old new found lexeme is answer lexing after =
         all = all ∙ sym parts;
       },
       omega (arith, count, length-map (outcome text).lexemes shown_lexeme, length-map found lexeme_view),
-      λ at cut. answer.3 at (subst (λ n. IsCutBefore old.reader.text.now at n) (ap length left) (subst (λ (t : Text). IsCutBefore t at (length (left_in new))) (sym same) cut)),
+      λ at cut. answer.3 at (subst (λ n. IsCutBefore old.reader.text.now at n) (ap length left) (subst (λ (t : Text). IsCutBefore t at (length (left_in new))) (sym (text_is text old found is)) cut)),
     )
 
 -- where only the number of reads changes
 pub same_collected : (text : Text) (old new : LexerState) (found : List (ℕ × Token × ℕ)) → IsCollected text old found → IsLexing new → view_of new ≡ record (view_of old) { reads = new.reader.reads } → IsCollected text new found
-same_collected text old new found is lexing after = record {
-  lexing = lexing;
-  view = after ∙ ap (λ (v : StateView). record v { reads = new.reader.reads }) is.view;
-  all = is.all ∙ ap (λ vs. map lexeme_view found ++ vs) (sym (ap (λ (v : StateView). drop v.yielded_count (map shown_lexeme (outcome v.text).lexemes)) after));
-}
+same_collected text old new found is lexing after = search rules
 
 -- where no lexeme is left
 pub none_collected : (text : Text) (old new : LexerState) (answer : Option (Result (ℕ × Token × ℕ) (OrMemory (Diagnosed ErrorKind)))) (found : List (ℕ × Token × ℕ)) → is_some answer ≡ false → IsCollected text old found → IsLexing new
@@ -94,14 +87,7 @@ less_left all old new x is some = omega (arith, ap length is, length-append old 
 
 -- none yet
 pub collected_none : (state : LexerState) (found : List (ℕ × Token × ℕ)) → found ≡ [] → IsLexing state → IsBegun state.reader.text.now state → IsCollected state.reader.text.now state found
-collected_none state found none lexing begun =
-    let none_yet : state.yielded_count ≡ 0 = ap (λ (v : StateView). v.yielded_count) begun.view in
-    record {
-      lexing = lexing;
-      view = begun.view ∙ ap (λ (ls : List (ℕ × Token × ℕ)). record { text = state.reader.text.now; yielded_count = length ls; has_ended = false; reads = 0 }) (sym none)
-          ∙ ap (λ n. record { text = state.reader.text.now; yielded_count = length found; has_ended = false; reads = n }) (sym (ap (λ (v : StateView). v.reads) begun.view));
-      all = sym (ap (λ (ls : List (ℕ × Token × ℕ)). map lexeme_view ls ++ left_in state) none ∙ ap (λ n. drop n (map shown_lexeme (outcome state.reader.text.now).lexemes)) none_yet);
-    }
+collected_none state found none lexing begun = search rules
 
 -- all of them, where none is left
 none_left : (text : Text) (state : LexerState) (found : List (ℕ × Token × ℕ)) → IsCollected text state found → left_in state ≡ [] → map lexeme_view found ≡ map shown_lexeme (outcome text).lexemes
@@ -121,10 +107,6 @@ pub record AreCutsSoFar (text : Text) (count : ℕ) (cuts : List Cut) : Type 0 w
 pub no_cuts_yet : (text : Text) (cuts : List Cut) → cuts ≡ [] → AreCutsSoFar text 0 cuts
 no_cuts_yet text cuts none = subst (AreCutsSoFar text 0) (sym none) (record { each = tt; order = tt; inside = tt; few = tt; all = λ at kept inside few. absurd (omega (arith, few, cut_some text at (kept_inside text at kept) (kept_parts text at kept).1)) })
 
-pub all_weaker : {A : Type 0} (P Q : A → Type 0) (xs : List A) → ((x : A) → P x → Q x) → AllByRecursion P xs → AllByRecursion Q xs
-all_weaker P Q [] more all = tt
-all_weaker P Q (x ∷ xs) more all = (more x all.0, all_weaker P Q xs more all.1)
-
 -- one more after them
 rising_last : (cuts : List Cut) (last : Cut) → IsRising cuts → AllByRecursion (λ (cut : Cut). cut.at < last.at) cuts → IsRising (cuts ++ last ∷ [])
 rising_last [] last rising before = (tt, tt)
@@ -137,9 +119,7 @@ before_last text (cut ∷ cuts) count last each few is more = (less (nat_lt cut.
     less : (b : Bool) → nat_lt cut.at last.at ≡ b → cut.at < last.at
     less true e = ltb-true cut.at last.at e
     less false e =
-        let beyond : last.at ≤ cut.at = ltb-false cut.at last.at e in
-        let order : cut.at ≤ last.at = in_order text cut last each.0 is (omega (arith, few.0, more)) in
-        let same : cut.at ≡ last.at = omega (arith, beyond, order) in
+        let same : cut.at ≡ last.at = omega (arith, ltb-false cut.at last.at e, in_order text cut last each.0 is (omega (arith, few.0, more))) in
         absurd (omega (arith, few.0, more, each.0.lexemes, is.lexemes, ap (lexemes_before text) same))
 
 -- after one lexeme more, where there may be a cut
@@ -190,8 +170,7 @@ all_held text cuts more count so same last at kept = go (nat_lt at (length text)
     go true e = held_left at cuts more (so.all at kept (ltb-true at (length text) e) (omega (arith, same, kept_few text at kept)))
     go false e =
         let whole : at ≡ length text = omega (arith, ltb-false at (length text) e, kept_inside text at kept) in
-        let clean : is_clean_cut text ≡ true = ap is_clean_cut (sym (ap (λ n. take n text) whole ∙ take_all text)) ∙ (kept_parts text at kept).1 in
-        held_right at cuts more (ap (λ n. holds_cut n more) whole ∙ last clean)
+        held_right at cuts more (ap (λ n. holds_cut n more) whole ∙ last (ap is_clean_cut (sym (take_all at text (omega (arith, whole)))) ∙ (kept_parts text at kept).1))
 
 -- with the text's fault after them
 pub fault_given : (text : Text) (state new : LexerState) (part : PartView) (found : ℕ × LexemeError × ℕ) → IsCollected text state part.lexemes → HasTakenLast state (Some found) new
@@ -262,23 +241,14 @@ pushed_one text old new lexemes pushed lexeme cuts found place len is so answer 
     let later = cuts_more text (length lexemes) (left_in new) cuts place so (omega (arith, one, all_counted text new pushed collected))
     (subst (λ (t : Text). IfSome place (λ at. IsCutBefore t at (length (left_in new)))) same kept)
     (λ at cut. reached at (more.2 at cut) (kept_some text at cut.is_kept) (subst (λ (t : Text). at < length t) (sym same) cut.inside)) in
-    record {
-      more = more.1;
-      collected = collected;
-      cuts = subst (λ n. AreCutsSoFar text n found) (sym one) (subst (AreCutsSoFar text (length lexemes + 1)) (sym (all ∙ ap (λ n. cuts ++ cuts_at place n) (counted ∙ one))) later);
-    }
+    search rules
 
 -- Nothing is left of a text without fault only where it has a lexeme at least.
 pub some_given : (text : Text) (state new : LexerState) (found : List (ℕ × Token × ℕ)) → IsCollected text state found → HasTakenLast state None new → 0 < length found
 some_given text state new found is answer =
-    let none : (outcome text).fault ≡ None = ap (λ (t : Text). (outcome t).fault) (sym (text_is text state found is)) ∙ answer.1 in
-    omega (arith, some_lexemes text none, found_all text state found is answer.0)
+    omega (arith, some_lexemes text (ap (λ (t : Text). (outcome t).fault) (sym (text_is text state found is)) ∙ answer.1), found_all text state found is answer.0)
 
 -- whether the text is a clean cut, which the history at its end tells
 pub settled_is : (text : Text) (state new : LexerState) (found : List (ℕ × Token × ℕ)) (is_cut : Bool) → IsCollected text state found → HasTakenLast state None new
     → ((history : History) → IsStateAfter text history new.reader → is_cut ≡ (is_settled history && ends_with nat_eq text (codes "\n"))) → is_cut ≡ is_clean_cut text
-settled_is text state new found is_cut is answer by =
-    let same = text_is text state found is in
-    let none : (outcome text).fault ≡ None = ap (λ (t : Text). (outcome t).fault) (sym same) ∙ answer.1 in
-    let after : IsStateAfter text (history_of text) new.reader = subst (λ (t : Text). IsStateAfter t (history_of t) new.reader) same answer.2 in
-    by (history_of text) after ∙ sym (faultless_cut text none)
+settled_is text state new found is_cut is answer by = search (rules, text_is, faultless_cut)

@@ -2,7 +2,7 @@
 use Rattle.std.proofs.Common.{◌≡◌, ℕ, zero, suc, ◌<◌, Bool, true, false, List, [], ◌∷◌, map, take, length, refl, sym, subst, ◌∙◌, arith, Some, None}
 use Rattle.std.specs.Prelude.{Option, slice_index_or}
 use Rattle.starlark_grammar.specs.Tokens as grammar
-use Rattle.starlark_grammar.specs.Tokens.{Lexeme, Spanned}
+use Rattle.starlark_grammar.specs.Tokens.{Lexeme}
 use Rattle.starlark_grammar.specs.Cuts.{before_newline, is_newline}
 use Rattle.starlark_token.specs.Lexemes.{lexeme_view, shown, shown_lexeme}
 use Rattle.starlark_syntax.specs.Inner.LexedTexts.{last_newline_of}

@@ -1,11 +1,10 @@
--- What a text comes to that meets a known text at a kept cut.
-use Rattle.std.proofs.Common.{◌≡◌, ℕ, zero, suc, ◌+◌, ◌-◌, ◌<◌, ◌≤◌, Bool, true, false, List, [], ◌∷◌, ◌++◌, map, take, drop, length, refl, ap, sym, subst, ◌∙◌, arith, length-append, None, Some}
-use Rattle.std.specs.Prelude.{◌==◌, ◌||◌, IfSome, Option, nat_le, slice_get}
+-- What a text comes to that meets a known text at a kept cut, and the part that meets it in the known text's lists.
+use Rattle.std.proofs.Common.{◌≡◌, ℕ, zero, suc, ◌+◌, ◌-◌, ◌<◌, ◌≤◌, Bool, true, false, List, [], ◌∷◌, ◌++◌, map, take, drop, length, refl, ap, sym, subst, ◌∙◌, arith, length-append, None, Some, ◌⊎◌, inl, inr, ◌^◌, Ok, Err}
+use Rattle.std.specs.Prelude.{◌==◌, ◌||◌, IfSome, Option, slice_get, OnErr, OnOk, Result, ◌&&◌, nat_lt}
 use Rattle.std.specs.List.{AllByRecursion}
 use Rattle.std.proofs.Math.Seq.{drop-append_seam, take-append-add, take-append_seam}
-use Rattle.std.proofs.lemmas.Bool.{eqb-true, leb-false, leb-true}
-use Rattle.std.proofs.Common.{eq-eqb}
-use Rattle.std.proofs.lemmas.List.{length-drop, length-map, length-take-le, map-append, take-append-drop}
+use Rattle.std.proofs.lemmas.Bool.{cases_lt, eq-eqb, eqb-true, or_right}
+use Rattle.std.proofs.lemmas.List.{drop-map, length-drop, length-map, length-take-le, map-append, take-append-drop}
 use Rattle.starlark_grammar.specs.Words.{Text, language}
 use Rattle.starlark_grammar.specs.Tokens.{Lexeme, Outcome, Spanned, moved}
 use Rattle.starlark_grammar.specs.Reading.{outcome}
@@ -17,30 +16,30 @@ use Rattle.starlark_reader.specs.Inner.MarginCuts.{IsCutBefore, lexemes_before}
 use Rattle.starlark_reader.proofs.TakenPieces.Onward.{margin_first}
 use Rattle.starlark_reader.proofs.TakenPieces.Taken.{no_tab}
 use Rattle.starlark_syntax.specs.Inner.RawItems.{IsRawIn}
-use Rattle.starlark_syntax.specs.Inner.LexedTexts.{AreCuts, IsCutOf, IsMet, IsReadPart, IsReadPartTo, IsRising, PartView, cuts_at, holds_cut, met_part, moved_cut, moved_lexeme}
+use Rattle.starlark_syntax.specs.Inner.LexedTexts.{AreCuts, IsCutOf, IsMet, IsReadPart, IsReadPartTo, IsRising, PartView, cuts_at, holds_cut, met_part, moved_cut, moved_lexeme, AllAfter, AllNear, AllNearCuts, IsPutIn, later}
 use Rattle.starlark_syntax.specs.Inner.LexerStates.{left_in}
 use Rattle.starlark_syntax.specs.declared.cuts.Cut.{Cut}
 use Rattle.starlark_syntax.specs.declared.meetings.Meeting.{Meeting}
 use Rattle.starlark_syntax.specs.declared.lexer_state.LexerState.{LexerState}
 use Rattle.starlark_syntax.proofs.LexedTexts.Collected.{AreCutsSoFar, IsCollected, all_counted}
-use Rattle.starlark_syntax.proofs.LexedTexts.HeldCuts.{held_left, held_right, kept_inside, or_true}
+use Rattle.starlark_syntax.proofs.LexedTexts.KeptCuts.{held_left, held_right, kept_inside, clean_faultless, count_joined, no_more_before, reach_joined}
 use Rattle.starlark_syntax.proofs.LexedTexts.JoinedLists.{begun, outcome_joined, shown_later}
-use Rattle.starlark_syntax.proofs.LexedTexts.KeptCuts.{clean_faultless, count_joined, no_more_before, reach_joined}
-use Rattle.starlark_syntax.proofs.LexedTexts.RelexedOutcomes.{all_both, cut_later, rising_both}
+use Rattle.starlark_syntax.proofs.LexedTexts.Elements.{all_both, all_drop, all_map, one_is, all_front, all_of_two, all_weaker}
+use Rattle.starlark_syntax.proofs.LexedTexts.RelexedOutcomes.{cut_later, rising_both, cuts_near, begin_few, cut_few}
 use Rattle.starlark_token.specs.Lexemes.{lexeme_view, shown_lexeme}
 use Rattle.starlark_token.specs.TokenViews.{TokenView}
 use Rattle.starlark_token.specs.declared.tokens.Token.{Token}
+use Rattle.std.specs.Option.{is_some}
+use Rattle.std.specs.Result.{is_err}
+use Rattle.starlark_grammar.proofs.Order.Inside.{lexemes_few}
+use Rattle.starlark_syntax.specs.declared.cuts.Begin.{Begin}
+use Rattle.starlark_syntax.proofs.LexedTexts.Within.{lexemes_near}
 
 -- Lists
 
 -- lists that are equal have equal fronts of one length
 same_front : {A : Type 0} (one other more rest : List A) → one ++ more ≡ other ++ rest → length one ≡ length other → one ≡ other
 same_front one other more rest e len = sym (take-append_seam one more) ∙ ap (λ n. take n (one ++ more)) len ∙ ap (take (length other)) e ∙ take-append_seam other rest
-
-drop_map : {A B : Type 0} (f : A → B) (n : ℕ) (xs : List A) → map f (drop n xs) ≡ drop n (map f xs)
-drop_map f zero xs = refl
-drop_map f (suc n) [] = refl
-drop_map f (suc n) (x ∷ xs) = drop_map f n xs
 
 -- Cuts
 
@@ -61,16 +60,6 @@ beyond_one cuts index cut rising found = let next : suc index ≡ index + 1 = om
     go [] index rising found = cc
     go (first ∷ cuts) zero rising found = let same : first ≡ cut = cc in subst (λ (c : Cut). AllByRecursion (λ (remainder : Cut). c.at < remainder.at) cuts) same rising.0
     go (first ∷ cuts) (suc index) rising found = go cuts index rising.1 found
-
-pub one_is : (P : Cut → Type 0) (cuts : List Cut) (index : ℕ) (cut : Cut) → slice_get cuts index ≡ Some cut → AllByRecursion P cuts → P cut
-one_is P [] index cut found all = cc
-one_is P (first ∷ cuts) zero cut found all = let same : first ≡ cut = cc in subst P same all.0
-one_is P (first ∷ cuts) (suc index) cut found all = one_is P cuts index cut found all.1
-
-pub all_drop : (P : Cut → Type 0) (n : ℕ) (cuts : List Cut) → AllByRecursion P cuts → AllByRecursion P (drop n cuts)
-all_drop P zero cuts all = all
-all_drop P (suc n) [] all = tt
-all_drop P (suc n) (cut ∷ cuts) all = all_drop P n cuts all.1
 
 rising_drop : (n : ℕ) (cuts : List Cut) → IsRising cuts → IsRising (drop n cuts)
 rising_drop zero cuts rising = rising
@@ -93,8 +82,7 @@ held_drop cuts index cut at rising found beyond h = let next : suc index ≡ ind
     go [] index rising found h = cc
     go (first ∷ cuts) zero rising found h = let same : first ≡ cut = cc in held_rest first cuts at (omega (arith, beyond, ap (λ (c : Cut). c.at) same)) h
     go (first ∷ cuts) (suc index) rising found h =
-        let less : first.at < cut.at = one_is (λ (remainder : Cut). first.at < remainder.at) cuts index cut found rising.0 in
-        go cuts index rising.1 found (held_rest first cuts at (omega (arith, less, beyond)) h)
+        go cuts index rising.1 found (held_rest first cuts at (omega (arith, one_is (λ (remainder : Cut). first.at < remainder.at) cuts index cut found rising.0, beyond)) h)
 
 held_moved : (from to : Cut) (at : ℕ) (cuts : List Cut) → holds_cut at cuts ≡ true → holds_cut (at - from.at + to.at) (map (moved_cut from to) cuts) ≡ true
 held_moved from to at [] h = cc
@@ -103,35 +91,28 @@ held_moved from to at (cut ∷ cuts) h = go (cut.at == at) refl h (held_moved fr
     go : (here : Bool) → (cut.at == at) ≡ here → (here || holds_cut at cuts) ≡ true → (holds_cut at cuts ≡ true → holds_cut (at - from.at + to.at) (map (moved_cut from to) cuts) ≡ true)
         → (cut.at - from.at + to.at == at - from.at + to.at || holds_cut (at - from.at + to.at) (map (moved_cut from to) cuts)) ≡ true
     go true e h more = ap (λ b. b || holds_cut (at - from.at + to.at) (map (moved_cut from to) cuts)) (eq-eqb (cut.at - from.at + to.at) (at - from.at + to.at) (ap (λ n. n - from.at + to.at) (eqb-true cut.at at e)))
-    go false e h more = ap (λ b. cut.at - from.at + to.at == at - from.at + to.at || b) (more h) ∙ or_true (cut.at - from.at + to.at == at - from.at + to.at)
+    go false e h more = ap (λ b. cut.at - from.at + to.at == at - from.at + to.at || b) (more h) ∙ or_right (cut.at - from.at + to.at == at - from.at + to.at) true refl
 
 above_moved : (from to : Cut) (cuts : List Cut) → AllByRecursion (λ (cut : Cut). from.at < cut.at) cuts → AllByRecursion (λ (cut : Cut). to.at < cut.at) (map (moved_cut from to) cuts)
-above_moved from to [] all = tt
-above_moved from to (cut ∷ cuts) all = (omega (arith, all.0), above_moved from to cuts all.1)
+above_moved from to cuts all = all_map (λ (cut : Cut). from.at < cut.at) (λ (cut : Cut). to.at < cut.at) _ cuts (λ cut less. omega (arith, less)) all
 
 rising_moved : (from to : Cut) (cuts : List Cut) → AllByRecursion (λ (cut : Cut). from.at < cut.at) cuts → IsRising cuts → IsRising (map (moved_cut from to) cuts)
 rising_moved from to [] beyond rising = tt
-rising_moved from to (cut ∷ cuts) beyond rising = (all cuts rising.0, rising_moved from to cuts beyond.1 rising.1)
-  where
-    all : (cuts : List Cut) → AllByRecursion (λ (remainder : Cut). cut.at < remainder.at) cuts → AllByRecursion (λ (remainder : Cut). cut.at - from.at + to.at < remainder.at) (map (moved_cut from to) cuts)
-    all [] h = tt
-    all (next ∷ cuts) h = (omega (arith, h.0, beyond.0), all cuts h.1)
+rising_moved from to (cut ∷ cuts) beyond rising =
+    (all_map (λ (remainder : Cut). cut.at < remainder.at) (λ (remainder : Cut). cut.at - from.at + to.at < remainder.at) _ cuts (λ remainder less. omega (arith, less, beyond.0)) rising.0, rising_moved from to cuts beyond.1 rising.1)
 
 -- Lexemes
 
 -- lexemes after one text, moved after another
 views_moved : (from to : ℕ) (xs : List (ℕ × Token × ℕ)) (views : List (Spanned TokenView)) → map lexeme_view xs ≡ map (moved from) views → map lexeme_view (map (moved_lexeme from to) xs) ≡ map (moved to) views
 views_moved from to [] [] e = refl
-views_moved from to [] (v ∷ vs) e = cc
-views_moved from to (x ∷ xs) [] e = cc
 views_moved from to (x ∷ xs) (v ∷ vs) e =
     let first : lexeme_view x ≡ moved from v = cc in
-    let more : map lexeme_view xs ≡ map (moved from) vs = cc in
     let begin : x.0 - from + to ≡ to + v.begin = omega (arith, ap (λ (s : Spanned TokenView). s.begin) first) in
     let end : x.2 - from + to ≡ to + v.end = omega (arith, ap (λ (s : Spanned TokenView). s.end) first) in
-    let node : (lexeme_view x).node ≡ v.node = ap (λ (s : Spanned TokenView). s.node) first in
-    let one : lexeme_view (moved_lexeme from to x) ≡ moved to v = rw (begin, end, node) refl in
-    rw (one, views_moved from to xs vs more) refl
+    let one : lexeme_view (moved_lexeme from to x) ≡ moved to v = rw (begin, end, ap (λ (s : Spanned TokenView). s.node) first) refl in
+    rw (one, views_moved from to xs vs (cc)) refl
+views_moved from to xs views e = cc
 
 -- Two texts that end with the same text, after a clean cut each
 
@@ -147,11 +128,9 @@ module _ (one other rest : Text) (clean_one : is_clean_cut one ≡ true) (clean_
   rest_cut at kept more =
       let parts = kept_parts (one ++ rest) at kept in
       let place : at ≡ length one + (at - length one) = omega (arith, more) in
-      let inside : at - length one ≤ length rest = omega (arith, kept_inside (one ++ rest) at kept, length-append one rest) in
       let front : take at (one ++ rest) ≡ one ++ take (at - length one) rest = ap (λ n. take n (one ++ rest)) place ∙ take-append-add one rest (at - length one) in
-      let some : 0 < length (take (at - length one) rest) = omega (arith, length-take-le (at - length one) rest inside, more) in
-      let clean : is_clean_cut (take (at - length one) rest) ≡ true = sym (cuts_of_joined one (take (at - length one) rest) clean_one some) ∙ ap is_clean_cut (sym front) ∙ parts.1 in
-      kept_by rest (at - length one) (omega (arith, parts.0, reach_joined one rest clean_one margin)) clean
+      let some : 0 < length (take (at - length one) rest) = omega (arith, length-take-le (at - length one) rest (omega (arith, kept_inside (one ++ rest) at kept, length-append one rest)), more) in
+      kept_by rest (at - length one) (omega (arith, parts.0, reach_joined one rest clean_one margin)) (sym (cuts_of_joined one (take (at - length one) rest) clean_one some) ∙ ap is_clean_cut (sym front) ∙ parts.1)
 
   -- and its number of lexemes
   rest_count : (at : ℕ) → is_kept_cut (one ++ rest) at ≡ true → length one < at → lexemes_before (one ++ rest) at ≡ count_of one + lexemes_before rest (at - length one)
@@ -173,25 +152,15 @@ module _ (one other rest : Text) (clean_one : is_clean_cut one ≡ true) (clean_
   -- all lexemes after the first text, as those of the rest
   pub after_one : (ls : List (ℕ × Token × ℕ)) → map lexeme_view ls ≡ map shown_lexeme (outcome (one ++ rest)).lexemes → map lexeme_view (drop (count_of one) ls) ≡ map (moved (length one)) (map shown_lexeme (outcome rest).lexemes)
   after_one ls lexed =
-      let first : List Lexeme = without_closing (outcome one).lexemes in
       let whole : (outcome (one ++ rest)).lexemes ≡ without_closing (outcome one).lexemes ++ map (moved (length one)) (outcome rest).lexemes = ap (λ (o : Outcome). o.lexemes) (outcome_joined one rest clean_one none) in
-      drop_map lexeme_view (count_of one) ls ∙ ap (drop (count_of one)) (lexed ∙ ap (map shown_lexeme) whole ∙ map-append shown_lexeme (without_closing (outcome one).lexemes) (map (moved (length one)) (outcome rest).lexemes))
-      ∙ ap (λ n. drop n (map shown_lexeme (without_closing (outcome one).lexemes) ++ map shown_lexeme (map (moved (length one)) (outcome rest).lexemes))) (sym (length-map (without_closing (outcome one).lexemes) shown_lexeme))
-      ∙ drop-append_seam (map shown_lexeme (without_closing (outcome one).lexemes)) (map shown_lexeme (map (moved (length one)) (outcome rest).lexemes))
-      ∙ shown_later (length one) (outcome rest).lexemes
+      rw (← drop-map lexeme_view (count_of one) ls, lexed, whole, drop-map shown_lexeme (count_of one), drop-append_seam, shown_later) refl
 
   -- and after the other text
   pub after_other : (ls found : List (ℕ × Token × ℕ)) → map lexeme_view ls ≡ map shown_lexeme (outcome (one ++ rest)).lexemes → map lexeme_view found ≡ map shown_lexeme (without_closing (outcome other).lexemes)
       → map lexeme_view (found ++ map (moved_lexeme (length one) (length other)) (drop (count_of one) ls)) ≡ map shown_lexeme (outcome (other ++ rest)).lexemes
   after_other ls found lexed front =
-      let whole : (outcome (other ++ rest)).lexemes ≡ without_closing (outcome other).lexemes ++ map (moved (length other)) (outcome rest).lexemes = ap (λ (o : Outcome). o.lexemes) (outcome_joined other rest clean_other none) in
       let after = views_moved (length one) (length other) (drop (count_of one) ls) (map shown_lexeme (outcome rest).lexemes) (after_one ls lexed) in
-      map-append lexeme_view found (map (moved_lexeme (length one) (length other)) (drop (count_of one) ls))
-      ∙ ap (λ vs. map lexeme_view found ++ vs) after
-      ∙ ap (λ vs. vs ++ map (moved (length other)) (map shown_lexeme (outcome rest).lexemes)) front
-      ∙ ap (λ vs. map shown_lexeme (without_closing (outcome other).lexemes) ++ vs) (sym (shown_later (length other) (outcome rest).lexemes))
-      ∙ sym (map-append shown_lexeme (without_closing (outcome other).lexemes) (map (moved (length other)) (outcome rest).lexemes))
-      ∙ ap (map shown_lexeme) (sym whole)
+      rw (map-append lexeme_view found, after, front, outcome_joined other rest clean_other none) (simp (map-append, shown_later))
 
 -- A text that has a known text's bytes after a kept cut, where that has none of its faults: its lexemes and its cuts are
 -- those up to the cut, and then the known text's, moved.
@@ -260,8 +229,7 @@ met_whole text known ls cuts is_cut at index cut part lexed faultless is are fou
     -- a cut of the known text, moved
     moved_is : (one_cut : Cut) → IsCutOf known one_cut → cut.at < one_cut.at → IsCutOf text (moved_cut cut there one_cut)
     moved_is one_cut is_cut less =
-        let here : IsCutOf (take cut.at known ++ drop at text) one_cut = subst (λ (t : Text). IsCutOf t one_cut) (sym before) is_cut in
-        let later = cut_moved (take cut.at known) (take at text) (drop at text) clean_one clean_other none one_cut here (omega (arith, less, one_len)) in
+        let later = cut_moved (take cut.at known) (take at text) (drop at text) clean_one clean_other none one_cut (subst (λ (t : Text). IsCutOf t one_cut) (sym before) is_cut) (omega (arith, less, one_len)) in
         let place : one_cut.at - length (take cut.at known) + length (take at text) ≡ one_cut.at - cut.at + at = omega (arith, one_len, other_len) in
         let count : one_cut.lexemes - length (without_closing (outcome (take cut.at known)).lexemes) + length (without_closing (outcome (take at text)).lexemes) ≡ one_cut.lexemes - cut.lexemes + length part.lexemes = omega (arith, one_count, other_count) in
         subst (λ (t : Text). IsCutOf t (moved_cut cut there one_cut)) whole (rw (place, count) at later)
@@ -280,12 +248,11 @@ met_whole text known ls cuts is_cut at index cut part lexed faultless is are fou
         ap (λ (t : Text). is_kept_cut t (x - at + cut.at)) (sym before) ∙ ap (is_kept_cut (take cut.at known ++ drop at text)) (sym place) ∙ back
 
     all_held : (x : ℕ) → is_kept_cut text x ≡ true → holds_cut x (part.cuts ++ map (moved_cut cut there) (drop (index + 1) cuts)) ≡ true
-    all_held x kept = go (nat_le x at) refl
+    all_held x kept = by (cases_lt at x)
       where
-        go : (b : Bool) → nat_le x at ≡ b → holds_cut x (part.cuts ++ map (moved_cut cut there) (drop (index + 1) cuts)) ≡ true
-        go true e = held_left x part.cuts _ (to.all x kept (leb-true x at e))
-        go false e =
-            let more : at < x = leb-false x at e in
+        by : (at < x) ⊎ (x ≤ at) → holds_cut x (part.cuts ++ map (moved_cut cut there) (drop (index + 1) cuts)) ≡ true
+        by (inr less) = held_left x part.cuts _ (to.all x kept less)
+        by (inl more) =
             let held = held_drop cuts index cut (x - at + cut.at) are.order found (omega (arith, more)) (are.all (x - at + cut.at) (kept_back x kept more)) in
             let place : x - at + cut.at - cut.at + at ≡ x = omega (arith, more) in
             held_right x part.cuts _ (ap (λ n. holds_cut n (map (moved_cut cut there) (drop (index + 1) cuts))) (sym place) ∙ held_moved cut there (x - at + cut.at) (drop (index + 1) cuts) held)
@@ -315,3 +282,136 @@ met_front text state cuts at part is before so last = record {
 pub none_met : (text known : Text) (cuts : List Cut) (met : Option Meeting) (P : Meeting → Type 0) → cuts ≡ [] → IfSome met (λ meeting. IsMet text known cuts meeting × P meeting) → met ≡ None
 none_met text known cuts None P none is = refl
 none_met text known cuts (Some meeting) P none is = let no : None ≡ Some meeting.cut = ap (λ (cs : List Cut). slice_get cs meeting.index) (sym none) ∙ is.0.found in cc
+
+-- Lists
+
+get_drop : {A : Type 0} (n i : ℕ) (xs : List A) (x : A) → slice_get (drop n xs) i ≡ Some x → slice_get xs (n + i) ≡ Some x
+get_drop zero i xs x e = let same : 0 + i ≡ i = omega arith in rw same e
+get_drop (suc n) i [] x e = cc
+get_drop (suc n) i (y ∷ xs) x e = let same : suc n + i ≡ suc (n + i) = omega arith in rw same (get_drop n i xs x e)
+
+after_all : (from : ℕ) (xs : List (ℕ × Token × ℕ)) (views : List (Spanned TokenView)) → map lexeme_view xs ≡ map (moved from) views → AllAfter from xs
+after_all from [] views e = tt
+after_all from (x ∷ xs) [] e = cc
+after_all from (x ∷ xs) (v ∷ vs) e =
+    let first : lexeme_view x ≡ moved from v = cc in
+    ((omega (arith, ap (λ (s : Spanned TokenView). s.begin) first), omega (arith, ap (λ (s : Spanned TokenView). s.end) first)), after_all from xs vs (cc))
+
+from_start : (len : ℕ) (xs : List (ℕ × Token × ℕ)) → map (moved_lexeme 0 len) xs ≡ map (later len) xs
+from_start len [] = refl
+from_start len (x ∷ xs) =
+    let begin : x.0 - 0 + len ≡ len + x.0 = omega arith in
+    let end : x.2 - 0 + len ≡ len + x.2 = omega arith in
+    rw (begin, end, from_start len xs) refl
+
+moved_later : (from to len : ℕ) (xs : List (ℕ × Token × ℕ)) → map (moved_lexeme from (len + to)) xs ≡ map (later len) (map (moved_lexeme from to) xs)
+moved_later from to len [] = refl
+moved_later from to len (x ∷ xs) =
+    let begin : x.0 - from + (len + to) ≡ len + (x.0 - from + to) = omega arith in
+    let end : x.2 - from + (len + to) ≡ len + (x.2 - from + to) = omega arith in
+    rw (begin, end, moved_later from to len xs) refl
+
+-- both moves are one
+pub both_moved : (from to len : ℕ) (one other : List (ℕ × Token × ℕ)) → map (moved_lexeme 0 len) one ++ map (moved_lexeme from (len + to)) other ≡ map (later len) (one ++ map (moved_lexeme from to) other)
+both_moved from to len one other =
+    ap (λ xs. xs ++ map (moved_lexeme from (len + to)) other) (from_start len one) ∙ ap (λ xs. map (later len) one ++ xs) (moved_later from to len other) ∙ sym (map-append (later len) one (map (moved_lexeme from to) other))
+
+module _ (known text : Text) (lexemes : List (ℕ × Token × ℕ)) (cuts : List Cut) (begin : Begin) (part : PartView) (meeting : Meeting) (r : IsPutIn known text lexemes cuts begin part meeting) where
+  found : slice_get cuts (begin.cuts + meeting.index) ≡ Some meeting.cut
+  found = get_drop begin.cuts meeting.index cuts meeting.cut r.met.found
+
+  is_cut : IsCutOf known meeting.cut
+  is_cut = one_is (IsCutOf known) cuts (begin.cuts + meeting.index) meeting.cut found r.are.each
+
+  clean : is_clean_cut (take meeting.cut.at known) ≡ true
+  clean = (kept_parts known meeting.cut.at is_cut.is_kept).1
+
+  -- what the text comes to
+  pub whole_is : (is : Bool) → is ≡ is_clean_cut known → IsReadPart text (met_part meeting.cut (record { at = meeting.at; lexemes = length part.lexemes }) (begin.cuts + meeting.index) lexemes cuts is part)
+  whole_is is same = met_whole text known lexemes cuts is meeting.at (begin.cuts + meeting.index) meeting.cut part r.lexed r.faultless same r.are found r.met.same r.to
+
+  -- the meeting lies after the edit
+  after_begin : r.from < meeting.cut.at
+  after_begin = one_is (λ (cut : Cut). r.from < cut.at) (drop begin.cuts cuts) meeting.index meeting.cut r.met.found r.begins.beyond
+
+  pub order : begin.lexemes ≤ meeting.cut.lexemes
+  order = by r.begins.stands
+    where
+      by : ((begin.at ≡ 0) × (begin.lexemes ≡ 0)) ⊎ IsCutOf known (record { at = begin.at; lexemes = begin.lexemes }) → begin.lexemes ≤ meeting.cut.lexemes
+      by (inl start) = omega (arith, start.1)
+      by (inr cut) = omega (arith, cut.lexemes, is_cut.lexemes, no_more_before known begin.at meeting.cut.at (omega (arith, r.begins.before, after_begin)) is_cut.inside (kept_parts known begin.at cut.is_kept).1 clean)
+
+  pub inside : meeting.cut.lexemes ≤ length lexemes
+  inside = cut_few known lexemes meeting.cut r.lexed is_cut
+
+  pub rest_near : AllNear (drop meeting.cut.lexemes lexemes)
+  rest_near = all_drop (λ (x : ℕ × Token × ℕ). (x.0 < 2 ^ 32) × (x.2 < 2 ^ 32)) meeting.cut.lexemes lexemes (lexemes_near known lexemes r.lexed r.known_short)
+
+  text_short : length text < 2 ^ 32
+  text_short = omega (arith, r.short)
+
+  pub part_near : AllNear part.lexemes
+  part_near = all_front (λ (x : ℕ × Token × ℕ). (x.0 < 2 ^ 32) × (x.2 < 2 ^ 32)) part.lexemes _ (lexemes_near text _ (whole_is (is_clean_cut known) refl).lexemes text_short)
+
+  pub rest_after : AllAfter meeting.cut.at (drop meeting.cut.lexemes lexemes)
+  rest_after =
+      let before : take meeting.cut.at known ++ drop meeting.at text ≡ known = ap (λ t. take meeting.cut.at known ++ t) r.met.same ∙ take-append-drop meeting.cut.at known in
+      let none : (outcome (drop meeting.at text)).fault ≡ None = (faults_join (take meeting.cut.at known) (drop meeting.at text) clean).0 (ap (λ (t : Text). (outcome t).fault) before ∙ r.faultless) in
+      let views = after_one (take meeting.cut.at known) (take meeting.cut.at known) (drop meeting.at text) clean clean none lexemes (r.lexed ∙ ap (λ (t : Text). map shown_lexeme (outcome t).lexemes) (sym before)) in
+      after_all meeting.cut.at (drop meeting.cut.lexemes lexemes) (map shown_lexeme (outcome (drop meeting.at text)).lexemes)
+      (ap (λ n. map lexeme_view (drop n lexemes)) is_cut.lexemes ∙ views ∙ ap (λ n. map (moved n) (map shown_lexeme (outcome (drop meeting.at text)).lexemes)) (length-take-le meeting.cut.at known is_cut.inside))
+
+  pub known_near : AllNearCuts (drop (begin.cuts + meeting.index + 1) cuts)
+  known_near = all_drop (λ (cut : Cut). (cut.at < 2 ^ 32) × (cut.lexemes < 2 ^ 34)) (begin.cuts + meeting.index + 1) cuts (cuts_near known cuts r.known_short r.are.each)
+
+  pub cuts_after : AllByRecursion (λ (cut : Cut). (meeting.cut.at ≤ cut.at) × (meeting.cut.lexemes ≤ cut.lexemes)) (drop (begin.cuts + meeting.index + 1) cuts)
+  cuts_after =
+      all_of_two (IsCutOf known) (λ (cut : Cut). meeting.cut.at < cut.at) (λ (cut : Cut). (meeting.cut.at ≤ cut.at) × (meeting.cut.lexemes ≤ cut.lexemes)) _
+      (λ cut is more. (omega (arith, more), omega (arith, is_cut.lexemes, is.lexemes, no_more_before known meeting.cut.at cut.at (omega (arith, more)) is.inside clean (kept_parts known cut.at is.is_kept).1)))
+      (all_drop (IsCutOf known) (begin.cuts + meeting.index + 1) cuts r.are.each) (beyond_one cuts (begin.cuts + meeting.index) meeting.cut r.are.order found)
+
+  pub to_fits : (meeting.at < 2 ^ 32) × (length part.lexemes < 2 ^ 34)
+  to_fits =
+      let count : length part.lexemes ≡ length (without_closing (outcome (take meeting.at text)).lexemes) = sym (length-map part.lexemes lexeme_view) ∙ ap length r.to.lexemes ∙ length-map (without_closing (outcome (take meeting.at text)).lexemes) shown_lexeme in
+      let law = kept_cuts_keep text meeting.at r.to.is_kept in
+      (omega (arith, r.to.inside, text_short), omega (arith, count, lexemes_few text text_short, ap length law.1, length-append (without_closing (outcome (take meeting.at text)).lexemes) law.0))
+
+  pub whole_near : AllNearCuts (part.cuts ++ map (moved_cut meeting.cut (record { at = meeting.at; lexemes = length part.lexemes })) (drop (begin.cuts + meeting.index + 1) cuts))
+  whole_near = cuts_near text _ text_short (whole_is (is_clean_cut known) refl).cuts.each
+
+  pub begin_near : begin.lexemes < 2 ^ 34
+  begin_near = omega (arith, begin_few known lexemes cuts r.from begin r.lexed r.begins, lexemes_few known r.known_short, ap length r.lexed, length-map lexemes lexeme_view, length-map (outcome known).lexemes shown_lexeme)
+
+-- Where lexing may meet a known text: after its first cuts, if it has no fault
+
+pub known_inside : (known seen : Text) (cuts given : List Cut) (count : ℕ) (has : Bool) → (has ≡ false → seen ≡ known) → (has ≡ false → given ≡ drop count cuts) → (has ≡ true → given ≡ []) → AreCuts known cuts → AllByRecursion (λ (cut : Cut). cut.at ≤ length seen) given
+known_inside known seen cuts given count true same after none are = subst (AllByRecursion (λ (cut : Cut). cut.at ≤ length seen)) (sym (none refl)) tt
+known_inside known seen cuts given count false same after none are =
+    subst (AllByRecursion (λ (cut : Cut). cut.at ≤ length seen)) (sym (after refl)) (all_drop (λ (cut : Cut). cut.at ≤ length seen) count cuts (all_weaker (IsCutOf known) (λ (cut : Cut). cut.at ≤ length seen) cuts (λ cut is. omega (arith, is.inside, ap length (same refl))) are.each))
+
+pub met_known : (text known seen : Text) (cuts given : List Cut) (count : ℕ) (meeting : Meeting) (has : Bool) → (has ≡ false → seen ≡ known) → (has ≡ false → given ≡ drop count cuts) → (has ≡ true → given ≡ []) → IsMet text seen given meeting → (has ≡ false) × IsMet text known (drop count cuts) meeting
+met_known text known seen cuts given count meeting true same after none is = let no : None ≡ Some meeting.cut = ap (λ (cs : List Cut). slice_get cs meeting.index) (sym (none refl)) ∙ is.found in cc
+met_known text known seen cuts given count meeting false same after none is = (refl, subst (λ (cs : List Cut). IsMet text known cs meeting) (after refl) (subst (λ (t : Text). IsMet text t given meeting) (same refl) is))
+
+-- a text that has something after byte `at`
+pub cut_stays_so : (is : Bool) (len at : ℕ) → 0 < len → is ≡ (is || (len == 0 && nat_lt 0 at))
+cut_stays_so is len at some = go (len == 0) refl is
+  where
+    go : (none : Bool) → (len == 0) ≡ none → (is : Bool) → is ≡ (is || (len == 0 && nat_lt 0 at))
+    go true e is = absurd (omega (arith, some, eqb-true len 0 e))
+    go false e true = refl
+    go false e false = sym (ap (λ (none : Bool). none && nat_lt 0 at) e)
+
+pub not_some : {A : Type 0} (found : Option A) (has : Bool) → has ≡ is_some found → has ≡ false → found ≡ None
+not_some None has is e = refl
+not_some (Some x) has is e = let no : true ≡ false = sym is ∙ e in cc
+
+-- what holds of a call that succeeded
+pub succeeded : {A E : Type 0} (P : Type 0) (result : Result A E) (has : Bool) → has ≡ is_err result → has ≡ false → OnOk result P → P
+succeeded P (Ok x) has is e holds = holds
+succeeded P (Err x) has is e holds = let no : true ≡ false = sym is ∙ e in cc
+
+-- what holds of one that failed
+pub broken : {A E : Type 0} (P : Type 0) (result : Result A E) (has : Bool) → has ≡ is_err result → has ≡ true → OnErr result P → P
+broken P (Ok x) has is e holds = let no : false ≡ true = sym is ∙ e in cc
+broken P (Err x) has is e holds = holds

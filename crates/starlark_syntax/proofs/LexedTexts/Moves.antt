@@ -43,8 +43,7 @@ spliced kept end n old more new few is made =
 -- lists that are alike number by number are equal
 pub alike : (xs ys : List ℕ) → pointwise nat_eq xs ys ≡ true → xs ≡ ys
 alike [] [] e = refl
-alike [] (y ∷ ys) e = cc
-alike (x ∷ xs) [] e = cc
 alike (x ∷ xs) (y ∷ ys) e =
     let both = and_parts (nat_eq x y) (pointwise nat_eq xs ys) e in
     rw (eqb-true x y both.0, alike xs ys both.1) refl
+alike xs ys e = cc

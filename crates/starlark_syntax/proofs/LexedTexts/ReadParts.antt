@@ -1,5 +1,5 @@
 -- What was read of a text, as a lexed text.
-use Rattle.std.proofs.Common.{◌≡◌, Bool, true, false, ℕ, ◌+◌, ◌<◌, ◌≤◌, ◌^◌, ◌∙◌, List, [], ap, map, length, refl, subst, sym, arith, Some, None}
+use Rattle.std.proofs.Common.{◌≡◌, Bool, true, false, ℕ, ◌+◌, ◌<◌, ◌≤◌, ◌^◌, List, [], ap, map, length, refl, subst, sym, arith, Some, None, rules}
 use Rattle.std.specs.Prelude.{Option, IfSome, if◌then◌else◌, option_map}
 use Rattle.starlark_base.specs.Diagnostics.{Diagnosed, place_in, unplaced, with_span}
 use Rattle.starlark_base.specs.Sources.{SourceFile}
@@ -17,6 +17,7 @@ use Rattle.starlark_token.specs.declared.lexeme_error.LexemeError.{LexemeError}
 use Rattle.starlark_syntax.specs.Inner.LexedTexts.{AllNear, IsReadPart, part_view}
 use Rattle.starlark_syntax.specs.Inner.RawItems.{IsRawIn}
 use Rattle.starlark_syntax.specs.declared.read_parts.ReadPart.{ReadPart}
+use Rattle.starlark_syntax.proofs.RecoveredItems.{unmoved}
 use Rattle.starlark_syntax.proofs.LexedTexts.Within.{lexemes_near}
 use Rattle.starlark_grammar.proofs.Order.Inside.{fault_within}
 use Rattle.starlark_token.specs.declared.tokens.Token.{Token}
@@ -27,21 +28,15 @@ fault_near text found len is short = go (outcome text).fault refl found is
   where
     go : (fault : Option (Spanned Fault)) → (outcome text).fault ≡ fault → (found : Option (ℕ × LexemeError × ℕ)) → IsRawIn fault found → IfSome found (λ (raw : ℕ × LexemeError × ℕ). (raw.0 ≤ raw.2) × (len + raw.2 < 2 ^ 32))
     go None e None is = tt
-    go None e (Some raw) is = absurd is
-    go (Some fault) e None is = absurd is
     go (Some fault) e (Some raw) is =
         let within = fault_within text fault e in
         (omega (arith, within.0, is.0, is.2), omega (arith, within.1, short, is.2))
+    go fault e other is = absurd is
 
 -- the exception of a fault that is moved
 pub raw_thrown : (file : SourceFile) (len : ℕ) (fault : Spanned Fault) (found : ℕ × LexemeError × ℕ) (exception : Diagnosed ErrorKind) → IsRaw fault found
     → exception ≡ with_span (unplaced (Parser (Lexeme found.1))) (place_in file (record { begin = len + found.0; end = len + found.2 })) → IsException file (moved len fault) exception
-raw_thrown file len fault found exception raw is = (
-  found.1,
-  raw.1,
-  is ∙ ap (λ (n : ℕ). with_span (unplaced (Parser (Lexeme found.1))) (place_in file (record { begin = len + n; end = len + found.2 }))) raw.0
-      ∙ ap (λ (n : ℕ). with_span (unplaced (Parser (Lexeme found.1))) (place_in file (record { begin = len + fault.begin; end = len + n }))) raw.2,
-)
+raw_thrown file len fault found exception raw is = search rules
 
 pub no_raw : (fault : Option (Spanned Fault)) → IsRawIn fault None → fault ≡ None
 no_raw None is = refl
@@ -50,10 +45,7 @@ no_raw (Some fault) is = absurd is
 -- nothing is moved by no bytes
 pub unmoved_fault : (fault : Option (Spanned Fault)) → option_map (moved 0) fault ≡ fault
 unmoved_fault None = refl
-unmoved_fault (Some fault) =
-    let begin : 0 + fault.begin ≡ fault.begin = omega arith in
-    let end : 0 + fault.end ≡ fault.end = omega arith in
-    rw (begin, end) refl
+unmoved_fault (Some fault) = ap Some (unmoved fault)
 
 pub lexed_part : (file : SourceFile) (text : Text) (part : ReadPart) (exception : Option (Diagnosed ErrorKind)) (reads : ℕ) → IsReadPart text (part_view part) → ((fault : Option (Spanned Fault)) → IsRawIn fault part.fault → IsFaultIn file (option_map (moved 0) fault) exception)
     → IsLexed file (record { text = text; lexemes = map lexeme_view part.lexemes.items; fault = exception; reads = reads })

@@ -1,5 +1,5 @@
 -- What is ahead of a text that is lexed so far, and what a call answers of it.
-use Rattle.std.specs.Prelude.{◌≡◌, ◌≤◌, ◌<◌, ◌^◌, ◌+◌, ◌-◌, ◌*◌, ◌&&◌, if◌then◌else◌, nat_lt, not, Bool, ⊤, ℕ, true, false, List, [], ◌∷◌, drop, length, map, Option, None, Some, Result, Ok, Err, IfOk, OnErr}
+use Rattle.std.specs.Prelude.{◌≡◌, ◌≢◌, ◌≤◌, ◌<◌, ◌^◌, ◌+◌, ◌-◌, ◌*◌, ◌&&◌, if◌then◌else◌, nat_lt, not, Bool, ℕ, true, false, List, [], ◌∷◌, drop, length, map, Option, None, Some, Result, Ok, Err, IfOk, OnErr}
 use Rattle.starlark_base.specs.Diagnostics.{Diagnosed}
 use Rattle.starlark_base.specs.Sources.{SourceFile}
 use Rattle.starlark_words.specs.Inner.Reads.{more_reads}
@@ -10,8 +10,9 @@ use Rattle.starlark_grammar.specs.Words.{Text, begins, is_name_start}
 use Rattle.starlark_grammar.specs.declared.class.Class.TheVariants as class
 use Rattle.starlark_grammar.specs.declared.class.LiteralKind.TheVariants as literal
 use Rattle.starlark_grammar.specs.declared.class.Quote.{Quote}
+use Rattle.starlark_words.specs.Inner.ScannedWords.{begins_mark}
 use Rattle.starlark_words.specs.declared.scanner.word.Word.{Word}
-use Rattle.starlark_reader.specs.Inner.Reader.{IsAhead, IsAheadAfter, IsAheadPast, IsAtCode, IsAtEnd, IsRaw, IsSomething, IsStateAfter, IsStateAtFault, IsText, IsTokenOf, IsWordHere, begins_with_tab, has_read_none, history_of, is_fault}
+use Rattle.starlark_reader.specs.Inner.Reader.{IsAhead, IsAheadAfter, IsAheadPast, IsAtCode, IsAtEnd, IsRaw, IsSomething, IsStateAfter, IsStateAtFault, IsText, IsTokenOf, IsWordHere, begins_with_tab, has_read_none, history_of, is_fault, left_to_read}
 use Rattle.starlark_reader.specs.Inner.ReadBounds.{HasRead, LeavesRepair}
 use Rattle.starlark_reader.specs.declared.reader.Before.{Before}
 use Rattle.starlark_reader.specs.declared.reader.Before.TheVariants as before
@@ -20,6 +21,7 @@ use Rattle.starlark_reader.specs.declared.reader.Stage.{Stage}
 use Rattle.starlark_reader.specs.declared.reader.Stage.TheVariants as stages
 use Rattle.starlark_syntax.specs.Exceptions.{IsException}
 use Rattle.starlark_reader.specs.Inner.Lookaheads.{HasPeeked, IsFoundAt}
+use Rattle.starlark_reader.specs.declared.lookahead.Found.{Found}
 use Rattle.starlark_reader.specs.declared.lookahead.Found.TheVariants as found
 use Rattle.starlark_syntax.specs.Inner.Looked.{GoesOn}
 use Rattle.starlark_syntax.specs.Lexer.{HasReadToFault, LexerView, is_ended_by, most_reads, yielded_by}
@@ -162,11 +164,16 @@ pub record IsTakenNext {E : Type 0} (state : LexerState) (taken : Result (ℕ ×
   pub ahead : IfOk taken (λ lexeme. IsAheadAfter state.reader.text.now (Some lexeme) state.reader (left_in state) (outcome state.reader.text.now).fault)
   pub memory : OnErr taken (IsSomething (left_in state) (outcome state.reader.text.now).fault)
 
+-- The lexer has looked at what comes next, if something does.
+pub record HasLooked (state : LexerState) : Type 0 where
+  pub some : state.lookahead.found ≢ found.Nothing
+  pub end : state.lookahead.found ≡ found.All → IsAtEnd state.reader.text.now state.reader
+
 -- What the fast path tells: the first lexeme that is left, which it passed; or out of memory in the place of an item.
 abbrev pub HasPassed : LexerState → FastPath → LexerState → Type 0
 HasPassed old (fast.Passed plain) new = IsPlainIn old.reader.text.now plain × IsAheadPast old.reader.text.now (plain_view old.reader.text.now plain) new.reader (left_in old) (outcome old.reader.text.now).fault
 HasPassed old (fast.Symbol terminal lexeme) new = IsTokenOf terminal (token_view lexeme.1) × IsAheadAfter old.reader.text.now (Some lexeme) new.reader (left_in old) (outcome old.reader.text.now).fault
-HasPassed old fast.Undecided new = ⊤
+HasPassed old fast.Undecided new = HasLooked new
 HasPassed old fast.OutOfMemory new = IsSomething (left_in old) (outcome old.reader.text.now).fault
 
 -- how many lexemes the fast path passed
@@ -185,6 +192,48 @@ pub record HasPassedNext (old : LexerState) (found : FastPath) (new : LexerState
   pub passed : HasPassed old found new
   pub lexing : IsLexing new
   pub after : view_of new ≡ record (view_of old) { yielded_count = old.yielded_count + passed_count found; has_ended = is_out_of_memory found; reads = new.reader.reads }
+
+-- the text of an f-string between two offsets
+abbrev pub plain_fstring_text : (begin end : ℕ) → PlainLexeme
+plain_fstring_text begin end = record { kind = kind.FStringText; begin = begin; end = end; value_begin = begin; value_end = end }
+
+-- a lexeme without a value between two offsets
+abbrev pub plain_mark : PlainKind → (begin end : ℕ) → PlainLexeme
+plain_mark it begin end = record { kind = it; begin = begin; end = end; value_begin = end; value_end = end }
+
+-- what the fast path tells of what was passed without lookahead in code, between two offsets
+abbrev pub passed_as : Waiting → (begin end : ℕ) → FastPath
+passed_as waiting.Nothing begin end = fast.Undecided
+passed_as waiting.Indent begin end = fast.Passed (plain_mark kind.Indent begin end)
+passed_as waiting.Dedent begin end = fast.Passed (plain_mark kind.Dedent begin end)
+passed_as waiting.FStringText begin end = fast.Passed (plain_fstring_text begin end)
+passed_as waiting.FStringExprStart begin end = fast.Passed (plain_mark kind.FStringExprStart begin end)
+passed_as waiting.FStringEnd begin end = fast.Passed (plain_mark kind.FStringEnd begin end)
+passed_as waiting.Layout begin end = fast.Undecided
+passed_as waiting.OutOfMemory begin end = fast.OutOfMemory
+
+-- how much is left to pass
+abbrev pub left_to_pass : LexerState → ℕ
+left_to_pass state = 2 * left_to_read state.reader.text.now state.reader state.reader.stage + left_to_look state.lookahead.found
+  where
+    left_to_look : Found → ℕ
+    left_to_look found.All = 1
+    left_to_look it = 0
+
+-- The fast path passed what has no lexeme.
+pub record HasGoneOn (old new : LexerState) : Type 0 where
+  pub lexing : IsLexing new
+  pub after : view_of new ≡ record (view_of old) { reads = new.reader.reads }
+  pub less : left_to_pass new < left_to_pass old
+
+-- What was passed without lookahead in code: the next lexeme, or what has none.
+abbrev pub HasPassedWaiting : LexerState → Waiting → LexerState → Type 0
+HasPassedWaiting old waiting.Layout new = HasGoneOn old new
+HasPassedWaiting old it new = HasPassedNext old (passed_as it new.passed_begin new.passed_end) new
+
+abbrev pub HasPassedOther : LexerState → Option FastPath → LexerState → Type 0
+HasPassedOther old None new = HasGoneOn old new
+HasPassedOther old (Some found) new = HasPassedNext old found new
 
 -- The lexer is at a word in code, which the scanner has found, and has spent no other lookahead.
 pub record IsAtWord (state : LexerState) (word : Word) : Type 0 where
@@ -208,6 +257,8 @@ pub record IsUnnamed (state : LexerState) : Type 0 where
   pub ahead : IsAhead state.reader.text.now state.reader state.reader.stage (left_in state) (outcome state.reader.text.now).fault
   pub code : IsAtCode state.reader.text.now state.reader
   pub unnamed : begins is_name_start (drop state.reader.at state.reader.text.now) ≡ false
+  pub marks : begins_mark (drop state.reader.at state.reader.text.now) ≡ false
+  pub lookahead : state.lookahead.found ≡ found.Nothing
   pub read : HasPeeked state.reader.text.now 2 2 state.reader
 
 -- the string literal between two offsets, by the length of its opener
@@ -218,23 +269,6 @@ plain_string begin opener end = record { kind = kind.String; begin = begin; end 
 abbrev pub plain_comment : (begin end : ℕ) → PlainLexeme
 plain_comment begin end = record { kind = kind.Comment; begin = begin; end = end; value_begin = begin + 1; value_end = end }
 
--- the text of an f-string between two offsets
-abbrev pub plain_fstring_text : (begin end : ℕ) → PlainLexeme
-plain_fstring_text begin end = record { kind = kind.FStringText; begin = begin; end = end; value_begin = begin; value_end = end }
-
--- a lexeme without a value between two offsets
-abbrev pub plain_mark : PlainKind → (begin end : ℕ) → PlainLexeme
-plain_mark it begin end = record { kind = it; begin = begin; end = end; value_begin = end; value_end = end }
-
--- what the fast path tells of what was passed without lookahead in code, between two offsets
-abbrev pub passed_as : Waiting → (begin end : ℕ) → FastPath
-passed_as waiting.Nothing begin end = fast.Undecided
-passed_as waiting.Indent begin end = fast.Passed (plain_mark kind.Indent begin end)
-passed_as waiting.Dedent begin end = fast.Passed (plain_mark kind.Dedent begin end)
-passed_as waiting.FStringText begin end = fast.Passed (plain_fstring_text begin end)
-passed_as waiting.FStringExprStart begin end = fast.Passed (plain_mark kind.FStringExprStart begin end)
-passed_as waiting.FStringEnd begin end = fast.Passed (plain_mark kind.FStringEnd begin end)
-
 -- the kind is that of a pending token
 abbrev pub IsOfMark : Waiting → TokenView → Type 0
 IsOfMark waiting.Indent view = view ≡ Whole grammar.Indent
@@ -243,9 +277,9 @@ IsOfMark waiting.FStringExprStart view = view ≡ Whole grammar.FStringExprStart
 IsOfMark waiting.FStringEnd view = view ≡ Whole grammar.FStringEnd
 IsOfMark it view = ⊥
 
-abbrev pub is_none_waiting : Waiting → Bool
-is_none_waiting waiting.Nothing = true
-is_none_waiting it = false
+abbrev pub is_layout : Waiting → Bool
+is_layout waiting.Layout = true
+is_layout it = false
 
 -- A plain lexeme that was passed is an item, or there was out of memory in its place, which ends the lexer.
 abbrev pub HasTaken : LexerState → PlainLexeme → Option (Result (ℕ × Token × ℕ) (OrMemory (Diagnosed ErrorKind))) → LexerState → Type 0

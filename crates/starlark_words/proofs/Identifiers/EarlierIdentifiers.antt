@@ -18,7 +18,7 @@ use Rattle.starlark_grammar.specs.EarlierLanguage.{is_rf_opener, earlier_languag
 use Rattle.starlark_grammar.proofs.Words.Classes.{RowsFit, all_more, language_all_fit, patterns_all_fit}
 use Rattle.starlark_grammar.proofs.Words.EarlierTable.{class_agrees, front_agrees}
 use Rattle.starlark_grammar.proofs.Words.Fronts.{front_sound}
-use Rattle.starlark_words.specs.Inner.ScannedWords.{is_quote}
+use Rattle.starlark_words.proofs.Scan.Listed.{is_quote}
 use Rattle.starlark_words.specs.OneIdentifier.{FrontOf, ReadsBy, skipped, IsOneIdentifier, IsOneIdentifierBy}
 
 abbrev is_no_quote : ℕ → Bool

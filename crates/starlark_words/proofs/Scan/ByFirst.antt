@@ -1,23 +1,21 @@
 -- The longest front of a text, by the text's first byte.
-use Rattle.std.proofs.Common.{◌≡◌, ◌≢◌, ℕ, suc, ◌+◌, ◌<◌, Bool, true, false, cond, not, ◌&&◌, ◌||◌, ◌==◌, nat_eq, [], ◌∷◌, ◌++◌, take, get_or, refl, ap, sym, subst, ◌∙◌, Option, unwrap_or, Some, None, arith}
+use Rattle.std.proofs.Common.{◌≡◌, ◌≢◌, ℕ, suc, ◌+◌, ◌<◌, Bool, true, false, cond, not, ◌&&◌, ◌||◌, ◌==◌, nat_eq, List, [], ◌∷◌, ◌++◌, take, get_or, refl, ap, sym, ◌∙◌, Option, unwrap_or, Some, None, arith}
 use Rattle.std.proofs.lemmas.Bool.{and_parts, eqb-true, not-true, ne_eqb}
+use Rattle.std.proofs.lemmas.Map.Entries.{lookup-filter-keys}
+use Rattle.std.proofs.lemmas.Slice.Eq.{bytes_eq-Decides}
 use Rattle.std.proofs.lemmas.Bool.Decides.{nat_tests}
 use Rattle.std.specs.Char.{is_ascii_digit, is_ascii_hexdigit}
-use Rattle.std.specs.List.{list_all, prefix_len, slice_get}
+use Rattle.std.specs.List.{list_all, prefix_len}
 use Rattle.std.specs.Map.{lookup}
 use Rattle.std.specs.Option.{option_map, option_or}
 use Rattle.std.specs.Str.{bytes_eq}
 use Rattle.starlark_grammar.specs.Words.{Text, class_in, openers, line_ends, symbols, names, patterns, language, is_name_start, is_in_name, is_in_line, is_based, is_fraction, is_pointed, begins, begins_with_digit, is_point, is_identifier, is_comment, is_run, is_octal_digit, is_binary_digit}
 use Rattle.starlark_grammar.specs.declared.class.Class.{Class}
-use Rattle.starlark_grammar.specs.declared.class.Class.TheVariants.{Skipped, Comment, Tabs, Opener, Identifier}
-use Rattle.starlark_grammar.specs.declared.class.LiteralKind.TheVariants.{Text as OfText}
-use Rattle.starlark_grammar.specs.declared.class.Quote.TheVariants.{Single as SingleQuote, Double as DoubleQuote}
-use Rattle.starlark_grammar.specs.Pieces.{is_bang}
+use Rattle.starlark_grammar.specs.declared.class.Class.TheVariants.{Skipped, Comment, Tabs, Identifier}
 use Rattle.starlark_grammar.specs.Front.{longer, longest_front, language_front}
-use Rattle.starlark_words.specs.Inner.ScannedWords.{begins_number, is_quote, marks}
-use Rattle.starlark_grammar.proofs.Words.Fronts.{front_single, front_run}
-use Rattle.starlark_words.proofs.Scan.Listed.{class_of_name, opener_of, all_pass, begins_otherwise, lookup_fails, lookup_elsewhere, each_byte, implied}
-use Rattle.starlark_words.proofs.Scan.Marks.{mark_is}
+use Rattle.starlark_words.specs.Inner.ScannedWords.{begins_fraction, begins_number, class_of_name, mark_front, mark_of, marks, quotes}
+use Rattle.starlark_grammar.proofs.Words.Fronts.{front_none, front_run}
+use Rattle.starlark_words.proofs.Scan.Listed.{opener_of, all_pass, begins_otherwise, lookup_fails, lookup_elsewhere, each_byte, implied}
 use Rattle.starlark_words.proofs.Scan.WordFronts.{front_ended, run_and, take_after}
 use Rattle.starlark_grammar.proofs.Words.Tables.{class_in-language}
 
@@ -207,16 +205,14 @@ unfolding is_unlisted openers line_ends symbols names
 class_of_hash word = class_of_unlisted 35 word refl ∙ no_number 35 word refl refl (not_pointed 35 word refl)
 
 -- a text whose first byte begins a run
-front_of_run : (test : ℕ → Bool) (class : Class) (first : ℕ) → test first ≡ true → ((word : Text) → class_in language (first ∷ word) ≡ cond (list_all test word) (Some class) None) → (text : Text) → slice_get text 0 ≡ Some first → language_front text ≡ Some (class, prefix_len test text)
+front_of_run : (test : ℕ → Bool) (class : Class) (first : ℕ) → 0 < first → test first ≡ true → ((word : Text) → class_in language (first ∷ word) ≡ cond (list_all test word) (Some class) None) → (text : Text) → get_or text 0 0 ≡ first → language_front text ≡ Some (class, prefix_len test text)
 unfolding language_front
-front_of_run test class first passes known [] e = cc
-front_of_run test class first passes known (b ∷ rest) e =
-    let same : b ≡ first = cc in
-    rw (same, front_run test (class_in language) (λ _. class) first rest known, passes) (ap (λ n. Some (class, n)) (omega arith))
+front_of_run test class first some passes known [] e = absurd (omega (arith, some, e))
+front_of_run test class first some passes known (b ∷ rest) e = rw (e, front_run test (class_in language) (λ _. class) first rest known, passes) (ap (λ n. Some (class, n)) (omega arith))
 
 -- a text that begins with a blank, with a tab, or with `#`
-pub front_blank : (text : Text) → slice_get text 0 ≡ Some 32 → language_front text ≡ Some (Skipped, prefix_len (nat_eq 32) text)
-front_blank = front_of_run (nat_eq 32) Skipped 32 refl class_of_blank
+pub front_blank : (text : Text) → get_or text 0 0 ≡ 32 → language_front text ≡ Some (Skipped, prefix_len (nat_eq 32) text)
+front_blank = front_of_run (nat_eq 32) Skipped 32 (omega arith) refl class_of_blank
 
 -- a run of spaces
 pub front_spaces : (text : Text) (len : ℕ) → len ≡ prefix_len (nat_eq 32) text → 0 < len → language_front text ≡ Some (Skipped, len)
@@ -224,164 +220,114 @@ front_spaces [] len e some = absurd (omega (arith, e, some))
 front_spaces (b ∷ rest) len e some = go (nat_eq 32 b) refl
   where
     go : (blank : Bool) → nat_eq 32 b ≡ blank → language_front (b ∷ rest) ≡ Some (Skipped, len)
-    go true is = front_blank (b ∷ rest) (ap Some (sym (eqb-true 32 b is))) ∙ ap (λ n. Some (Skipped, n)) (sym e)
+    go true is = front_blank (b ∷ rest) (sym (eqb-true 32 b is)) ∙ ap (λ n. Some (Skipped, n)) (sym e)
     go false is =
         let none : prefix_len (nat_eq 32) (b ∷ rest) ≡ 0 = rw is refl in
         absurd (omega (arith, some, e, none))
 
-pub spaces_are_no_bang : (text : Text) (len : ℕ) → len ≡ prefix_len (nat_eq 32) text → 0 < len → is_bang text ≡ false
-spaces_are_no_bang [] len e some = refl
-spaces_are_no_bang (b ∷ rest) len e some = go (nat_eq 32 b) refl
-  where
-    blank : (rest : Text) → is_bang (32 ∷ rest) ≡ false
-    blank [] = refl
-    blank (c ∷ rest) = refl
+pub front_tab : (text : Text) → get_or text 0 0 ≡ 9 → language_front text ≡ Some (Tabs, prefix_len (nat_eq 9) text)
+front_tab = front_of_run (nat_eq 9) Tabs 9 (omega arith) refl class_of_tab
 
-    go : (is : Bool) → nat_eq 32 b ≡ is → is_bang (b ∷ rest) ≡ false
-    go true is = subst (λ (x : ℕ). is_bang (x ∷ rest) ≡ false) (eqb-true 32 b is) (blank rest)
-    go false is =
-        let none : prefix_len (nat_eq 32) (b ∷ rest) ≡ 0 = rw is refl in
-        absurd (omega (arith, some, e, none))
-
-pub front_tab : (text : Text) → slice_get text 0 ≡ Some 9 → language_front text ≡ Some (Tabs, prefix_len (nat_eq 9) text)
-front_tab = front_of_run (nat_eq 9) Tabs 9 refl class_of_tab
-
-pub front_hash : (text : Text) → slice_get text 0 ≡ Some 35 → language_front text ≡ Some (Comment, prefix_len is_in_line text)
-front_hash = front_of_run is_in_line Comment 35 refl class_of_hash
-
-pub front_empty : (text : Text) → slice_get text 0 ≡ None → language_front text ≡ None
-unfolding language_front longest_front
-front_empty [] e = refl
-front_empty (b ∷ rest) e = cc
-
--- quotes
-
-is_no_long_quote : Text → Bool
-is_no_long_quote [] = true
-is_no_long_quote (b ∷ word) = cond (is_quote b) (is_empty word) true
-
-openers_are_no_long_quotes : all_pass is_no_long_quote openers ≡ true
-unfolding openers is_no_long_quote is_empty
-openers_are_no_long_quotes = refl
-
-quote_is_plain : (b : ℕ) → b < 256 → is_quote b ≡ true → Plain b
-quote_is_plain b small h = plain b (implied _ _ (each_byte (λ b. not (is_quote b) || is_plain b) b refl small) h)
-
--- what begins with a quote is an opener or no word
-class_of_quote : (b : ℕ) (word : Text) → b < 256 → is_quote b ≡ true → class_in language (b ∷ word) ≡ opener_of (b ∷ word)
-unfolding line_ends symbols names
-class_of_quote b word small h =
-    class_in-language (b ∷ word)
-    ∙ rw (
-      lookup_elsewhere b word line_ends (implied _ _ (each_byte (λ b. not (is_quote b) || all_pass (begins_otherwise b) line_ends) b refl small) h),
-      lookup_elsewhere b word symbols (implied _ _ (each_byte (λ b. not (is_quote b) || all_pass (begins_otherwise b) symbols) b refl small) h),
-      lookup_elsewhere b word names (implied _ _ (each_byte (λ b. not (is_quote b) || all_pass (begins_otherwise b) names) b refl small) h),
-      patterns_plain b word (quote_is_plain b small h),
-      not-true _ (implied _ _ (each_byte (λ b. not (is_quote b) || not (is_name_start b)) b refl small) h),
-    ) (or_none _)
-  where
-    or_none : (found : Option Class) → option_or found None ≡ found
-    or_none None = refl
-    or_none (Some class) = refl
-
-front_of_quote : (b : ℕ) (rest : Text) → b < 256 → is_quote b ≡ true → language_front (b ∷ rest) ≡ option_map (λ class. (class, 1)) (opener_of (b ∷ []))
-unfolding language_front is_no_long_quote is_empty
-front_of_quote b rest small h =
-    front_single (class_in language) b rest (λ c word. class_of_quote b (c ∷ word) small h ∙ lookup_fails is_no_long_quote (b ∷ c ∷ word) openers openers_are_no_long_quotes (rw h refl))
-    ∙ ap (option_map (λ class. (class, 1))) (class_of_quote b [] small h)
-
--- what holds of all texts that begin with a byte
-begun_by : (P : Text → Type 0) (first : ℕ) → ((rest : Text) → P (first ∷ rest)) → (text : Text) → slice_get text 0 ≡ Some first → P text
-begun_by P first holds [] e = cc
-begun_by P first holds (b ∷ rest) e =
-    let same : b ≡ first = cc in
-    subst (λ (n : ℕ). P (n ∷ rest)) (sym same) (holds rest)
-
-pub front_single_quote : (text : Text) → slice_get text 0 ≡ Some 39 → language_front text ≡ Some (Opener OfText false SingleQuote, 1)
-unfolding openers
-front_single_quote = begun_by (λ text. language_front text ≡ Some (Opener OfText false SingleQuote, 1)) 39 (λ rest. front_of_quote 39 rest (omega arith) refl)
-
-pub front_double_quote : (text : Text) → slice_get text 0 ≡ Some 34 → language_front text ≡ Some (Opener OfText false DoubleQuote, 1)
-unfolding openers
-front_double_quote = begun_by (λ text. language_front text ≡ Some (Opener OfText false DoubleQuote, 1)) 34 (λ rest. front_of_quote 34 rest (omega arith) refl)
+pub front_hash : (text : Text) → get_or text 0 0 ≡ 35 → language_front text ≡ Some (Comment, prefix_len is_in_line text)
+front_hash = front_of_run is_in_line Comment 35 (omega arith) refl class_of_hash
 
 -- marks
 
-or_none : (found : Option Class) → option_or found None ≡ found
-or_none None = refl
-or_none (Some class) = refl
-
-class_of_mark : (b : ℕ) (word : Text) → all_pass (begins_otherwise b) openers ≡ true → all_pass (begins_otherwise b) names ≡ true → class_in patterns (b ∷ word) ≡ None → class_in language (b ∷ word) ≡ class_in marks (b ∷ word)
-class_of_mark b word opener name pattern =
-    class_in-language (b ∷ word)
-    ∙ rw (lookup_elsewhere b word openers opener, lookup_elsewhere b word names name, pattern) (ap (option_or (lookup (bytes_eq (b ∷ word)) line_ends)) (or_none _))
-    ∙ sym (mark_is (b ∷ word))
-
--- a byte that begins none of the words but marks
-is_mark_byte : ℕ → Bool
-is_mark_byte b = is_plain b && (all_pass (begins_otherwise b) openers && all_pass (begins_otherwise b) names)
-
-class_of_mark_byte : (b : ℕ) (word : Text) → is_mark_byte b ≡ true → is_name_start b ≡ false → class_in language (b ∷ word) ≡ class_in marks (b ∷ word)
-unfolding is_mark_byte
-class_of_mark_byte b word h name =
-    let one = and_parts _ _ h in
-    let two = and_parts _ _ one.1 in
-    class_of_mark b word two.0 two.1 (patterns_plain b word (plain b one.0) ∙ rw name refl)
-
-class_of_point : (word : Text) → begins is_ascii_digit word ≡ false → class_in language (46 ∷ word) ≡ class_in marks (46 ∷ word)
-unfolding openers names
-class_of_point word h = class_of_mark 46 word refl refl (no_number 46 word refl refl (point_alone word h))
-
-front_point : (rest : Text) → begins is_ascii_digit rest ≡ false → longest_front (class_in language) (46 ∷ rest) ≡ longest_front (class_in marks) (46 ∷ rest)
-unfolding longest_front
-front_point [] h = ap (option_map (λ class. (class, 1))) (class_of_point [] refl)
-front_point (c ∷ rest) h = λ i. longer (longer (longest_front (λ word. class_of_point (c ∷ word) h i) rest) (class_of_point (c ∷ []) h i)) (class_of_point [] refl i)
-
-front_mark_byte : (b : ℕ) (rest : Text) → is_mark_byte b ≡ true → is_name_start b ≡ false → longest_front (class_in language) (b ∷ rest) ≡ longest_front (class_in marks) (b ∷ rest)
-unfolding longest_front
-front_mark_byte b rest h name = λ i. longer (longest_front (λ word. class_of_mark_byte b word h name i) rest) (class_of_mark_byte b [] h name i)
-
--- a byte with a branch of its own
-is_branch : ℕ → Bool
-is_branch b = b == 32 || (b == 9 || (b == 35 || (b == 39 || (b == 34 || (is_name_start b || is_ascii_digit b)))))
+or_false : (x y : Bool) → (x || y) ≡ false → (x ≡ false) × (y ≡ false)
+or_false true y h = cc
+or_false false y h = (refl, h)
 
 or_right : (x y : Bool) → (x || y) ≡ true → x ≡ false → y ≡ true
 or_right true y h e = cc
 or_right false y h e = h
 
-or_left_false : (x y : Bool) → (x || y) ≡ false → x ≡ false
-or_left_false true y h = h
-or_left_false false y h = refl
+lookup_append : (test : Text → Bool) (front back : List (Text × Class)) → lookup test (front ++ back) ≡ option_or (lookup test front) (lookup test back)
+lookup_append test [] back = refl
+lookup_append test (row ∷ rows) back = go (test row.0) (lookup_append test rows back)
+  where
+    go : (passes : Bool) → lookup test (rows ++ back) ≡ option_or (lookup test rows) (lookup test back)
+        → cond passes (Some row.1) (lookup test (rows ++ back)) ≡ option_or (cond passes (Some row.1) (lookup test rows)) (lookup test back)
+    go true more = refl
+    go false more = more
 
-point_is : (b : ℕ) → (b == 46) ≡ true → b ≡ 46
-point_is b h = grind (arith, nat_tests)
+or_none : (found : Option Class) → option_or found None ≡ found
+or_none None = refl
+or_none (Some class) = refl
 
-mark_or_point : (b : ℕ) → b < 256 → is_branch b ≡ false → (b == 46 || is_mark_byte b) ≡ true
-unfolding is_branch is_mark_byte openers names
-mark_or_point b small h = or_right _ _ (each_byte (λ b. is_branch b || (b == 46 || is_mark_byte b)) b refl small) h
+-- without a prefix only the quotes are openers
+unprefixed : (b : ℕ) (word : Text) → is_name_start b ≡ false → opener_of (b ∷ word) ≡ lookup (bytes_eq (b ∷ word)) quotes
+unfolding openers
+unprefixed b word name = sym (lookup-filter-keys (bytes_eq (b ∷ word)) (λ key. not (begins is_name_start key)) true (λ key same. ap (λ other. not (begins is_name_start other)) (sym ((bytes_eq-Decides (b ∷ word) key).0 same)) ∙ rw name refl) openers)
 
-no_branch : (b : ℕ) → b ≢ 32 → b ≢ 9 → b ≢ 35 → b ≢ 39 → b ≢ 34 → is_name_start b ≡ false → is_ascii_digit b ≡ false → is_branch b ≡ false
+no_name_is_other : (b : ℕ) → b < 256 → is_name_start b ≡ false → all_pass (begins_otherwise b) names ≡ true
+unfolding names
+no_name_is_other b small h = or_right _ _ (each_byte (λ b. is_name_start b || all_pass (begins_otherwise b) names) b refl small) h
+
+class_of_mark : (b : ℕ) (word : Text) → b < 256 → is_name_start b ≡ false → class_in patterns (b ∷ word) ≡ None → class_in language (b ∷ word) ≡ mark_of (b ∷ word)
+unfolding marks
+class_of_mark b word small name pattern =
+    class_in-language (b ∷ word)
+    ∙ rw (unprefixed b word name, lookup_elsewhere b word names (no_name_is_other b small name), pattern) (ap (λ symbol. option_or (lookup (bytes_eq (b ∷ word)) quotes) (option_or (lookup (bytes_eq (b ∷ word)) line_ends) symbol)) (or_none _))
+    ∙ sym (lookup_append (bytes_eq (b ∷ word)) quotes (line_ends ++ symbols) ∙ ap (option_or (lookup (bytes_eq (b ∷ word)) quotes)) (lookup_append (bytes_eq (b ∷ word)) line_ends symbols))
+
+front_marks : (b : ℕ) (rest : Text) → ((word : Text) → class_in patterns (b ∷ word) ≡ None) → b < 256 → is_name_start b ≡ false → longest_front (class_in language) (b ∷ rest) ≡ longest_front mark_of (b ∷ rest)
+unfolding longest_front
+front_marks b rest pattern small name = λ i. longer (longest_front (λ word. class_of_mark b word small name (pattern word) i) rest) (class_of_mark b [] small name (pattern []) i)
+
+class_of_point : (word : Text) → begins is_ascii_digit word ≡ false → class_in language (46 ∷ word) ≡ mark_of (46 ∷ word)
+class_of_point word h = class_of_mark 46 word (omega arith) refl (no_number 46 word refl refl (point_alone word h))
+
+front_point : (rest : Text) → begins is_ascii_digit rest ≡ false → longest_front (class_in language) (46 ∷ rest) ≡ longest_front mark_of (46 ∷ rest)
+unfolding longest_front
+front_point [] h = ap (option_map (λ class. (class, 1))) (class_of_point [] refl)
+front_point (c ∷ rest) h = λ i. longer (longer (longest_front (λ word. class_of_point (c ∷ word) h i) rest) (class_of_point (c ∷ []) h i)) (class_of_point [] refl i)
+
+-- a byte that begins gaps, comments, tabs, names or numbers, and no marks
+is_branch : ℕ → Bool
+is_branch b = b == 32 || (b == 9 || (b == 35 || (is_name_start b || is_ascii_digit b)))
+
+plain_or_point : (b : ℕ) → b < 256 → is_branch b ≡ false → (b == 46 || is_plain b) ≡ true
 unfolding is_branch
-no_branch b blank tab hash single double name digit = rw (ne_eqb b 32 blank, ne_eqb b 9 tab, ne_eqb b 35 hash, ne_eqb b 39 single, ne_eqb b 34 double, name, digit) refl
+plain_or_point b small h = or_right _ _ (each_byte (λ b. is_branch b || (b == 46 || is_plain b)) b refl small) h
+
+no_mark_at_branch : (b : ℕ) (rest : Text) → b < 256 → is_branch b ≡ true → longest_front mark_of (b ∷ rest) ≡ None
+unfolding is_branch marks line_ends symbols
+no_mark_at_branch b rest small h = front_none mark_of b rest (λ word. lookup_elsewhere b word marks (implied _ _ (each_byte (λ b. not (is_branch b) || all_pass (begins_otherwise b) marks) b refl small) h))
+
+no_name : (b : ℕ) → b < 256 → is_branch b ≡ false → is_name_start b ≡ false
+unfolding is_branch
+no_name b small h = not-true _ (or_right _ _ (each_byte (λ b. is_branch b || not (is_name_start b)) b refl small) h)
 
 -- a text that begins with any other byte
-pub front_mark : (text : Text) (b : ℕ) → slice_get text 0 ≡ Some b → b < 256 → b ≢ 32 → b ≢ 9 → b ≢ 35 → b ≢ 39 → b ≢ 34 → is_name_start b ≡ false → begins_number text ≡ false → language_front text ≡ longest_front (class_in marks) text
+front_other : (b : ℕ) (rest : Text) → b < 256 → is_branch b ≡ false → begins_fraction (b ∷ rest) ≡ false → language_front (b ∷ rest) ≡ mark_front (b ∷ rest)
 unfolding language_front
-front_mark [] b e small blank tab hash single double name number = cc
-front_mark (x ∷ rest) b e small blank tab hash single double name number =
-    let same : x ≡ b = cc in
-    rw same (go (b == 46) refl (subst (λ (y : ℕ). begins_number (y ∷ rest) ≡ false) same number))
+front_other b rest small branch fraction = go (b == 46) refl
   where
-    digit_parts : (rest : Text) → begins_number (b ∷ rest) ≡ false → is_ascii_digit b ≡ false
-    digit_parts [] h = h
-    digit_parts (c ∷ rest) h = or_left_false _ _ h
-
-    after_point : (rest : Text) → b ≡ 46 → begins_number (b ∷ rest) ≡ false → begins is_ascii_digit rest ≡ false
+    after_point : (rest : Text) → b ≡ 46 → begins_fraction (b ∷ rest) ≡ false → begins is_ascii_digit rest ≡ false
     after_point [] point h = refl
     after_point (c ∷ rest) point h = rw point at h
 
-    go : (point : Bool) → (b == 46) ≡ point → begins_number (b ∷ rest) ≡ false → longest_front (class_in language) (b ∷ rest) ≡ longest_front (class_in marks) (b ∷ rest)
-    go true point h =
-        let is : b ≡ 46 = point_is b point in
-        rw is (front_point rest (after_point rest is h))
-    go false point h = front_mark_byte b rest (or_right _ _ (mark_or_point b small (no_branch b blank tab hash single double name (digit_parts rest h))) point) name
+    go : (point : Bool) → (b == 46) ≡ point → longest_front (class_in language) (b ∷ rest) ≡ mark_front (b ∷ rest)
+    go true point = let is : b ≡ 46 = eqb-true b 46 point in rw fraction (rw is (front_point rest (after_point rest is fraction)))
+    go false point = rw fraction (front_marks b rest (λ word. patterns_plain b word (plain b (or_right _ _ (plain_or_point b small branch) point)) ∙ rw (no_name b small branch) refl) small (no_name b small branch))
+
+-- a text that begins with none of the bytes that begin other words
+pub front_mark : (text : Text) → get_or text 0 0 < 256 → get_or text 0 0 ≢ 32 → get_or text 0 0 ≢ 9 → get_or text 0 0 ≢ 35 → begins is_name_start text ≡ false → begins_number text ≡ false → language_front text ≡ mark_front text
+unfolding is_branch language_front longest_front
+front_mark [] small blank tab hash name number = refl
+front_mark (b ∷ []) small blank tab hash name number =
+    front_other b [] small (rw (ne_eqb b 32 blank, ne_eqb b 9 tab, ne_eqb b 35 hash, name, number) refl) refl
+front_mark (b ∷ c ∷ rest) small blank tab hash name number =
+    let parts = or_false (is_ascii_digit b) (b == 46 && is_ascii_digit c) number in
+    front_other b (c ∷ rest) small (rw (ne_eqb b 32 blank, ne_eqb b 9 tab, ne_eqb b 35 hash, name, parts.0) refl) parts.1
+
+-- a mark at the front is the longest word there
+pub word_of_mark : (text : Text) (found : Class × ℕ) → ((i : ℕ) → get_or text i 0 < 256) → mark_front text ≡ Some found → language_front text ≡ Some found
+unfolding longest_front language_front
+word_of_mark [] found small is = is
+word_of_mark (b ∷ rest) found small is = go (begins_fraction (b ∷ rest)) (is_branch b) refl refl
+  where
+    go : (fraction branch : Bool) → begins_fraction (b ∷ rest) ≡ fraction → is_branch b ≡ branch → language_front (b ∷ rest) ≡ Some found
+    go true branch fraction e = let none : mark_front (b ∷ rest) ≡ None = rw fraction refl in cc
+    go false true fraction e = let none : mark_front (b ∷ rest) ≡ None = rw fraction (no_mark_at_branch b rest (small 0) e) in cc
+    go false false fraction e = front_other b rest (small 0) e fraction ∙ is

@@ -1,91 +1,125 @@
 -- The longest mark at the front of a text.
-use Rattle.std.proofs.Common.{◌≡◌, ℕ, suc, ◌<◌, ◌≤◌, true, false, nat_le, [], ◌∷◌, length, get_or, refl, sym, ap, ◌∙◌, Option, None, Some, arith}
+use Rattle.std.proofs.Common.{◌≡◌, ◌≢◌, ℕ, suc, Bool, true, false, not, ◌&&◌, ◌||◌, ◌==◌, nat_le, [], ◌∷◌, length, get_or, refl, sym, ap, ◌∙◌, Option, None, Some, ◌⊎◌, inl, inr, arith}
+use Rattle.std.proofs.lemmas.Bool.{and_parts, eq-eqb, eqb-true, ne_eqb}
 use Rattle.std.proofs.lemmas.Bool.Decides.{nat_tests}
-use Rattle.std.specs.List.{slice_get}
-use Rattle.std.specs.Map.{lookup}
-use Rattle.std.specs.Option.{option_map, option_or}
-use Rattle.std.specs.Str.{bytes_eq}
-use Rattle.starlark_words.specs.Inner.ScannedWords.{marks}
-use Rattle.starlark_grammar.specs.Words.{Text, class_in, listed, line_ends, symbols}
+use Rattle.std.specs.List.{list_all}
+use Rattle.std.specs.Option.{is_some, option_map}
+use Rattle.std.specs.Prelude.{IfSome}
+use Rattle.starlark_grammar.specs.Front.{longest_front}
+use Rattle.starlark_grammar.specs.Words.{Text, line_ends, symbols}
+use Rattle.starlark_words.specs.Inner.ScannedWords.{begins_fraction, is_common, is_common_front, mark_front, mark_of, marks, word_view}
 use Rattle.starlark_grammar.specs.declared.class.Class.{Class}
-use Rattle.starlark_grammar.specs.Front.{longer, longest_front}
-use Rattle.starlark_words.proofs.Scan.Listed.{all_pass, lookup_fails}
+use Rattle.starlark_grammar.specs.declared.class.Class.TheVariants.{LineEnd}
+use Rattle.starlark_words.specs.declared.scanner.word.Word.{Word}
+use Rattle.starlark_grammar.proofs.Words.Fronts.{front_absent}
+use Rattle.starlark_words.proofs.Scan.Listed.{lookup_fails}
 use Rattle.starlark_words.proofs.Scan.WordFronts.{front_triple}
-use Rattle.starlark_grammar.proofs.Words.Tables.{class_in-remainder, class_in-listed}
-
--- the class of a mark
-abbrev pub mark_of : Text → Option Class
-mark_of = class_in marks
-
-abbrev pub counted : ℕ → Option Class → Option (Class × ℕ)
-counted n = option_map (λ class. (class, n))
-
-symbols_are_short : all_pass (λ word. nat_le (length word) 3) symbols ≡ true
-unfolding symbols
-symbols_are_short = refl
-
-line_ends_are_short : all_pass (λ word. nat_le (length word) 3) line_ends ≡ true
-unfolding line_ends
-line_ends_are_short = refl
-
--- the class of a mark: that of a line end, or that of a symbol
-pub mark_is : (word : Text) → mark_of word ≡ option_or (lookup (bytes_eq word) line_ends) (lookup (bytes_eq word) symbols)
-mark_is word = class_in-remainder line_ends (listed symbols) word ∙ ap (option_or _) (class_in-listed symbols word)
 
 no_longer_mark : (a b c d : ℕ) (word : Text) → mark_of (a ∷ b ∷ c ∷ d ∷ word) ≡ None
-no_longer_mark a b c d word =
-    mark_is (a ∷ b ∷ c ∷ d ∷ word)
-    ∙ rw (
-      lookup_fails (λ word. nat_le (length word) 3) (a ∷ b ∷ c ∷ d ∷ word) line_ends line_ends_are_short (longer_than_three (length word)),
-      lookup_fails (λ word. nat_le (length word) 3) (a ∷ b ∷ c ∷ d ∷ word) symbols symbols_are_short (longer_than_three (length word)),
-    ) refl
+unfolding marks line_ends symbols
+no_longer_mark a b c d word = lookup_fails (λ word. nat_le (length word) 3) (a ∷ b ∷ c ∷ d ∷ word) marks refl (longer_than_three (length word))
   where
     longer_than_three : (n : ℕ) → nat_le (suc (suc (suc (suc n)))) 3 ≡ false
     longer_than_three n = grind (arith, nat_tests)
 
-pub front_one : (a : ℕ) → longest_front mark_of (a ∷ []) ≡ counted 1 (mark_of (a ∷ []))
-unfolding longest_front
-front_one a = refl
-
-pub front_two : (a b : ℕ) → longest_front mark_of (a ∷ b ∷ []) ≡ longer (counted 1 (mark_of (a ∷ b ∷ []))) (mark_of (a ∷ []))
-unfolding longest_front
-front_two a b = refl
-
-pub front_three : (a b c : ℕ) (rest : Text) → longest_front mark_of (a ∷ b ∷ c ∷ rest) ≡ longer (longer (counted 1 (mark_of (a ∷ b ∷ c ∷ []))) (mark_of (a ∷ b ∷ []))) (mark_of (a ∷ []))
-front_three a b c rest = front_triple mark_of a b c rest (no_longer_mark a b c)
-
 -- only the first three bytes count
-pub front_long : (text : Text) → 3 ≤ length text → longest_front mark_of text ≡ longest_front mark_of (get_or text 0 0 ∷ get_or text 1 0 ∷ get_or text 2 0 ∷ [])
-front_long [] h = absurd (omega arith)
-front_long (a ∷ []) h = absurd (omega arith)
-front_long (a ∷ b ∷ []) h = absurd (omega arith)
-front_long (a ∷ b ∷ c ∷ rest) h = front_three a b c rest ∙ sym (front_three a b c [])
+three_count : (a b c : ℕ) (rest : Text) → longest_front mark_of (a ∷ b ∷ c ∷ rest) ≡ longest_front mark_of (a ∷ b ∷ c ∷ [])
+three_count a b c rest = front_triple mark_of a b c rest (no_longer_mark a b c) ∙ sym (front_triple mark_of a b c [] (no_longer_mark a b c))
 
--- no mark is at the front of nothing
-pub none_found : (text : Text) → slice_get text 0 ≡ None → longest_front mark_of text ≡ None
+and_false : (x : Bool) → (x && false) ≡ false
+and_false true = refl
+and_false false = refl
+
+-- no mark has a byte 0
+
+is_not_zero : ℕ → Bool
+is_not_zero b = not (b == 0)
+
+zero_after_one : (a : ℕ) → mark_of (a ∷ 0 ∷ []) ≡ None
+unfolding marks line_ends symbols is_not_zero
+zero_after_one a = lookup_fails (list_all is_not_zero) (a ∷ 0 ∷ []) marks refl (and_false (is_not_zero a))
+
+zero_after_two : (a b : ℕ) → mark_of (a ∷ b ∷ 0 ∷ []) ≡ None
+unfolding marks line_ends symbols is_not_zero
+zero_after_two a b = lookup_fails (list_all is_not_zero) (a ∷ b ∷ 0 ∷ []) marks refl (rw and_false (and_false (is_not_zero a)))
+
+no_mark_of_nothing : mark_front [] ≡ mark_front (0 ∷ 0 ∷ 0 ∷ [])
+unfolding longest_front marks line_ends symbols
+no_mark_of_nothing = refl
+
+-- a text's mark is that of its first three bytes, which are 0 after its end
+pub mark_by_three : (text : Text) → mark_front text ≡ mark_front (get_or text 0 0 ∷ get_or text 1 0 ∷ get_or text 2 0 ∷ [])
 unfolding longest_front
-none_found [] e = refl
-none_found (a ∷ rest) e = cc
+mark_by_three [] = no_mark_of_nothing
+mark_by_three (a ∷ []) = rw (and_false, zero_after_one a, zero_after_two a 0) refl
+mark_by_three (a ∷ b ∷ []) = rw (zero_after_two a b) refl
+mark_by_three (a ∷ b ∷ c ∷ rest) = rw (three_count a b c rest) refl
 
--- a mark of three bytes at the front
-pub three_found : (text : Text) (class : Class) → 3 ≤ length text → mark_of (get_or text 0 0 ∷ get_or text 1 0 ∷ get_or text 2 0 ∷ []) ≡ Some class → longest_front mark_of text ≡ Some (class, 3)
-three_found text class long h = front_long text long ∙ front_three (get_or text 0 0) (get_or text 1 0) (get_or text 2 0) [] ∙ rw h refl
+-- where the first two bytes differ, only an escaped line end has three
 
--- a mark of two bytes at the front, where none has three
-pub two_found : (text : Text) (class : Class) → 2 ≤ length text → (3 ≤ length text → mark_of (get_or text 0 0 ∷ get_or text 1 0 ∷ get_or text 2 0 ∷ []) ≡ None) → mark_of (get_or text 0 0 ∷ get_or text 1 0 ∷ []) ≡ Some class → longest_front mark_of text ≡ Some (class, 2)
-two_found [] class long none h = absurd (omega arith)
-two_found (a ∷ []) class long none h = absurd (omega arith)
-two_found (a ∷ b ∷ []) class long none h = front_two a b ∙ rw h refl
-two_found (a ∷ b ∷ c ∷ rest) class long none h = front_three a b c rest ∙ rw (none (omega arith), h) refl
+is_escape : ℕ → ℕ → Bool
+is_escape a b = a == 92 && b == 13
 
--- the mark at the front, where none has two bytes or three
-pub one_found : (text : Text) (b : ℕ) → slice_get text 0 ≡ Some b → (3 ≤ length text → mark_of (get_or text 0 0 ∷ get_or text 1 0 ∷ get_or text 2 0 ∷ []) ≡ None) → (2 ≤ length text → mark_of (get_or text 0 0 ∷ get_or text 1 0 ∷ []) ≡ None) → longest_front mark_of text ≡ longest_front mark_of (b ∷ [])
-one_found [] b e three two = cc
-one_found (a ∷ []) b e three two = let same : a ≡ b = cc in rw same refl
-one_found (a ∷ c ∷ []) b e three two = let same : a ≡ b = cc in front_two a c ∙ rw (two (omega arith)) (sym (front_one a)) ∙ ap (λ x. longest_front mark_of (x ∷ [])) same
-one_found (a ∷ c ∷ d ∷ rest) b e three two = let same : a ≡ b = cc in front_three a c d rest ∙ rw (three (omega arith), two (omega arith)) (sym (front_one a)) ∙ ap (λ x. longest_front mark_of (x ∷ [])) same
+begins_triple : Text → Bool
+begins_triple (a ∷ b ∷ c ∷ []) = a == b || is_escape a b
+begins_triple word = true
 
-pub front_empty : (text : Text) → length text < 1 → longest_front mark_of text ≡ None
+pub by_two : (a b c : ℕ) → b ≢ a → (mark_front (a ∷ b ∷ c ∷ []) ≡ mark_front (a ∷ b ∷ 0 ∷ [])) ⊎ ((mark_front (a ∷ b ∷ 0 ∷ []) ≡ None) × (is_common_front (mark_front (a ∷ b ∷ c ∷ [])) ≡ false))
+unfolding longest_front marks line_ends symbols begins_triple is_escape
+by_two a b c other = go (is_escape a b) refl
+  where
+    skipped : (feed : Bool) → (c == 10) ≡ feed → is_common_front (mark_front (92 ∷ 13 ∷ c ∷ [])) ≡ false
+    skipped true e = rw e refl
+    skipped false e = rw e refl
+
+    go : (escape : Bool) → is_escape a b ≡ escape → (mark_front (a ∷ b ∷ c ∷ []) ≡ mark_front (a ∷ b ∷ 0 ∷ [])) ⊎ ((mark_front (a ∷ b ∷ 0 ∷ []) ≡ None) × (is_common_front (mark_front (a ∷ b ∷ c ∷ [])) ≡ false))
+    go true e =
+        let parts = and_parts _ _ e in
+        inr (rw (eqb-true a 92 parts.0, eqb-true b 13 parts.1) (refl, skipped (c == 10) refl))
+    go false e =
+        let third : mark_of (a ∷ b ∷ c ∷ []) ≡ None = lookup_fails begins_triple (a ∷ b ∷ c ∷ []) marks refl (rw (ne_eqb a b (λ same. other (sym same)), e) refl) in
+        inl (rw (third, zero_after_two a b) refl)
+
+-- where the first two bytes are the same, a mark of three has shorter ones
+
+begins_alone : Text → Bool
+begins_alone (a ∷ b ∷ c ∷ []) = not (a == b) || is_some (mark_of (a ∷ []))
+begins_alone word = true
+
+pub no_longer : (a b c : ℕ) → mark_front (a ∷ b ∷ c ∷ []) ≡ None → mark_front (a ∷ b ∷ 0 ∷ []) ≡ None
 unfolding longest_front
-front_empty [] h = refl
-front_empty (a ∷ rest) h = absurd (omega arith)
+no_longer a b c none = go (begins_fraction (a ∷ b ∷ [])) refl none
+  where
+    go : (fraction : Bool) → begins_fraction (a ∷ b ∷ []) ≡ fraction → mark_front (a ∷ b ∷ c ∷ []) ≡ None → mark_front (a ∷ b ∷ 0 ∷ []) ≡ None
+    go true e none = rw e refl
+    go false e none =
+        let absent : longest_front mark_of (a ∷ b ∷ c ∷ []) ≡ None = rw e at none in
+        rw (e, zero_after_two a b, front_absent mark_of (a ∷ b ∷ c ∷ []) absent 2 (omega arith) (omega arith), front_absent mark_of (a ∷ b ∷ c ∷ []) absent 1 (omega arith) (omega arith)) refl
+
+pub no_shorter : (a c : ℕ) → mark_front (a ∷ a ∷ 0 ∷ []) ≡ None → mark_front (a ∷ a ∷ c ∷ []) ≡ None
+unfolding longest_front marks line_ends symbols begins_alone
+no_shorter a c none = go (begins_fraction (a ∷ a ∷ [])) refl none
+  where
+    go : (fraction : Bool) → begins_fraction (a ∷ a ∷ []) ≡ fraction → mark_front (a ∷ a ∷ 0 ∷ []) ≡ None → mark_front (a ∷ a ∷ c ∷ []) ≡ None
+    go true e none = rw e refl
+    go false e none =
+        let absent : longest_front mark_of (a ∷ a ∷ 0 ∷ []) ≡ None = rw e at none in
+        let one : mark_of (a ∷ []) ≡ None = front_absent mark_of (a ∷ a ∷ 0 ∷ []) absent 1 (omega arith) (omega arith) in
+        let two : mark_of (a ∷ a ∷ []) ≡ None = front_absent mark_of (a ∷ a ∷ 0 ∷ []) absent 2 (omega arith) (omega arith) in
+        let three : mark_of (a ∷ a ∷ c ∷ []) ≡ None = lookup_fails begins_alone (a ∷ a ∷ c ∷ []) marks refl (rw (eq-eqb a a refl, one) refl) in
+        rw (e, three, two, one) refl
+
+-- a line feed is a mark by itself
+pub line_feed : (b c : ℕ) → mark_front (10 ∷ b ∷ c ∷ []) ≡ Some (LineEnd, 1)
+unfolding longest_front marks line_ends symbols
+line_feed b c = refl
+
+-- no mark begins with a bang
+pub no_mark_at_bang : (b c : ℕ) → (b == 61) ≡ false → mark_front (33 ∷ b ∷ c ∷ []) ≡ None
+unfolding longest_front marks line_ends symbols
+no_mark_at_bang b c h = rw h refl
+
+-- a mark that is found is uncommon where that at the front is
+pub found_is_uncommon : (front : Option (Class × ℕ)) (found : Option Word) → option_map word_view found ≡ front → is_common_front front ≡ false → IfSome found (λ word. is_common word.class ≡ false)
+found_is_uncommon front None is h = tt
+found_is_uncommon front (Some word) is h = ap is_common_front is ∙ h

@@ -1,11 +1,11 @@
 -- Which names may stand before the quote of an opener.
-use Rattle.std.proofs.Common.{◌≡◌, ℕ, zero, suc, ◌+◌, ◌<◌, Bool, true, false, nat_le, [], ◌∷◌, length, take, get_or, refl, ap, None, arith}
+use Rattle.std.proofs.Common.{◌≡◌, ◌≢◌, ℕ, zero, suc, ◌+◌, ◌<◌, Bool, true, false, nat_le, [], ◌∷◌, ◌++◌, length, take, get_or, refl, ap, sym, None, arith}
+use Rattle.std.proofs.lemmas.Bool.{ne_eqb}
 use Rattle.std.proofs.lemmas.Bool.Decides.{nat_tests}
-use Rattle.std.proofs.lemmas.List.{get_or-take}
+use Rattle.std.proofs.lemmas.List.{get_or-take, take_more}
 use Rattle.std.specs.List.{prefix_len}
 use Rattle.starlark_grammar.specs.Words.{Text, openers, is_in_name}
-use Rattle.starlark_words.specs.Inner.ScannedWords.{is_quote}
-use Rattle.starlark_words.proofs.Scan.Listed.{opener_of, all_pass, lookup_fails}
+use Rattle.starlark_words.proofs.Scan.Listed.{opener_of, all_pass, is_quote, lookup_fails}
 use Rattle.starlark_words.proofs.Scan.WordFronts.{take_after}
 
 prefixes_are_short : all_pass (λ word. nat_le (prefix_len is_in_name word) 2) openers ≡ true
@@ -38,15 +38,17 @@ long_name_is_no_prefix text n e long =
     too_long : (k : ℕ) → 2 < k → nat_le k 2 ≡ false
     too_long k h = grind (arith, nat_tests)
 
-pub unquoted_is_no_opener : (text : Text) (n : ℕ) → n ≡ prefix_len is_in_name text → is_quote (get_or text n 0) ≡ false → opener_of (take (n + 1) text) ≡ None
-unquoted_is_no_opener text n e other =
+pub unquoted_is_no_opener : (text : Text) (n : ℕ) → n ≡ prefix_len is_in_name text → get_or text n 0 ≢ 39 → get_or text n 0 ≢ 34 → opener_of (take (n + 1) text) ≡ None
+unquoted_is_no_opener text n e single double =
+    let other : is_quote (get_or text n 0) ≡ false = rw (ne_eqb _ 39 single, ne_eqb _ 34 double) refl in
     lookup_fails is_quoted (take (n + 1) text) openers openers_are_quoted (rw (e, name_of_opener text, get_or-take (prefix_len is_in_name text + 1) text (prefix_len is_in_name text) 0 (omega arith), ← e) other)
 
--- a quote is a byte of the text
-pub quote_is_within : (text : Text) (n : ℕ) → is_quote (get_or text n 0) ≡ true → n < length text
-quote_is_within [] n e = cc
-quote_is_within (b ∷ rest) zero e = omega arith
-quote_is_within (b ∷ rest) (suc n) e = let h = quote_is_within rest n e in omega arith
+-- a byte that isn't 0 is one of the text
+pub is_within : (text : Text) (n : ℕ) → 0 < get_or text n 0 → n < length text
+is_within [] n h = absurd (omega arith)
+is_within (b ∷ rest) zero h = omega arith
+is_within (b ∷ rest) (suc n) h = let more = is_within rest n h in omega arith
 
-pub quote_is_ascii : (b : ℕ) → is_quote b ≡ true → b < 128
-quote_is_ascii b h = grind (arith, nat_tests)
+-- a prefix and its quote
+pub opener_at : (text : Text) (n b : ℕ) → 0 < b → get_or text n 0 ≡ b → take n text ++ b ∷ [] ≡ take (n + 1) text
+opener_at text n b some is = rw (← is) (sym (take_more text n 0 (is_within text n (omega (arith, some, is)))))

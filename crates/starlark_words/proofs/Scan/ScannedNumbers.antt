@@ -1,16 +1,15 @@
 -- The numbers at the front of a text.
-use Rattle.std.proofs.Common.{◌≡◌, if◌then◌else◌, ◌≢◌, ℕ, zero, suc, ◌+◌, ◌*◌, ◌≤◌, Bool, true, false, [], ◌∷◌, drop, refl, ap, sym, ◌∙◌, cond, ◌&&◌, ◌||◌, not, List, ◌<◌, ◌==◌, nat_eq, Option, Some, None, ◌⊎◌, inl, inr, arith, one-add}
-use Rattle.std.proofs.Math.Dec.{eqb-suc-zero}
-use Rattle.std.proofs.lemmas.Bool.{eqb-true, not-true, and_parts, agree_below}
+use Rattle.std.proofs.Common.{◌≡◌, ◌≢◌, ℕ, zero, suc, ◌+◌, ◌*◌, ◌≤◌, Bool, true, false, [], ◌∷◌, drop, refl, ap, sym, ◌∙◌, cond, ◌&&◌, ◌||◌, not, List, ◌<◌, ◌==◌, nat_eq, Option, Some, None, ◌⊎◌, inl, inr, arith, one-add, get_or}
+use Rattle.std.proofs.lemmas.Bool.{eqb-true, not-true, and_parts, agree_below, both_ways}
 use Rattle.std.specs.Char.{is_ascii_digit, is_ascii_hexdigit}
-use Rattle.std.specs.List.{prefix_len, list_all, slice_get}
-use Rattle.std.specs.Option.{option_map, option_or}
+use Rattle.std.specs.List.{prefix_len, list_all}
+use Rattle.std.specs.Option.{option_or}
 use Rattle.starlark_grammar.specs.Words.{Text, class_in, language, openers, line_ends, symbols, names, patterns, is_name_start, numbers, based, has_base, is_octal_digit, is_binary_digit, begins, is_run, sign_len, is_sign, unsigned, is_exponent_letter, is_exponent, after_digits, ends_float, is_point, is_fraction, makes_float}
 use Rattle.starlark_grammar.specs.declared.class.Class.{Class}
 use Rattle.starlark_grammar.specs.declared.class.Class.TheVariants.{Decimal, Hexadecimal, Octal, Binary, Float}
 use Rattle.starlark_grammar.specs.Front.{longest_front, language_front}
 use Rattle.starlark_grammar.specs.Lengths.{longest_len}
-use Rattle.starlark_words.specs.Inner.ScannedWords.{begins_number, is_digit_alone, may_be_in_number, word_view}
+use Rattle.starlark_words.specs.Inner.ScannedWords.{begins_number, is_digit_alone, may_be_in_number}
 use Rattle.starlark_grammar.proofs.Words.Tables.{class_in-language}
 use Rattle.starlark_words.proofs.Scan.Listed.{all_pass, lookup_fails, begins_otherwise, lookup_elsewhere, each_byte, implied}
 use Rattle.starlark_words.proofs.Scan.Residuals.{front_next, front_some, longer_by, or_empty, if_some, if_passes, front_on, front_first, front_same, front_never, front_end, front_into, front_of_some, front_of_test, len_of_test, longer_by_none, front_run, front_on_longest}
@@ -490,48 +489,37 @@ no_based_digits text hexadecimal octal binary = go (has_base 120 88 text) (has_b
     go false false true e f g = binary_base text g ∙ ap (if_based Binary) (binary g)
     go false false false e f g = no_base text e f g
 
--- no byte follows the letter of the base
-pub no_third_byte : (text : Text) → slice_get text 2 ≡ None → longest_front (class_in based) text ≡ None
-no_third_byte text e = no_based_digits text (λ h. ended text is_ascii_hexdigit e) (λ h. ended text is_octal_digit e) (λ h. ended text is_binary_digit e)
+-- whether three bytes are a base and a digit of it
+abbrev pub is_based_digit : (a b c : ℕ) → Bool
+is_based_digit a b c = (has_base 120 88 (a ∷ b ∷ []) && is_ascii_hexdigit c) || ((has_base 111 79 (a ∷ b ∷ []) && is_octal_digit c) || (has_base 98 66 (a ∷ b ∷ []) && is_binary_digit c))
+
+pub no_based_digit : (text : Text) → is_based_digit (get_or text 0 0) (get_or text 1 0) (get_or text 2 0) ≡ false → longest_front (class_in based) text ≡ None
+no_based_digit text h =
+    let one = or_false _ _ h in
+    let two = or_false _ _ one.1 in
+    no_based_digits text (stops 120 88 is_ascii_hexdigit text one.0) (stops 111 79 is_octal_digit text two.0) (stops 98 66 is_binary_digit text two.1)
   where
-    ended : (text : Text) (test : ℕ → Bool) → slice_get text 2 ≡ None → prefix_len test (drop 2 text) ≡ 0
-    ended [] test e = refl
-    ended (b ∷ []) test e = refl
-    ended (b ∷ l ∷ []) test e = refl
-    ended (b ∷ l ∷ d ∷ rest) test e = cc
+    or_false : (x y : Bool) → (x || y) ≡ false → (x ≡ false) × (y ≡ false)
+    or_false true y h = cc
+    or_false false y h = (refl, h)
 
--- the base isn't at the start, or the third byte is no digit of it
-abbrev pub LacksDigit : ℕ → ℕ → (ℕ → Bool) → Text → ℕ → Type 0
-LacksDigit lower upper test text third = (has_base lower upper text && test third) ≡ false
-
-pub lacks_base : (base digit : Bool) → base ≡ false → (base && digit) ≡ false
-lacks_base base digit e = rw e refl
-
-pub lacks_digit : (base digit : Bool) → digit ≡ false → (base && digit) ≡ false
-lacks_digit true digit e = e
-lacks_digit false digit e = refl
-
-pub other_third_byte : (text : Text) (third : ℕ) → slice_get text 2 ≡ Some third → LacksDigit 120 88 is_ascii_hexdigit text third → LacksDigit 111 79 is_octal_digit text third
-    → LacksDigit 98 66 is_binary_digit text third → longest_front (class_in based) text ≡ None
-other_third_byte text third e hexadecimal octal binary =
-    no_based_digits text (λ h. stops text is_ascii_hexdigit e (no_digit _ _ hexadecimal h)) (λ h. stops text is_octal_digit e (no_digit _ _ octal h)) (λ h. stops text is_binary_digit e (no_digit _ _ binary h))
-  where
     no_digit : (base digit : Bool) → (base && digit) ≡ false → base ≡ true → digit ≡ false
     no_digit true digit h e = h
     no_digit false digit h e = cc
 
-    stops : (text : Text) (test : ℕ → Bool) → slice_get text 2 ≡ Some third → test third ≡ false → prefix_len test (drop 2 text) ≡ 0
-    stops [] test e h = cc
-    stops (b ∷ []) test e h = cc
-    stops (b ∷ l ∷ []) test e h = cc
-    stops (b ∷ l ∷ d ∷ rest) test e h =
-        let same : d ≡ third = cc in
-        rw (same, h) refl
+    stops : (lower upper : ℕ) (test : ℕ → Bool) (text : Text) → (has_base lower upper (get_or text 0 0 ∷ get_or text 1 0 ∷ []) && test (get_or text 2 0)) ≡ false → has_base lower upper text ≡ true → prefix_len test (drop 2 text) ≡ 0
+    stops lower upper test [] h e = refl
+    stops lower upper test (b ∷ []) h e = refl
+    stops lower upper test (b ∷ l ∷ []) h e = refl
+    stops lower upper test (b ∷ l ∷ d ∷ rest) h e = rw (no_digit _ _ h e) refl
 
--- the class and the length of the code's word
-pub if_based_word : (class : Class) (n : ℕ) → option_map word_view (if n == 0 then None else Some (record { class = class; len = n + 2 })) ≡ if_based class n
-if_based_word class zero = refl
-if_based_word class (suc n) = rw eqb-suc-zero refl
+-- the digits after a base whose first digit is one
+pub based_digits : (class : Class) (test : ℕ → Bool) (text : Text) (n : ℕ) → n ≡ prefix_len test (drop 2 text) → test 0 ≡ false → test (get_or text 2 0) ≡ true → Some (class, 2 + n) ≡ if_based class n
+based_digits class test [] n e none digit = absurd (both_ways _ none digit)
+based_digits class test (a ∷ []) n e none digit = absurd (both_ways _ none digit)
+based_digits class test (a ∷ b ∷ []) n e none digit = absurd (both_ways _ none digit)
+based_digits class test (a ∷ b ∷ c ∷ rest) zero e none digit = let some : 0 ≡ 1 + prefix_len test rest = e ∙ rw digit refl in absurd (omega (arith, some))
+based_digits class test (a ∷ b ∷ c ∷ rest) (suc n) e none digit = ap (λ m. Some (class, m)) (omega arith)
 
 -- a digit after which no number goes on
 
@@ -545,6 +533,10 @@ other_ends_digit c small h = go (may_be_in_number c) h (each_byte (λ c. may_be_
     go : (inside : Bool) → inside ≡ false → (inside || ends_digit c) ≡ true → ends_digit c ≡ true
     go true e all = cc
     go false e all = all
+
+lacks_digit : (base digit : Bool) → digit ≡ false → (base && digit) ≡ false
+lacks_digit true digit e = e
+lacks_digit false digit e = refl
 
 pub front_of_digit : (text : Text) → ((b : ℕ) (rest : Text) → text ≡ b ∷ rest → b < 256) → ((b c : ℕ) (rest : Text) → text ≡ b ∷ c ∷ rest → c < 256) → is_digit_alone text ≡ true → language_front text ≡ Some (Decimal, 1)
 front_of_digit [] small next h = cc

@@ -1,13 +1,14 @@
 -- Words, and the tables and tests by which the scanner finds them.
-use Rattle.std.specs.Prelude.{ℕ, Bool, true, false, not, ◌&&◌, ◌||◌, ◌==◌, List, [], ◌∷◌, ◌++◌, get_or, Option, None, Some, unwrap_or}
-use Rattle.std.specs.List.{list_any}
+use Rattle.std.specs.Prelude.{ℕ, Bool, true, false, not, ◌&&◌, ◌||◌, ◌==◌, if◌then◌else◌, List, [], ◌∷◌, ◌++◌, Option, None, Some, codes, unwrap_or}
 use Rattle.std.specs.Map.{lookup}
 use Rattle.std.specs.Str.{bytes_eq}
 use Rattle.std.specs.Char.{is_ascii_digit}
+use Rattle.starlark_grammar.specs.Front.{longest_front}
 use Rattle.starlark_grammar.specs.Words as grammar
 use Rattle.starlark_grammar.specs.declared.class.Class.{Class}
-use Rattle.starlark_grammar.specs.declared.class.TheConstants.{SYMBOLS}
-use Rattle.starlark_grammar.specs.declared.class.Class.TheVariants.{Binary, Decimal, Fixed, Float, Hexadecimal, Identifier, Octal, Reserved}
+use Rattle.starlark_grammar.specs.declared.class.Class.TheVariants.{Binary, Comment, Decimal, Fixed, Float, Hexadecimal, Identifier, Octal, Opener, Reserved, Skipped, Tabs}
+use Rattle.starlark_grammar.specs.declared.class.LiteralKind.TheVariants.{Text as OfText}
+use Rattle.starlark_grammar.specs.declared.class.Quote.TheVariants.{Single as SingleQuote, Double as DoubleQuote}
 use Rattle.starlark_words.specs.declared.scanner.names.Listing.{Listing}
 use Rattle.starlark_words.specs.declared.scanner.names.Listing.TheVariants.{Keyword, Not, Reserved as OfReserved}
 use Rattle.starlark_words.specs.declared.scanner.word.Word.{Word}
@@ -21,13 +22,26 @@ abbrev pub word_len : Option Word → ℕ
 word_len None = 0
 word_len (Some word) = word.len
 
--- line ends, escaped or not, and symbols
-abbrev pub marks : grammar.Table
-marks = grammar.listed grammar.line_ends ++ grammar.listed grammar.symbols
+-- the quotes that open a text literal without a prefix
+abbrev pub quotes : List (grammar.Text × Class)
+quotes = (codes "'", Opener OfText false SingleQuote) ∷ (codes "\"", Opener OfText false DoubleQuote) ∷ []
 
--- a single or a double quote
-abbrev pub is_quote : ℕ → Bool
-is_quote b = b == 39 || b == 34
+-- quotes, line ends, escaped or not, and symbols
+unfoldable pub marks : List (grammar.Text × Class)
+marks = quotes ++ (grammar.line_ends ++ grammar.symbols)
+
+-- the class of a mark
+abbrev pub mark_of : grammar.Text → Option Class
+mark_of word = lookup (bytes_eq word) marks
+
+-- the text begins with a point and a digit
+abbrev pub begins_fraction : grammar.Text → Bool
+begins_fraction (a ∷ b ∷ rest) = a == 46 && is_ascii_digit b
+begins_fraction text = false
+
+-- the longest mark at the front of a text; where a point begins a number there is none
+abbrev pub mark_front : grammar.Text → Option (Class × ℕ)
+mark_front text = if begins_fraction text then None else longest_front mark_of text
 
 -- the class of an entry in the table of keywords and reserved words
 abbrev pub listing_view : Listing → Class
@@ -35,49 +49,9 @@ listing_view (Keyword terminal) = Fixed terminal
 listing_view OfReserved = Reserved
 listing_view Not = Identifier
 
--- the class of a name by some keywords and reserved words
-abbrev pub class_by_rows : List (grammar.Text × Class) → grammar.Text → Class
-class_by_rows rows name = unwrap_or (lookup (bytes_eq name) rows) Identifier
-
--- a word of some rows has this byte at an offset
-abbrev pub has_byte_at : ℕ → ℕ → List (grammar.Text × Class) → Bool
-has_byte_at offset b rows = list_any (λ row. get_or row.0 offset 0 == b) rows
-
--- a symbol of one byte; the first byte of a longer symbol
-abbrev pub is_short_symbol : ℕ → Bool
-is_short_symbol b = has_byte_at 0 b SYMBOLS.0
-
-abbrev pub begins_longer : ℕ → Bool
-begins_longer b = has_byte_at 0 b SYMBOLS.1 || has_byte_at 0 b SYMBOLS.2
-
--- a mark of one byte that begins no longer one
-abbrev pub is_lone_mark : ℕ → Bool
-is_lone_mark b = b == 10 || (is_short_symbol b && not (begins_longer b))
-
--- a byte that is a symbol and begins longer ones
-abbrev pub is_symbol : ℕ → Bool
-is_symbol b = is_short_symbol b && begins_longer b
-
--- a symbol may go on with the byte after it; only a point goes on with a point or a digit
-abbrev pub goes_on : ℕ → ℕ → Bool
-goes_on b c = has_byte_at 1 c SYMBOLS.1 || (b == 46 && (c == 46 || is_ascii_digit c))
-
--- the first byte is a mark that the next byte doesn't extend
-abbrev pub is_mark_alone : grammar.Text → Bool
-is_mark_alone [] = false
-is_mark_alone (b ∷ []) = is_lone_mark b
-is_mark_alone (b ∷ c ∷ rest) = is_lone_mark b || (is_symbol b && not (goes_on b c))
-
--- the text begins with a CR and an LF
-abbrev pub begins_cr_lf : grammar.Text → Bool
-begins_cr_lf (a ∷ b ∷ rest) = a == 13 && b == 10
-begins_cr_lf text = false
-
--- the text begins with `!=`, or with a symbol that begins longer ones and is no point
-abbrev pub begins_symbol : grammar.Text → Bool
-begins_symbol [] = false
-begins_symbol (a ∷ []) = is_symbol a && not (a == 46)
-begins_symbol (a ∷ b ∷ rest) = (a == 33 && b == 61) || (is_symbol a && not (a == 46))
+-- the class of a name
+abbrev pub class_of_name : grammar.Text → Class
+class_of_name name = unwrap_or (lookup (bytes_eq name) grammar.names) Identifier
 
 -- the text begins with a digit, or with a point and a digit
 abbrev pub begins_number : grammar.Text → Bool
@@ -93,6 +67,25 @@ is_number Octal = true
 is_number Binary = true
 is_number Float = true
 is_number class = false
+
+-- whether words of a class are gaps, tabs or comments
+abbrev pub is_trivia : Class → Bool
+is_trivia Skipped = true
+is_trivia Tabs = true
+is_trivia Comment = true
+is_trivia class = false
+
+-- whether the first two bytes tell words of a class: names, symbols, line ends and openers
+abbrev pub is_common : Class → Bool
+is_common class = not (is_number class || is_trivia class)
+
+abbrev pub is_common_front : Option (Class × ℕ) → Bool
+is_common_front None = false
+is_common_front (Some front) = is_common front.0
+
+-- a symbol, a line end or a quote is at the front of the text
+abbrev pub begins_mark : grammar.Text → Bool
+begins_mark text = is_common_front (mark_front text)
 
 -- a byte that may be part of a number
 abbrev pub may_be_in_number : ℕ → Bool

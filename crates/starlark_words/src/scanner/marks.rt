@@ -1,150 +1,59 @@
-//! Marks: symbols, line ends and escaped line ends, which are words of one to three bytes.
+//! Marks: quotes, symbols, and line ends, escaped or not, which are words of one to three bytes.
 
-ghost use Rattle.std.specs.Prelude.{◌≡◌, ◌≤◌, ◌∷◌, []};
+ghost use Rattle.std.specs.Prelude.{◌≡◌, ◌≤◌, ◌∷◌, [], IfSome, false};
 ghost use Rattle.std.specs.Option.{option_map};
-ghost use Rattle.starlark_grammar.specs.Front.{longest_front};
-ghost use Rattle.starlark_words.specs.Inner.ScannedWords.{begins_cr_lf, begins_symbol, is_mark_alone, marks, word_len, word_view};
-ghost use Rattle.starlark_grammar.specs.Words.{class_in};
+ghost use Rattle.starlark_words.specs.Inner.ScannedWords.{mark_front, word_len, word_view};
+ghost use Rattle.starlark_grammar.specs.declared.class.Class.TheVariants as class;
+ghost use Rattle.starlark_grammar.specs.declared.class.LiteralKind.TheVariants as kind;
 
-use super::first::{goes_on, is_lone_mark, is_symbol};
-use super::{Class, Terminal, Word};
+use super::{Class, LiteralKind, Quote, Terminal, Word};
 use starlark_grammar::terminals;
 
-/// The symbol of a length that some bytes are.
-macro_rules! symbol_of {
-    ((1, $of:expr) symbols { 1 $rows:tt $($more:tt)* } names $names:tt) => {
-        symbol_among!($rows $of)
-    };
-    ((2, $of:expr) symbols { 1 $one:tt 2 $rows:tt $($more:tt)* } names $names:tt) => {
-        symbol_among!($rows $of)
-    };
-    ((3, $of:expr) symbols { 1 $one:tt 2 $two:tt 3 $rows:tt } names $names:tt) => {
-        symbol_among!($rows $of)
-    };
-}
-
-/// The symbol of some rows that some bytes are.
-// Not a `Class`: the compiler would drop the hints that inline the lexer's step for its length.
-macro_rules! symbol_among {
-    ({ $([$($byte:literal),+] $text:literal $symbol:ident,)* } $of:expr) => {
-        match $of {
-            $(($($byte),+) => Some(Terminal::$symbol),)*
-            _ => None,
+/// A `match` of three bytes on the marks, longer ones first.
+macro_rules! longest_mark {
+    (($first:ident, $second:ident, $third:ident) symbols {
+        1 { $([$lone:literal] $lone_text:literal $symbol:ident,)* }
+        2 { $([$a:literal, $b:literal] $double_text:literal $double:ident,)* }
+        3 { $([$x:literal, $y:literal, $z:literal] $triple_text:literal $triple:ident,)* }
+    } names $names:tt) => {
+        match ($first, $second, $third) {
+            $(($x, $y, $z) => (Class::Fixed(Terminal::$triple), 3),)*
+            (b'\\', b'\r', b'\n') => (Class::Skipped, 3),
+            $(($a, $b, _) => (Class::Fixed(Terminal::$double), 2),)*
+            (b'\r', b'\n', _) => (Class::LineEnd, 2),
+            (b'\\', b'\n', _) => (Class::Skipped, 2),
+            (b'.', b'0'..=b'9', _) => return None,
+            $(($lone, _, _) => (Class::Fixed(Terminal::$symbol), 1),)*
+            (b'\n', _, _) => (Class::LineEnd, 1),
+            (b'\'', _, _) => (quote(Quote::Single), 1),
+            (b'"', _, _) => (quote(Quote::Double), 1),
+            _ => return None,
         }
     };
 }
 
-/// Whether the first byte of a text is a mark that the next byte doesn't extend.
+/// A quote that opens a text literal.
 #[inline(always)]
-pub(crate) fn is_mark_alone(text: &[u8]) -> bool
-    ensures { result ≡ is_mark_alone text.now }
+fn quote(quote: Quote) -> Class
+    ensures { result ≡ class.Opener kind.Text false quote }
 {
-    let Some(first) = text.first() else {
-        return false;
-    };
-    if is_lone_mark(*first) {
-        return true;
-    }
-    match text.get(1) {
-        Some(next) => is_symbol(*first) && !goes_on(*first, *next),
-        None => false,
+    Class::Opener {
+        kind: LiteralKind::Text,
+        is_raw: false,
+        quote,
     }
 }
 
-/// The class of a mark of one byte.
-#[tactic(auto, unfolding(starlark_grammar::specs::Words::class_in, starlark_grammar::specs::Words::line_ends, starlark_grammar::specs::Words::symbols))]
+/// The longest mark at the front of a text, by its first three bytes, which are 0 after its end.
+/// `None` if there is none, as where a point begins a number.
+#[tactic(auto, unfolding(starlark_grammar::specs::Front::longest_front, starlark_grammar::specs::Words::line_ends, starlark_grammar::specs::Words::symbols, crate::specs::Inner::ScannedWords::marks))]
 #[inline(always)]
-fn single(byte: u8) -> Option<Class>
-    ensures { result ≡ class_in marks (byte ∷ []) }
-{
-    match terminals!(symbol_of!(1, byte)) {
-        Some(symbol) => Some(Class::Fixed(symbol)),
-        None if byte == b'\n' => Some(Class::LineEnd),
-        None => None,
-    }
-}
-
-/// The class of a mark of two bytes.
-#[tactic(auto, unfolding(starlark_grammar::specs::Words::class_in, starlark_grammar::specs::Words::line_ends, starlark_grammar::specs::Words::symbols))]
-#[inline(always)]
-fn double(first: u8, second: u8) -> Option<Class>
-    ensures { result ≡ class_in marks (first ∷ second ∷ []) }
-{
-    match (terminals!(symbol_of!(2, (first, second))), first, second) {
-        (Some(symbol), _, _) => Some(Class::Fixed(symbol)),
-        (None, b'\r', b'\n') => Some(Class::LineEnd),
-        (None, b'\\', b'\n') => Some(Class::Skipped),
-        (None, _, _) => None,
-    }
-}
-
-/// The class of a mark of three bytes.
-#[tactic(auto, unfolding(starlark_grammar::specs::Words::class_in, starlark_grammar::specs::Words::line_ends, starlark_grammar::specs::Words::symbols))]
-#[inline(always)]
-fn triple(first: u8, second: u8, third: u8) -> Option<Class>
-    ensures { result ≡ class_in marks (first ∷ second ∷ third ∷ []) }
-{
-    match (
-        terminals!(symbol_of!(3, (first, second, third))),
-        first,
-        second,
-        third,
-    ) {
-        (Some(symbol), _, _, _) => Some(Class::Fixed(symbol)),
-        (None, b'\\', b'\r', b'\n') => Some(Class::Skipped),
-        (None, _, _, _) => None,
-    }
-}
-
-/// Whether a text begins with a CR and an LF.
-#[inline(always)]
-pub(crate) fn begins_cr_lf(text: &[u8]) -> bool
-    ensures { result ≡ begins_cr_lf text.now }
-{
-    matches!(text, [b'\r', b'\n', ..])
-}
-
-/// Whether a text begins with `!=`, or with a symbol that begins longer ones and is no point.
-#[inline(always)]
-pub(crate) fn begins_symbol(text: &[u8]) -> bool
-    ensures { result ≡ begins_symbol text.now }
-{
-    match text {
-        [b'!', b'=', ..] => true,
-        [first, ..] => is_symbol(*first) && *first != b'.',
-        [] => false,
-    }
-}
-
-/// The mark of one byte, as a word.
-#[inline(always)]
-pub(crate) fn longest_of_one(first: u8) -> Option<Word>
-    ensures word { option_map word_view result ≡ longest_front (class_in marks) (first ∷ []) }
-    ensures len { word_len result ≤ 1 }
-{
-    match single(first) {
-        Some(class) => Some(Word { class, len: 1 }),
-        None => None,
-    }
-}
-
-/// The longest mark at the front of a text; `None` if there is none.
-// Inlined: a result in memory costs each lexeme of a mix 8 %. Each table stands in it once, since the
-// compiler drops the hint from a caller that would grow very large.
-#[inline(always)]
-pub(crate) fn mark_from(text: &[u8]) -> Option<Word>
-    ensures word { option_map word_view result ≡ longest_front (class_in marks) text.now }
+pub(crate) fn mark(first: u8, second: u8, third: u8) -> Option<Word>
+    ensures word { option_map word_view result ≡ mark_front (first ∷ second ∷ third ∷ []) }
+    ensures some { IfSome result (λ word. 1 ≤ word.len) }
     ensures len { word_len result ≤ 3 }
+    ensures two { third ≡ 0 → word_len result ≤ 2 }
 {
-    if let [first, second, third, ..] = text {
-        if let Some(class) = triple(*first, *second, *third) {
-            return Some(Word { class, len: 3 });
-        }
-    }
-    if let [first, second, ..] = text {
-        if let Some(class) = double(*first, *second) {
-            return Some(Word { class, len: 2 });
-        }
-    }
-    longest_of_one(*text.first()?)
+    let (class, len) = terminals!(longest_mark!(first, second, third));
+    Some(Word { class, len })
 }

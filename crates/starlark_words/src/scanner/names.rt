@@ -1,22 +1,20 @@
 //! Words that begin with a letter or `_`: keywords, reserved words, identifiers, and openers with a
 //! prefix.
 
-ghost use Rattle.std.specs.Prelude.{◌≡◌, ◌≤◌, ◌<◌, ◌+◌, ◌-◌, ◌*◌, ◌^◌, ◌++◌, IfSome, None, Some, false, get_or, length, nat_eq, take, true, unwrap_or};
+ghost use Rattle.std.specs.Prelude.{◌≡◌, ◌<◌, ◌+◌, ◌-◌, ◌*◌, ◌^◌, ◌++◌, ◌∷◌, [], IfSome, None, Some, false, length, take, true};
 ghost use Rattle.std.specs.List.{prefix_len};
 ghost use Rattle.std.specs.Map.{lookup};
-ghost use Rattle.std.specs.Option.{option_map};
 ghost use Rattle.std.specs.Str.{bytes_eq};
 ghost use Rattle.starlark_grammar.specs.Front.{language_front};
 ghost use Rattle.starlark_words.specs.Inner.Reads.{AreReads};
-ghost use Rattle.starlark_words.specs.Inner.ScannedWords.{class_by_rows, is_quote, listing_view, word_view};
+ghost use Rattle.starlark_words.specs.Inner.ScannedWords.{class_of_name, listing_view, word_view};
+ghost use Rattle.starlark_grammar.specs.Items.{quote_byte};
 ghost use Rattle.starlark_grammar.specs.Words as grammar;
-ghost use Rattle.starlark_grammar.specs.declared.class.TheConstants.{NAMES};
 ghost use Rattle.starlark_grammar.specs.declared.class.Class.TheVariants as class;
 
-use super::openers::opener_class;
-use super::{Class, Terminal, Word};
+use super::{Class, LiteralKind, Quote, Terminal, Word};
 use crate::names::name_len;
-use crate::reads::ReadCounter;
+use crate::reads::{ReadCounter, byte_at};
 use starlark_grammar::terminals;
 
 /// Entry of a name in the table of keywords and reserved words.
@@ -73,107 +71,37 @@ fn may_be_listed(name: &[u8]) -> bool
     }
 }
 
-/// A `match` of a name on the keywords and reserved words of a length.
-macro_rules! match_name {
-    ((2, $name:ident) symbols $symbols:tt names { 2 $rows:tt $($more:tt)* }) => {
-        listing_among!($name $rows)
-    };
-    ((3, $name:ident) symbols $symbols:tt names { 2 $two:tt 3 $rows:tt $($more:tt)* }) => {
-        listing_among!($name $rows)
-    };
-    ((4, $name:ident) symbols $symbols:tt names { 2 $two:tt 3 $three:tt 4 $rows:tt $($more:tt)* }) => {
-        listing_among!($name $rows)
-    };
-    ((5, $name:ident) symbols $symbols:tt names { 2 $two:tt 3 $three:tt 4 $four:tt 5 $rows:tt $($more:tt)* }) => {
-        listing_among!($name $rows)
-    };
-    ((6, $name:ident) symbols $symbols:tt names { 2 $two:tt 3 $three:tt 4 $four:tt 5 $five:tt 6 $rows:tt $($more:tt)* }) => {
-        listing_among!($name $rows)
-    };
-    ((7.., $name:ident) symbols $symbols:tt names { 2 $two:tt 3 $three:tt 4 $four:tt 5 $five:tt 6 $six:tt 7 $seven:tt 8 $eight:tt }) => {
-        listing_among!($name $seven $eight)
-    };
-}
-
-/// A `match` of a name on some keywords and reserved words.
-macro_rules! listing_among {
-    ($name:ident $({
+/// A `match` of a name on the keywords and reserved words.
+macro_rules! listing_in {
+    (($name:ident) symbols $symbols:tt names { $($len:literal {
         $($bytes:literal $text:literal $keyword:ident,)*;
         $($reserved:literal $word:literal),*
-    })*) => {
+    })* }) => {
         match $name {
             $(
-                $($text => Listing::Keyword(Terminal::$keyword),)*
-                $($word => Listing::Reserved,)*
+                $($bytes => Listing::Keyword(Terminal::$keyword),)*
+                $($reserved => Listing::Reserved,)*
             )*
             _ => Listing::Not,
         }
     };
 }
 
-/// Entry of a name of two letters.
-fn two_letters(name: &str) -> Listing
-    ensures { listing_view result ≡ class_by_rows NAMES.0 name.now }
-{
-    terminals!(match_name!(2, name))
-}
-
-/// Entry of a name of three letters.
-fn three_letters(name: &str) -> Listing
-    ensures { listing_view result ≡ class_by_rows NAMES.1 name.now }
-{
-    terminals!(match_name!(3, name))
-}
-
-/// Entry of a name of four letters.
-fn four_letters(name: &str) -> Listing
-    ensures { listing_view result ≡ class_by_rows NAMES.2 name.now }
-{
-    terminals!(match_name!(4, name))
-}
-
-/// Entry of a name of five letters.
-fn five_letters(name: &str) -> Listing
-    ensures { listing_view result ≡ class_by_rows NAMES.3 name.now }
-{
-    terminals!(match_name!(5, name))
-}
-
-/// Entry of a name of six letters.
-fn six_letters(name: &str) -> Listing
-    ensures { listing_view result ≡ class_by_rows NAMES.4 name.now }
-{
-    terminals!(match_name!(6, name))
-}
-
-/// Entry of a name of one letter, or of seven or more.
-fn more_letters(name: &str) -> Listing
-    ensures { listing_view result ≡ class_by_rows (NAMES.5 ++ NAMES.6) name.now }
-{
-    terminals!(match_name!(7.., name))
-}
-
-/// Entry of a name: it is compared with the words of its length, frequent ones first.
+/// Entry of a name in the table of keywords and reserved words.
+#[tactic(auto, unfolding(starlark_grammar::specs::Words::names))]
 #[inline(never)]
-fn listing_of(name: &str) -> Listing
-    ensures { listing_view result ≡ class_by_rows grammar.names name.now }
+fn listing_of(name: &[u8]) -> Listing
+    ensures { listing_view result ≡ class_of_name name.now }
 {
-    match name.len() {
-        2 => two_letters(name),
-        3 => three_letters(name),
-        4 => four_letters(name),
-        5 => five_letters(name),
-        6 => six_letters(name),
-        _ => more_letters(name),
-    }
+    terminals!(listing_in!(name))
 }
 
 /// The class of a name. For most names the first letter and the length show that it is no keyword.
 #[inline(always)]
-fn name_class(name: &str) -> Class
-    ensures { result ≡ class_by_rows grammar.names name.now }
+fn name_class(name: &[u8]) -> Class
+    ensures { result ≡ class_of_name name.now }
 {
-    if !may_be_listed(name.as_bytes()) {
+    if !may_be_listed(name) {
         return Class::Identifier;
     }
     match listing_of(name) {
@@ -183,18 +111,33 @@ fn name_class(name: &str) -> Class
     }
 }
 
-/// Whether the byte at an offset of a text is a quote.
-#[inline(always)]
-fn is_quote_at(text: &[u8], at: usize) -> bool
-    ensures { result ≡ is_quote (get_or text.now at 0) }
+/// The opener of a literal with a prefix; `None` if the name is no prefix.
+#[tactic(auto, unfolding(starlark_grammar::specs::Words::openers))]
+#[inline(never)]
+fn opener_class(prefix: &[u8], quote: Quote) -> Option<Class>
+    requires { 0 < length prefix.now }
+    ensures { result ≡ lookup (bytes_eq (prefix.now ++ quote_byte quote ∷ [])) grammar.openers }
 {
-    matches!(text.get(at), Some(b'\'' | b'"'))
+    let (kind, is_raw) = match prefix {
+        [b'r'] => (LiteralKind::Text, true),
+        [b'f'] => (LiteralKind::FString, false),
+        [b'b'] => (LiteralKind::Bytes, false),
+        [b'f', b'r'] | [b'r', b'f'] => (LiteralKind::FString, true),
+        [b'b', b'r'] | [b'r', b'b'] => (LiteralKind::Bytes, true),
+        _ => return None,
+    };
+    Some(Class::Opener {
+        kind,
+        is_raw,
+        quote,
+    })
 }
 
 /// Opener at the front of a text that begins with a name of `len` bytes: that name as a prefix, and
 /// the next byte as its quote.
 #[inline(always)]
-fn prefixed_opener(text: &str, len: usize) -> Option<Class>
+fn prefixed_opener(text: &[u8], len: usize) -> Option<Class>
+    requires begins { grammar.begins grammar.is_name_start text.now ≡ true }
     requires len { len ≡ prefix_len grammar.is_in_name text.now }
     ensures opener { result ≡ lookup (bytes_eq (take (len + 1) text.now)) grammar.openers }
     ensures within { IfSome result (λ class. len < length text.now) }
@@ -202,10 +145,12 @@ fn prefixed_opener(text: &str, len: usize) -> Option<Class>
     if len > PREFIX_LEN {
         return None;
     }
-    if !is_quote_at(text.as_bytes(), len) {
-        return None;
-    }
-    opener_class(&text[..len + 1])
+    let quote = match byte_at(text, len) {
+        b'\'' => Quote::Single,
+        b'"' => Quote::Double,
+        _ => return None,
+    };
+    opener_class(&text[..len], quote)
 }
 
 /// The longest word at the front of a text that begins with a letter or `_`. Counts `passed` reads
@@ -217,15 +162,15 @@ pub(crate) fn name_from(reads: &mut ReadCounter, passed: usize, text: &str) -> W
     ensures word { Some (word_view result) ≡ language_front text.now }
     ensures reads { AreReads (passed + (result.len - 1)) (passed + (5 * result.len - 4)) reads.old reads.new }
 {
-    let more = name_len(reads, passed, &text.as_bytes()[1..]);
-    let len = 1 + more;
-    match prefixed_opener(text, len) {
+    let bytes = text.as_bytes();
+    let len = 1 + name_len(reads, passed, &bytes[1..]);
+    match prefixed_opener(bytes, len) {
         Some(class) => Word {
             class,
             len: len + 1,
         },
         None => Word {
-            class: name_class(&text[..len]),
+            class: name_class(&bytes[..len]),
             len,
         },
     }

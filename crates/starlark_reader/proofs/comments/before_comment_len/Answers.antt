@@ -1,5 +1,5 @@
 use Rattle.std.proofs.Common.{arith}
-use Rattle.starlark_reader.proofs.TakenMargins.CommentBlanks.{blank_before, blanks_end}
+use Rattle.starlark_reader.proofs.TakenMargins.MarginLines.{blank_before, blanks_end}
 use Rattle.starlark_reader.proofs.comments.before_comment_len.Goals as goal
 
 pub loop-len-preserved : goal.loop-len-preserved

@@ -1,5 +1,5 @@
 use Rattle.std.proofs.Common.{◌∙◌, sym, refl, take}
-use Rattle.starlark_reader.proofs.TakenMargins.CommentLines.{part_end}
+use Rattle.starlark_reader.proofs.TakenMargins.Pending.{part_end}
 use Rattle.starlark_reader.proofs.comments.comment_end.Goals as goal
 
 pub returns-then-ends_with_return : goal.returns-then-ends_with_return

@@ -1,10 +1,8 @@
 use Rattle.std.proofs.Common.{◌+◌, ◌-◌, ap, arith, drop, rules, subst, sym, take}
 use Rattle.std.specs.Str.{IsCharBoundary}
 use Rattle.std.proofs.lemmas.List.{take_rest}
-use Rattle.starlark_reader.proofs.TakenMargins.CommentBlanks.{begins_here}
-use Rattle.starlark_reader.proofs.TakenMargins.CommentLines.{comment_begin, comment_found, comment_value, part_before_feed}
-use Rattle.starlark_reader.proofs.TakenMargins.MarginLines.{feed_measured}
-use Rattle.starlark_reader.proofs.TakenMargins.Pending.{IsMeasured, measured}
+use Rattle.starlark_reader.proofs.TakenMargins.MarginLines.{begins_here, feed_measured}
+use Rattle.starlark_reader.proofs.TakenMargins.Pending.{comment_begin, comment_found, comment_value, part_before_feed, IsMeasured, measured}
 use Rattle.starlark_reader.proofs.comments.first_comment.Goals as goal
 use Rattle.starlark_reader.proofs.comments.first_comment.Goals.{After-comment_end}
 
@@ -27,9 +25,7 @@ first c =
     (rw bytes at c.before_comment_len-blanks.ensures.value) (rw bytes at c.comment_end.ensures.value)
 
 pub overflow_add-end : goal.overflow_add-end
-overflow_add-end c =
-    let inside = (first c).part_inside in
-    search (rules, inside)
+overflow_add-end c = search (rules, (first c).part_inside)
 
 pub returns-clause-comment : goal.returns-clause-comment
 returns-clause-comment c =
@@ -53,9 +49,8 @@ returns-clause-comment c =
 
 pub returns-clause-reads : goal.returns-clause-reads
 returns-clause-reads c =
-    let line = first c in
     let feed = feed_measured _ _ _ _ c.before_comment_len-blanks.ensures.value (take_rest _ c.before_comment_len-blanks.result) c.before_lf_len.ensures.value in
     let some = part_before_feed (take (c.args.to - c.args.from) (drop c.args.from c.as_bytes.result.now)) in (
       omega (arith, c.before_lf_len.ensures.reads.0),
-      omega (arith, feed, some, line.order, c.comment_end.ensures.value, c.before_lf_len.ensures.reads.1, c.line_len-len.ensures.value),
+      omega (arith, feed, some, (first c).order, c.comment_end.ensures.value, c.before_lf_len.ensures.reads.1, c.line_len-len.ensures.value),
     )

@@ -11,10 +11,9 @@ pub loop-byte-preserved : goal.loop-byte-preserved
 loop-byte-preserved c =
     let old : Blanks = record { len = c.loop-byte.len; width = c.loop-byte.width; has_tab = c.loop-byte.has_tab } in
     let new : Blanks = record { len = c.loop-byte.len + 1; width = c.match-byte.width; has_tab = c.match-byte.has_tab } in
-    let less = c.in-Some.ensures.lookup.3.0 in
     let here = c.in-Some.ensures.lookup.3.1 0 in
     elim c.match-byte.branch [
-      | in-32 w ↦ one_passed c.args.text.now old new 32 c.loop-byte.invariant less (sym w.in-32.is ∙ here) refl refl w.width-is w.has_tab-is
-      | in-9 w ↦ one_passed c.args.text.now old new 9 c.loop-byte.invariant less (sym w.in-9.is ∙ here) refl refl (omega (arith, w.width-is)) w.has_tab-is
-      | in-13 w ↦ one_passed c.args.text.now old new 13 c.loop-byte.invariant less (sym w.in-13.is ∙ here) refl refl (omega (arith, w.width-is)) w.has_tab-is
+      | in-32 w ↦ one_passed c.args.text.now old new 32 c.loop-byte.invariant c.in-Some.ensures.lookup.3.0 (sym w.in-32.is ∙ here) refl refl w.width-is w.has_tab-is
+      | in-9 w ↦ one_passed c.args.text.now old new 9 c.loop-byte.invariant c.in-Some.ensures.lookup.3.0 (sym w.in-9.is ∙ here) refl refl (omega (arith, w.width-is)) w.has_tab-is
+      | in-13 w ↦ one_passed c.args.text.now old new 13 c.loop-byte.invariant c.in-Some.ensures.lookup.3.0 (sym w.in-13.is ∙ here) refl refl (omega (arith, w.width-is)) w.has_tab-is
     ]

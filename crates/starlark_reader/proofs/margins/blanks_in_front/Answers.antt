@@ -1,4 +1,4 @@
-use Rattle.std.proofs.Common.{◌≡◌, ◌∙◌, ℕ, false, get_or, sym, arith}
+use Rattle.std.proofs.Common.{◌≡◌, ◌∙◌, ℕ, false, sym, arith}
 use Rattle.std.proofs.lemmas.Bool.{eq-eqb, false≢true}
 use Rattle.std.specs.Prelude.{◌==◌}
 use Rattle.starlark_reader.proofs.TakenMargins.Blanks.{only_spaces}
@@ -14,11 +14,9 @@ returns-clause-value c =
     elim c.else-spaces-text.branch [
       | else-spaces-text-via-then-spaces-text+else-text-spaces-eq13 w ↦ elim w.if-text-spaces-eq9.branch [
         | then-text-spaces-eq9 v ↦
-            let no_tab : (get_or c.args.text.now spaces.result 0 == 9) ≡ false = sym v.value-is ∙ w.if-text-spaces-eq13.false in
-            absurd (unequal _ 9 no_tab v.if-text-spaces-eq9.true)
+            absurd (unequal _ 9 (sym v.value-is ∙ w.if-text-spaces-eq13.false) v.if-text-spaces-eq9.true)
         | else-text-spaces-eq9 v ↦
-            let no_return : (get_or c.args.text.now spaces.result 0 == 13) ≡ false = sym v.value-is ∙ w.if-text-spaces-eq13.false in
-            only_spaces c.args.text.now spaces.result spaces.ensures.value (λ less tab. omega (arith, tab, v.if-text-spaces-eq9.false)) (λ less return. unequal _ 13 no_return return)
+            only_spaces c.args.text.now spaces.result spaces.ensures.value (λ less tab. omega (arith, tab, v.if-text-spaces-eq9.false)) (λ less return. unequal _ 13 (sym v.value-is ∙ w.if-text-spaces-eq13.false) return)
       ]
       | else-spaces-text-via-else-spaces-text w ↦ only_spaces c.args.text.now spaces.result spaces.ensures.value (λ less tab. omega (arith, less, w.if-spaces-text.false)) (λ less return. omega (arith, less, w.if-spaces-text.false))
     ]

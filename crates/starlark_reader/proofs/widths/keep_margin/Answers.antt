@@ -1,4 +1,4 @@
-use Rattle.starlark_reader.proofs.TakenMargins.KeptWidths.{is_kept}
+use Rattle.starlark_reader.proofs.TakenMargins.TakenWidths.{is_kept}
 use Rattle.starlark_reader.proofs.widths.keep_margin.Goals as goal
 
 pub returns-clause-laid : goal.returns-clause-laid

@@ -1,5 +1,5 @@
 use Rattle.std.proofs.Common.{arith}
-use Rattle.starlark_syntax.proofs.LexedTexts.RelexStarts.{begin_found}
+use Rattle.starlark_syntax.proofs.LexedTexts.RelexedOutcomes.{begin_found}
 use Rattle.starlark_syntax.proofs.cuts.begin_of.Goals as goal
 
 pub returns : goal.returns

@@ -1,9 +1,9 @@
-use Rattle.std.proofs.Common.{◌≡◌, ◌≤◌, ◌-◌, ◌+◌, ◌++◌, ◌∙◌, ap, arith, drop, length, length-drop, map, subst, sym, take}
+use Rattle.std.proofs.Common.{◌≡◌, ◌≤◌, ◌-◌, ◌+◌, ◌++◌, ◌∙◌, ap, arith, drop, length, length-drop, subst, sym, take, rules}
 use Rattle.std.specs.List.{AllByRecursion}
 use Rattle.std.proofs.Math.Seq.{take-length}
-use Rattle.starlark_syntax.specs.Inner.LexedTexts.{AllNearCuts, moved_cut}
+use Rattle.starlark_syntax.specs.Inner.LexedTexts.{AllNearCuts}
 use Rattle.starlark_syntax.specs.declared.cuts.Cut.{Cut}
-use Rattle.starlark_syntax.proofs.LexedTexts.Puts.{begin_near, both_moved, cuts_after, inside, known_near, order, part_near, rest_after, rest_near, to_fits, whole_near}
+use Rattle.starlark_syntax.proofs.LexedTexts.Meetings.{begin_near, both_moved, cuts_after, inside, known_near, order, part_near, rest_after, rest_near, to_fits, whole_near}
 use Rattle.starlark_syntax.proofs.meetings.put_part.Goals as goal
 use Rattle.starlark_syntax.proofs.meetings.put_part.Goals.{After-deref}
 
@@ -20,9 +20,7 @@ pub push_moved_cuts-requires-clause-after : goal.push_moved_cuts-requires-clause
 push_moved_cuts-requires-clause-after c = subst (AllByRecursion (λ (cut : Cut). (c.args.meeting.cut.at ≤ cut.at) × (c.args.meeting.cut.lexemes ≤ cut.lexemes))) (sym (rest_is (goal.at.push_moved_cuts-requires-clause-after c).After-deref)) (cuts_after _ _ _ _ _ _ _ c.requires.2)
 
 pub push_moved_cuts-requires-clause-fits : goal.push_moved_cuts-requires-clause-fits
-push_moved_cuts-requires-clause-fits c =
-    let fits = to_fits _ _ _ _ _ _ _ c.requires.2 in
-    (fits.0, omega (arith, fits.1, c.len.ensures, c.args.part.lexemes.ok))
+push_moved_cuts-requires-clause-fits c = search (rules, to_fits)
 
 pub replace_lexemes-requires-clause-order : goal.replace_lexemes-requires-clause-order
 replace_lexemes-requires-clause-order c = order _ _ _ _ _ _ _ c.requires.2
@@ -42,9 +40,7 @@ replace_lexemes-requires-clause-after c = rest_after _ _ _ _ _ _ _ c.requires.2
 pub append_cuts-requires-clause-near : goal.append_cuts-requires-clause-near
 append_cuts-requires-clause-near c =
     let count : c.len.result ≡ length c.args.part.lexemes.items = omega (arith, c.len.ensures, c.args.part.lexemes.ok) in
-    let list = c.in_ok-push_moved_cuts.ensures ∙ ap (λ xs. c.args.part.cuts.items ++ map (moved_cut c.args.meeting.cut (record { at = c.args.meeting.at; lexemes = c.len.result })) xs) (rest_is (goal.at.append_cuts-requires-clause-near c).After-deref)
-    ∙ ap (λ n. c.args.part.cuts.items ++ map (moved_cut c.args.meeting.cut (record { at = c.args.meeting.at; lexemes = n })) (drop (c.args.begin.cuts + c.args.meeting.index + 1) c.args.cuts.now.items)) count in
-    subst AllNearCuts (sym list) (whole_near _ _ _ _ _ _ _ c.requires.2)
+    rw (c.in_ok-push_moved_cuts.ensures, rest_is (goal.at.append_cuts-requires-clause-near c).After-deref, count) (whole_near _ _ _ _ _ _ _ c.requires.2)
 
 pub append_cuts-requires-clause-count : goal.append_cuts-requires-clause-count
 append_cuts-requires-clause-count c = begin_near _ _ _ _ _ _ _ c.requires.2

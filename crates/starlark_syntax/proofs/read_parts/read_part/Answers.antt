@@ -1,16 +1,14 @@
-use Rattle.std.proofs.Common.{◌≡◌, ◌++◌, IfSome, List, Some, arith, ap, length, refl, subst, sym, ℕ, ◌∙◌}
+use Rattle.std.proofs.Common.{◌≡◌, ◌++◌, IfSome, Some, arith, ap, length, refl, subst, sym, ℕ, ◌∙◌, rules}
 use Rattle.std.specs.List.{ends_with}
 use Rattle.std.specs.Option.{is_some}
 use Rattle.std.specs.Prelude.{◌&&◌, Option, codes, nat_eq}
 use Rattle.starlark_grammar.specs.Cuts.{is_clean_cut, is_settled}
-use Rattle.starlark_grammar.specs.Reading.{outcome}
 use Rattle.starlark_grammar.specs.Words.{Text}
 use Rattle.starlark_reader.specs.Inner.MarginCuts.{IsCutBefore}
 use Rattle.starlark_reader.specs.Inner.Reader.{IsStateAfter}
 use Rattle.starlark_syntax.specs.Inner.LexedTexts.{IsMet, cuts_at, end_cuts}
 use Rattle.starlark_syntax.specs.Inner.LexerStates.{StateView, left_in}
-use Rattle.starlark_token.specs.declared.tokens.Token.{Token}
-use Rattle.starlark_syntax.proofs.LexedTexts.Collected.{AreCutsSoFar, all_given, collected_none, fault_given, goes_on, less_left, no_cuts_yet, none_collected, pushed_one, same_collected, settled_is, some_given, text_is}
+use Rattle.starlark_syntax.proofs.LexedTexts.Collected.{AreCutsSoFar, all_given, collected_none, fault_given, goes_on, less_left, no_cuts_yet, none_collected, pushed_one, settled_is, some_given, text_is}
 use Rattle.starlark_syntax.proofs.LexedTexts.Meetings.{met_front}
 use Rattle.starlark_syntax.proofs.read_parts.read_part.Goals as goal
 
@@ -25,10 +23,7 @@ loop-item-preserved c =
     let going = goes_on _ c.loop-item.state c.loop-item.lexemes.items c.loop-item.invariant.collected in
     let pushed = pushed_one c.args.state.now.reader.text.now c.loop-item.state c.next.new.self c.loop-item.lexemes.items c.push.new.self.items c.in-Ok.lexeme c.loop-item.cuts.items c.push_cut.new.cuts.items c.cut-place.result c.len.result c.loop-item.invariant.collected c.loop-item.invariant.cuts
     (rw c.in-Ok.is at (c.in-Some.ensures.answer going)) c.in-Some.ensures.lexing (rw (c.in-Ok.is, going) at c.in-Some.ensures.after) c.in_ok-push.ensures.items c.cut-place.ensures.kept c.cut-place.ensures.reached (omega (arith, c.len.ensures, c.push.new.self.ok)) c.in_ok-push_cut.ensures in
-    record {
-      collected = same_collected c.args.state.now.reader.text.now c.next.new.self c.meeting_at.new.state c.push.new.self.items pushed.collected c.meeting_at.ensures.lexing c.meeting_at.ensures.after;
-      cuts = pushed.cuts;
-    }
+    search rules
 
 pub returns-in-Some-meeting_at-clause-met : goal.returns-in-Some-meeting_at-clause-met
 returns-in-Some-meeting_at-clause-met c =
@@ -46,11 +41,7 @@ returns-in-Some-meeting_at-clause-met c =
     )
 
 pub loop-item-smaller : goal.loop-item-smaller
-loop-item-smaller c =
-    let going = goes_on _ c.loop-item.state c.loop-item.lexemes.items c.loop-item.invariant.collected in
-    let pushed = pushed_one c.args.state.now.reader.text.now c.loop-item.state c.next.new.self c.loop-item.lexemes.items c.push.new.self.items c.in-Ok.lexeme c.loop-item.cuts.items c.push_cut.new.cuts.items c.cut-place.result c.len.result c.loop-item.invariant.collected c.loop-item.invariant.cuts
-    (rw c.in-Ok.is at (c.in-Some.ensures.answer going)) c.in-Some.ensures.lexing (rw (c.in-Ok.is, going) at c.in-Some.ensures.after) c.in_ok-push.ensures.items c.cut-place.ensures.kept c.cut-place.ensures.reached (omega (arith, c.len.ensures, c.push.new.self.ok)) c.in_ok-push_cut.ensures in
-    less_left (length (outcome c.args.state.now.reader.text.now).lexemes) c.loop-item.lexemes.items c.push.new.self.items c.in-Ok.lexeme c.in_ok-push.ensures.items pushed.more
+loop-item-smaller c = search (rules, goes_on, pushed_one, less_left)
 
 pub returns-in-Some-take_fault-clause-part : goal.returns-in-Some-take_fault-clause-part
 returns-in-Some-take_fault-clause-part c = λ none.
@@ -59,10 +50,7 @@ returns-in-Some-take_fault-clause-part c = λ none.
     fault_given _ c.next.new.self c.take_fault.new.self _ c.in-Some-take_fault.fault mid last c.loop-item.invariant.cuts refl refl c.has_read_none.ensures
 
 pub with_end_cut-requires : goal.with_end_cut-requires
-with_end_cut-requires c =
-    let mid = none_collected _ c.loop-item.state c.next.new.self c.next.result c.loop-item.lexemes.items (ap is_some c.in_default.is) c.loop-item.invariant.collected c.next.ensures.lexing c.next.ensures.after in
-    let last = c.in_default-take_fault.ensures.last (goes_on _ c.next.new.self c.loop-item.lexemes.items mid) in
-    rw c.deref.ensures.value (some_given _ c.next.new.self c.take_fault.new.self c.loop-item.lexemes.items mid last)
+with_end_cut-requires c = search (rules, none_collected, some_given, goes_on)
 
 pub returns-clause-part : goal.returns-clause-part
 returns-clause-part c = λ none.
@@ -74,6 +62,5 @@ returns-clause-part c = λ none.
     settled_is text c.next.new.self c.take_fault.new.self c.loop-item.lexemes.items c.is_clean_cut-is_cut.result mid last
     (λ history after. c.is_clean_cut-is_cut.ensures.value history (subst (λ (t : Text). IsStateAfter t history c.take_fault.new.self.reader) (sym same) after) ∙ ap (λ (t : Text). is_settled history && ends_with nat_eq t (codes "\n")) same) in
     let cuts : c.in_ok-cuts.cuts.items ≡ c.loop-item.cuts.items ++ end_cuts text (length c.loop-item.lexemes.items) c.is_clean_cut-is_cut.result =
-    c.in_ok-cuts.ensures ∙ ap (λ (t : Text). c.loop-item.cuts.items ++ end_cuts t (length c.deref.result.now) c.is_clean_cut-is_cut.result) c.text-text.ensures
-    ∙ ap (λ (xs : List (ℕ × Token × ℕ)). c.loop-item.cuts.items ++ end_cuts text (length xs) c.is_clean_cut-is_cut.result) c.deref.ensures.value in
+    rw (c.in_ok-cuts.ensures, c.text-text.ensures, c.deref.ensures.value) refl in
     all_given text c.next.new.self c.take_fault.new.self _ c.loop-item.cuts.items mid last refl c.loop-item.invariant.cuts cuts is_cut refl

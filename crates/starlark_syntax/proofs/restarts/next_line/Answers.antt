@@ -10,9 +10,7 @@ use Rattle.starlark_syntax.specs.Recovery.{next_line}
 pub returns-clause-value : goal.returns-clause-value
 unfolding next_line
 returns-clause-value c =
-    let rest = take_rest c.as_bytes.result.now c.args.at ∙ ap (drop c.args.at) c.as_bytes.ensures.value in
-    let len = c.before_lf_len-len.ensures.value ∙ ap (prefix_len (λ b. not (is_lf b))) rest in
-    omega (arith, len)
+    omega (arith, c.before_lf_len-len.ensures.value ∙ ap (prefix_len (λ b. not (is_lf b))) (take_rest c.as_bytes.result.now c.args.at ∙ ap (drop c.args.at) c.as_bytes.ensures.value))
 
 pub returns-clause-boundary : goal.returns-clause-boundary
 returns-clause-boundary c = subst (IsCharBoundary c.args.text.now) (sym (returns-clause-value c)) (next_line_boundary c.args.text.now c.args.at c.utf8.text c.requires)

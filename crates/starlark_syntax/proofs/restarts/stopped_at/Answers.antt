@@ -1,4 +1,4 @@
-use Rattle.std.proofs.Common.{◌≤◌, ◌∙◌, arith, refl, sym, false}
+use Rattle.std.proofs.Common.{◌∙◌, arith, refl, sym, false, rules}
 use Rattle.starlark_syntax.proofs.RestartPlaces.{no_margin_tab, stopped_is}
 use Rattle.starlark_syntax.specs.Recovery.{is_margin_tab}
 use Rattle.starlark_reader.proofs.NextLines.{next_line_later}
@@ -14,12 +14,4 @@ returns-clause-value c fault is =
     ]
 
 pub returns-clause-reads : goal.returns-clause-reads
-returns-clause-reads c =
-    elim c.if-is_tab.branch [
-      | then-is_tab w ↦
-          let tab = w.tab_line-line.ensures.reads in
-          let order : w.tab_line-line.result ≤ c.max.result = omega (arith, w.line-is, c.max.ensures) in
-          let later = next_line_later c.args.text.now w.tab_line-line.result c.max.result order in
-          rw w.if-is_tab.true (omega (arith, w.reads-is, tab.0), omega (arith, w.reads-is, tab.1, later, order))
-      | else-is_tab w ↦ rw w.if-is_tab.false (omega (arith, w.reads-is), omega (arith, w.reads-is))
-    ]
+returns-clause-reads c = search (rules, next_line_later)

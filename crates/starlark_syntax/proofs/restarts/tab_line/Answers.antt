@@ -1,9 +1,7 @@
-use Rattle.std.proofs.Common.{◌∙◌, ap, drop}
+use Rattle.std.proofs.Common.{rules}
 use Rattle.std.proofs.lemmas.List.{take_rest}
 use Rattle.starlark_syntax.proofs.RestartPlaces.{after_line_end}
 use Rattle.starlark_syntax.proofs.restarts.tab_line.Goals as goal
 
 pub margin_line-requires : goal.margin_line-requires
-margin_line-requires c =
-    let rest = take_rest c.as_bytes.result.now c.args.at ∙ ap (drop c.args.at) c.as_bytes.ensures.value in
-    after_line_end c.args.text.now _ c.args.at c.line_end_len-len.result c.utf8.text c.requires rest c.line_end_len-len.ensures.within c.line_end_len-len.ensures.feed
+margin_line-requires c = search (rules, take_rest, after_line_end)

@@ -1,4 +1,5 @@
 use Rattle.std.proofs.Common.{◌≡◌, ◌∙◌, true, false, refl, sym, ap, Some, None}
+use Rattle.std.proofs.Math.Nat.{sub-zero}
 use Rattle.std.specs.List.{slice_get}
 use Rattle.starlark_grammar.specs.Items.{is_brace}
 use Rattle.starlark_words.specs.Inner.LiteralViews.{literal_view}
@@ -60,4 +61,4 @@ returns-clause-value c =
     let line : ends_line (literal_view c.args.literal) c.in-Some.first.now ≡ false = sym c.ends_line.ensures ∙ c.if-ends_line.false in
     let braced : is_brace c.args.literal.kind c.in-Some.first.now ≡ false = sym c.is_brace.ensures ∙ c.if-is_brace.false in
     let plain = at_plain (literal_view c.args.literal) c.args.text.now c.in-Some.first.now first stays line c.if-byte-eq13.false c.if-byte-eq92.false braced in
-    rw (c.part-2.ensures.value, c.first_character-character.ensures.value) (sym plain)
+    rw (c.part-2.ensures.value, c.range.ensures.value, sub-zero, c.character_len-len.ensures.character, c.character_len-len.ensures.whole) (sym plain)

@@ -1,9 +1,10 @@
-use Rattle.std.proofs.Common.{◌≡◌, ℕ, [], ◌+◌, ◌∷◌, ap, arith, drop, get_or, refl, ◌∙◌}
+use Rattle.std.proofs.Common.{◌≡◌, ℕ, [], ◌+◌, ◌∷◌, ap, arith, drop, get_or, refl, sym, ◌∙◌}
 use Rattle.std.proofs.lemmas.List.{take_rest}
 use Rattle.std.specs.Prelude.{nat_eq}
 use Rattle.std.specs.List.{prefix_len}
 use Rattle.starlark_grammar.specs.Words.{Text}
-use Rattle.starlark_words.proofs.Scan.ByFirst.{front_spaces, spaces_are_no_bang}
+use Rattle.starlark_words.proofs.Scan.ByFirst.{front_spaces}
+use Rattle.starlark_words.proofs.Scan.Bangs.{no_bang_at_front}
 use Rattle.starlark_words.proofs.scanner.gap_len.Goals as goal
 
 -- the length of a run of spaces, by that of the run after the first one
@@ -20,4 +21,4 @@ pub returns-clause-word : goal.returns-clause-word
 returns-clause-word c = front_spaces c.args.text.now (1 + c.uncounted_spaces_len.result) (spaces c)
 
 pub returns-clause-bang : goal.returns-clause-bang
-returns-clause-bang c = spaces_are_no_bang c.args.text.now (1 + c.uncounted_spaces_len.result) (spaces c)
+returns-clause-bang c = λ some. no_bang_at_front c.args.text.now _ (sym (returns-clause-word c some))

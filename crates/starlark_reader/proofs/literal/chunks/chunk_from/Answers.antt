@@ -1,7 +1,7 @@
-use Rattle.std.proofs.Common.{◌≡◌, ◌∙◌, ◌+◌, ◌-◌, ◌≤◌, ap, arith, length, refl, rules, sym}
+use Rattle.std.proofs.Common.{◌≡◌, ◌∙◌, ap, refl, rules, sym}
 use Rattle.std.specs.Prelude.{codes, string_bytes}
 use Rattle.starlark_grammar.specs.Items as items
-use Rattle.starlark_words.specs.Inner.LiteralViews.{bytes_of, fstring_literal, least_stop_reads, stop_view, stopped_len}
+use Rattle.starlark_words.specs.Inner.LiteralViews.{bytes_of, fstring_literal, stop_view}
 use Rattle.starlark_grammar.specs.Inner.Openings.{opening_view}
 use Rattle.starlark_grammar.specs.Tokens.{InvalidInput, InvalidEscapeSequence, UnfinishedStringLiteral}
 use Rattle.starlark_reader.proofs.ReadLiterals.Chunks.{bad_chunk_fits, chunk_is}
@@ -9,24 +9,13 @@ use Rattle.starlark_reader.proofs.ReadLiterals.StepReads.{body_reads, closing_so
 use Rattle.starlark_reader.proofs.literal.chunks.chunk_from.Goals as goal
 
 pub overflow_sub-result : goal.overflow_sub-result
-overflow_sub-result c =
-    let why : (items.BadEscape c.in-BadEscape.len c.in-BadEscape.last) ≡ (items.body_at (fstring_literal (opening_view c.args.opening)) c.args.text.now).stop = sym (ap stop_view c.in-BadEscape.is) ∙ c.in_ok-text_len.ensures.body.stop in
-    let fits = bad_chunk_fits (opening_view c.args.opening) c.args.text.now c.in_ok-text_len.field-0.len c.in-BadEscape.len c.in-BadEscape.last c.in_ok-text_len.ensures.body.len why in
-    fits.0
+overflow_sub-result c = search (rules, bad_chunk_fits)
 
 pub overflow_add-result-in-BadEscape : goal.overflow_add-result-in-BadEscape
-overflow_add-result-in-BadEscape c =
-    let why : (items.BadEscape c.in-BadEscape.len c.in-BadEscape.last) ≡ (items.body_at (fstring_literal (opening_view c.args.opening)) c.args.text.now).stop = sym (ap stop_view c.in-BadEscape.is) ∙ c.in_ok-text_len.ensures.body.stop in
-    let fits = bad_chunk_fits (opening_view c.args.opening) c.args.text.now c.in_ok-text_len.field-0.len c.in-BadEscape.len c.in-BadEscape.last c.in_ok-text_len.ensures.body.len why in
-    let inside : c.in_ok-text_len.field-0.len + (c.in-BadEscape.len - c.in-BadEscape.last) ≤ length c.args.text.now = omega (arith, fits.0, fits.1) in
-    search (rules, inside)
+overflow_add-result-in-BadEscape c = search (rules, bad_chunk_fits)
 
 pub overflow_add-result-in-BadEscape-2 : goal.overflow_add-result-in-BadEscape-2
-overflow_add-result-in-BadEscape-2 c =
-    let why : (items.BadEscape c.in-BadEscape.len c.in-BadEscape.last) ≡ (items.body_at (fstring_literal (opening_view c.args.opening)) c.args.text.now).stop = sym (ap stop_view c.in-BadEscape.is) ∙ c.in_ok-text_len.ensures.body.stop in
-    let fits = bad_chunk_fits (opening_view c.args.opening) c.args.text.now c.in_ok-text_len.field-0.len c.in-BadEscape.len c.in-BadEscape.last c.in_ok-text_len.ensures.body.len why in
-    let inside : c.in_ok-text_len.field-0.len + c.in-BadEscape.len ≤ length c.args.text.now = fits.1 in
-    search (rules, inside)
+overflow_add-result-in-BadEscape-2 c = search (rules, bad_chunk_fits)
 
 pub returns-in-OpeningBrace-clause-step : goal.returns-in-OpeningBrace-clause-step
 returns-in-OpeningBrace-clause-step c =
@@ -65,41 +54,19 @@ returns-in-Ended-clause-step c =
     (UnfinishedStringLiteral, refl, chunk_is (opening_view c.args.opening) c.args.text.now c.in_ok-text_len.field-0.len (string_bytes c.in-Text.value) items.Ended c.in_ok-text_len.ensures.body.len denoted why)
 
 pub returns-in-OpeningBrace-clause-reads : goal.returns-in-OpeningBrace-clause-reads
-returns-in-OpeningBrace-clause-reads c = λ before known.
-    let stopped = ap stopped_len c.in-OpeningBrace.is in
-    let reads = body_reads c.args.run c.in_ok-text_len.field-0.len (least_stop_reads c.in_ok-text_len.field-0.stop) (stopped_len c.in_ok-text_len.field-0.stop) 6 4 before _ _ c.in_ok-text_len.ensures.more known c.in_ok-text_len.ensures.reads in
-    ((omega (arith, reads.0), omega (arith, stopped, reads.1)), omega arith)
+returns-in-OpeningBrace-clause-reads c = search (rules, body_reads)
 
 pub returns-in-Line-clause-reads : goal.returns-in-Line-clause-reads
-returns-in-Line-clause-reads c = λ before known.
-    let stopped = ap stopped_len c.in-Line.is in
-    let reads = body_reads c.args.run c.in_ok-text_len.field-0.len (least_stop_reads c.in_ok-text_len.field-0.stop) (stopped_len c.in_ok-text_len.field-0.stop) 6 4 before _ _ c.in_ok-text_len.ensures.more known c.in_ok-text_len.ensures.reads in
-    (omega (arith, reads.0), omega (arith, c.in_ok-text_len.ensures.boundary.0, stopped, reads.1))
+returns-in-Line-clause-reads c = search (rules, body_reads)
 
 pub returns-in-Ended-clause-reads : goal.returns-in-Ended-clause-reads
-returns-in-Ended-clause-reads c = λ before known.
-    let stopped = ap stopped_len c.in-Ended.is in
-    let reads = body_reads c.args.run c.in_ok-text_len.field-0.len (least_stop_reads c.in_ok-text_len.field-0.stop) (stopped_len c.in_ok-text_len.field-0.stop) 6 4 before _ _ c.in_ok-text_len.ensures.more known c.in_ok-text_len.ensures.reads in
-    (omega (arith, reads.0), omega (arith, c.in_ok-text_len.ensures.boundary.0, stopped, reads.1))
+returns-in-Ended-clause-reads c = search (rules, body_reads)
 
 pub returns-in_ok-from_str-in-ClosingBrace-clause-reads : goal.returns-in_ok-from_str-in-ClosingBrace-clause-reads
-returns-in_ok-from_str-in-ClosingBrace-clause-reads c = λ before known.
-    let stopped = ap stopped_len c.in-ClosingBrace.is in
-    let reads = body_reads c.args.run c.in_ok-text_len.field-0.len (least_stop_reads c.in_ok-text_len.field-0.stop) (stopped_len c.in_ok-text_len.field-0.stop) 6 4 before _ _ c.in_ok-text_len.ensures.more known c.in_ok-text_len.ensures.reads in
-    (omega (arith, reads.0), omega (arith, c.in_ok-text_len.ensures.boundary.0, stopped, reads.1))
+returns-in_ok-from_str-in-ClosingBrace-clause-reads c = search (rules, body_reads)
 
 pub returns-in-Closing-clause-reads : goal.returns-in-Closing-clause-reads
-returns-in-Closing-clause-reads c = λ before known.
-    let stopped = ap stopped_len c.in-Closing.is in
-    let reads = body_reads c.args.run c.in_ok-text_len.field-0.len (least_stop_reads c.in_ok-text_len.field-0.stop) (stopped_len c.in_ok-text_len.field-0.stop) 6 4 before _ _ c.in_ok-text_len.ensures.more known c.in_ok-text_len.ensures.reads in
-    let quotes = closing_some (opening_view c.args.opening) in
-    let closing = c.closing_len.ensures in
-    ((omega (arith, quotes.1, closing, reads.0), omega (arith, quotes.0, closing, stopped, reads.1)), omega (arith, quotes.0, closing))
+returns-in-Closing-clause-reads c = search (rules, body_reads, closing_some)
 
 pub returns-in_ok-from_str-in-BadEscape-clause-reads : goal.returns-in_ok-from_str-in-BadEscape-clause-reads
-returns-in_ok-from_str-in-BadEscape-clause-reads c = λ before known.
-    let stopped = ap stopped_len c.in-BadEscape.is in
-    let reads = body_reads c.args.run c.in_ok-text_len.field-0.len (least_stop_reads c.in_ok-text_len.field-0.stop) (stopped_len c.in_ok-text_len.field-0.stop) 6 4 before _ _ c.in_ok-text_len.ensures.more known c.in_ok-text_len.ensures.reads in
-    let why : (items.BadEscape c.in-BadEscape.len c.in-BadEscape.last) ≡ (items.body_at (fstring_literal (opening_view c.args.opening)) c.args.text.now).stop = sym (ap stop_view c.in-BadEscape.is) ∙ c.in_ok-text_len.ensures.body.stop in
-    let fits = bad_chunk_fits (opening_view c.args.opening) c.args.text.now c.in_ok-text_len.field-0.len c.in-BadEscape.len c.in-BadEscape.last c.in_ok-text_len.ensures.body.len why in
-    (omega (arith, fits.0, stopped, reads.0), omega (arith, fits.1, stopped, reads.1))
+returns-in_ok-from_str-in-BadEscape-clause-reads c = search (rules, body_reads, bad_chunk_fits)

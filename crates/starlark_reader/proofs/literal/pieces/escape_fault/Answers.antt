@@ -1,14 +1,12 @@
-use Rattle.std.proofs.Common.{◌≡◌, ◌==◌, true, false, length, refl, sym, ◌∙◌}
+use Rattle.std.proofs.Common.{refl, sym, ◌∙◌}
 use Rattle.starlark_grammar.specs.Tokens.{EmptyEscapeSequence, InvalidEscapeSequence}
 use Rattle.starlark_reader.proofs.ReadLiterals.LiteralPieces.{escape_none, escape_some}
 use Rattle.starlark_reader.proofs.literal.pieces.escape_fault.Goals as goal
 
 pub returns-then-is_empty-clause-step : goal.returns-then-is_empty-clause-step
 returns-then-is_empty-clause-step c =
-    let none : (length c.args.read.now == 0) ≡ true = sym c.is_empty.ensures ∙ c.if-is_empty.true in
-    (EmptyEscapeSequence, refl, escape_none c.args.begin c.args.read.now none)
+    (EmptyEscapeSequence, refl, escape_none c.args.begin c.args.read.now (sym c.is_empty.ensures ∙ c.if-is_empty.true))
 
 pub returns-clause-step : goal.returns-clause-step
 returns-clause-step c =
-    let some : (length c.args.read.now == 0) ≡ false = sym c.is_empty.ensures ∙ c.if-is_empty.false in
-    rw c.in_ok-text.ensures.ok (InvalidEscapeSequence c.args.read.now, refl, escape_some c.args.begin c.args.read.now some)
+    rw c.in_ok-text.ensures.ok (InvalidEscapeSequence c.args.read.now, refl, escape_some c.args.begin c.args.read.now (sym c.is_empty.ensures ∙ c.if-is_empty.false))

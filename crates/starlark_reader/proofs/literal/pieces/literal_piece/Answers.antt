@@ -4,6 +4,7 @@ use Rattle.starlark_grammar.specs.Pieces.{opening_of}
 use Rattle.starlark_words.proofs.LiteralBodies.PlainBodies.{empty_run, no_run_before_quotes}
 use Rattle.starlark_words.specs.Inner.Reads.{more_reads}
 use Rattle.starlark_reader.proofs.ReadLiterals.LiteralPieces.{if_ok, opener_plain, triple_edge}
+use Rattle.starlark_reader.specs.Inner.Nesting.{mode_view}
 use Rattle.starlark_reader.proofs.literal.pieces.literal_piece.Goals as goal
 
 pub range_from-requires : goal.range_from-requires
@@ -12,7 +13,7 @@ range_from-requires c = λ some. triple_edge c.args.remainder.now c.args.quote c
 pub returns-else-opening-clause-step : goal.returns-else-opening-clause-step
 returns-else-opening-clause-step c =
     let single : (opening_of c.args.is_raw c.args.quote c.args.remainder.now).is_triple ≡ false = sym c.is_triple.ensures.value ∙ c.if-opening.false in
-    if_ok _ _ c.literal_from-else-opening.result (λ step is mode outside. rw (opener_plain mode c.args.kind (opening_of c.args.is_raw c.args.quote c.args.remainder.now) c.args.len c.args.remainder.now c.requires.kind single, ← c.is_triple.ensures.value) (is mode outside)) c.literal_from-else-opening.ensures.step
+    if_ok _ _ c.literal_from-else-opening.result (λ step is. rw (opener_plain (mode_view c.args.mode) c.args.kind (opening_of c.args.is_raw c.args.quote c.args.remainder.now) c.args.len c.args.remainder.now c.requires.kind single, ← c.is_triple.ensures.value) is) c.literal_from-else-opening.ensures.step
 
 pub returns-else-opening-clause-reads : goal.returns-else-opening-clause-reads
 returns-else-opening-clause-reads c =

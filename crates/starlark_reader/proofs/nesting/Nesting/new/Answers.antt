@@ -1,13 +1,12 @@
-use Rattle.std.proofs.Common.{List, [], ap, subst, sym}
+use Rattle.std.proofs.Common.{List, [], refl, subst, sym}
 use Rattle.std.specs.Prelude.{reverse}
-use Rattle.starlark_reader.specs.declared.bracket_counts.Brackets.{Brackets}
-use Rattle.starlark_reader.specs.declared.bracket_counts.OpenFString.{OpenFString}
+use Rattle.starlark_reader.specs.declared.nesting.OpenFString.{OpenFString}
 use Rattle.starlark_reader.proofs.OpenBrackets.OpenFStrings.{AreOpen, none_at_start}
 use Rattle.starlark_reader.proofs.nesting.Nesting.new.Goals as goal
 
 pub returns-clause-begins : goal.returns-clause-begins
 returns-clause-begins c = record {
   fstrings = subst (λ (fstrings : List OpenFString). AreOpen (reverse fstrings) []) (sym c.new.ensures.items) none_at_start;
-  opened = ap (λ (brackets : Brackets). brackets.opened) c.new-2.ensures;
-  closed = ap (λ (brackets : Brackets). brackets.closed) c.new-2.ensures;
+  opened = refl;
+  closed = refl;
 }

@@ -9,8 +9,7 @@ use Rattle.starlark_reader.proofs.reader.Reader.common_word.Goals as goal
 pub range_from-requires : goal.range_from-requires
 range_from-requires c = λ some.
     let ready = c.requires.sound.ready in
-    let remainder = c.pass_spaces-gap.ensures.ahead ready.0 ready.1 (left_onward c.args.self.now.text.now c.args.self.now ready.0 ready.1 c.requires.code.stage ready.2) in
-    rw c.pass_spaces-gap.ensures.text remainder.is_left.1.boundary
+    rw c.pass_spaces-gap.ensures.text (c.pass_spaces-gap.ensures.ahead ready.0 ready.1 (left_onward c.args.self.now.text.now c.args.self.now ready.0 ready.1 c.requires.code.stage ready.2)).is_left.1.boundary
 
 pub returns-clause-ahead : goal.returns-clause-ahead
 returns-clause-ahead c = λ lexemes fault ahead.

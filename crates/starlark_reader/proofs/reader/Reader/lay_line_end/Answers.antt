@@ -1,37 +1,25 @@
-use Rattle.std.proofs.Common.{◌≡◌, ◌+◌, ◌-◌, ◌∙◌, ◌||◌, Bool, true, false, ap, arith, drop, length, refl, sym}
+use Rattle.std.proofs.Common.{rules, ◌≡◌, ◌+◌, ◌∙◌, ap, arith, drop, refl, sym}
 use Rattle.std.specs.Prelude.{not}
+use Rattle.std.proofs.lemmas.Bool.{not-false, or_parts}
 use Rattle.std.proofs.lemmas.List.{length-drop}
-use Rattle.starlark_grammar.specs.Words.{Text}
 use Rattle.starlark_grammar.specs.Margins.{margin_of, Margin as Seen}
 use Rattle.starlark_token.specs.TokenViews.{token_view}
 use Rattle.starlark_token.specs.declared.tokens.Token.TheVariants as token
-use Rattle.starlark_reader.specs.declared.margins.Margin.{Margin}
 use Rattle.starlark_reader.specs.declared.reader.Reader.{Reader}
 use Rattle.starlark_reader.specs.Inner.MarginViews.{IsMargin}
 use Rattle.starlark_reader.specs.Inner.MarginLines.{IsOfMargin}
-use Rattle.starlark_reader.specs.Inner.Pending.{lexemes_after, pending_lexemes}
 use Rattle.starlark_reader.proofs.TakenMargins.LaidMargins.{after_none, end_taken}
 use Rattle.starlark_reader.proofs.TakenMargins.Waiting.{nothing_left}
-use Rattle.starlark_reader.proofs.TakenPieces.Taken.{line_less, line_taken}
+use Rattle.starlark_reader.proofs.TakenPieces.Taken.{line_taken}
 use Rattle.starlark_reader.proofs.reader.Reader.lay_line_end.Goals as goal
 use Rattle.starlark_reader.proofs.reader.Reader.lay_line_end.Goals.{In-Some}
 
-content : (a b : Bool) → (not a || b) ≡ false → a ≡ true
-content true b h = refl
-content false b h = cc
-
 pub change_width-requires-clause-margin : goal.change_width-requires-clause-margin
 change_width-requires-clause-margin c =
-    let some = content c.in-Some.margin.is_content _ (sym c.keeps_widths.ensures ∙ c.if-not-keeps_widths.true) in
-    rw (← c.in-Some.ensures.spaces some) (rw c.range_from.ensures.value at c.in-Some.ensures.margin)
+    rw (← c.in-Some.ensures.spaces (not-false c.in-Some.margin.is_content (or_parts (not c.in-Some.margin.is_content) _ (sym c.keeps_widths.ensures ∙ c.if-not-keeps_widths.true)).0)) (rw c.range_from.ensures.value at c.in-Some.ensures.margin)
 
 pub change_width-requires-clause-within : goal.change_width-requires-clause-within
-change_width-requires-clause-within c =
-    let some = content c.in-Some.margin.is_content _ (sym c.keeps_widths.ensures ∙ c.if-not-keeps_widths.true) in
-    let spaces : c.in-Some.margin.blanks.len ≡ c.in-Some.margin.blanks.width = ap (λ (margin : Margin). margin.blanks.len) (c.in-Some.ensures.spaces some) in
-    let begin = c.args.self.now.at + c.args.len in
-    let rest : length c.range_from.result.now ≡ length c.args.self.now.text.now - begin = ap (λ (t : Text). length t) c.range_from.ensures.value ∙ length-drop begin c.args.self.now.text.now in
-    omega (arith, spaces, rest, c.requires.cut.0, c.in-Some.ensures.within)
+change_width-requires-clause-within c = search (rules, not-false, or_parts, length-drop)
 
 pub keep_margin-requires-clause-idle : goal.keep_margin-requires-clause-idle
 keep_margin-requires-clause-idle c = after_none c.args.self.now.text.now c.args.self.now.pending c.requires.here.idle.1
@@ -62,24 +50,5 @@ returns-clause-read c = λ history kept stands.
     line_taken c.args.self.now.text.now history c.args.self.now c.args.len kept stands c.step_to.new.self _ token.Newline refl c.requires.here.text.utf8 (rw new taken) (rw new of)
     (ap (λ (reader : Reader). reader.nesting) new) (ap (λ (reader : Reader). reader.before) new) (ap (λ (reader : Reader). reader.at) new ∙ end) (ap (λ (reader : Reader). reader.stage) new)
 
-pub returns-clause-less : goal.returns-clause-less
-returns-clause-less c =
-    let new = c.step_to.ensures in
-    let stands = c.requires.here.stands in
-    let margin = c.in-Some.margin in
-    let seen = seen_at (goal.at.returns-clause-less c).In-Some in
-    let same = margin_is (goal.at.returns-clause-less c).In-Some in
-    let levels = c.args.self.now.levels in
-    let laid = c.keep_margin.ensures.laid stands.0.widths seen stands.1.levels same in
-    let end = margin_end (goal.at.returns-clause-less c).In-Some in
-    let taken = end_taken c.args.self.now.text.now c.args.self.now.at c.args.len levels levels stands.0.widths margin c.keep_margin.new.pending stands.1.levels same c.requires.here.text.utf8 c.requires.cut c.keep_margin.ensures.place laid in
-    line_less c.args.self.now.text.now stands.0 c.args.self.now c.args.len stands.1 stands.2 c.step_to.new.self taken
-    (ap (λ (reader : Reader). reader.stage) new) (ap (λ (reader : Reader). reader.at) new ∙ end)
-
 pub returns-clause-onward : goal.returns-clause-onward
-returns-clause-onward c = λ newline.
-    let new = c.step_to.ensures in
-    let place = c.keep_margin.ensures.place in
-    let remainder = ap lexemes_after c.keep_margin.ensures.stays ∙ after_none c.args.self.now.text.now c.args.self.now.pending c.requires.here.idle.1 in
-    let idle = λ (text : Text). nothing_left text c.keep_margin.new.pending (omega (arith, place.from, place.to, c.in-Some.ensures.plain)) remainder in
-    (ap (λ (reader : Reader). reader.stage) new, ap (λ (reader : Reader). reader.nesting) new, λ text. ap (λ (reader : Reader). pending_lexemes text reader.pending) new ∙ idle text)
+returns-clause-onward c = search (rules, after_none, nothing_left)

@@ -1,4 +1,4 @@
-use Rattle.std.proofs.Common.{◌≡◌, ◌+◌, ◌-◌, ◌∙◌, ap, arith, length}
+use Rattle.std.proofs.Common.{rules, ◌+◌, ◌∙◌, ap, arith, length}
 use Rattle.std.proofs.lemmas.List.{length-drop}
 use Rattle.std.proofs.lemmas.Result.{IfOk-weaker, on_ok_weaker}
 use Rattle.starlark_grammar.specs.Words.{Text}
@@ -6,18 +6,14 @@ use Rattle.starlark_reader.proofs.TakenPieces.ReaderReads.{state_reads}
 use Rattle.starlark_reader.proofs.reader.Reader.lay_long_margin.Goals as goal
 
 pub lay_margin-requires-clause-line_end : goal.lay_margin-requires-clause-line_end
-lay_margin-requires-clause-line_end c =
-    let stands = c.requires.here.stands in
-    record { here = record { text = c.requires.here.text; stage = c.requires.here.stage; stands = (stands.0, state_reads c.args.self.now.text.now stands.0 c.args.self.now c.margin_of-margin.new.reads stands.1, stands.2); idle = c.requires.here.idle }; cut = c.requires.cut }
+lay_margin-requires-clause-line_end c = search (rules, state_reads)
 
 pub lay_margin-requires-clause-margin : goal.lay_margin-requires-clause-margin
 lay_margin-requires-clause-margin c = rw c.range_from.ensures.value at c.margin_of-margin.ensures.margin
 
 pub lay_margin-requires-clause-within : goal.lay_margin-requires-clause-within
 lay_margin-requires-clause-within c =
-    let begin = c.args.self.now.at + c.args.len in
-    let rest : length c.range_from.result.now ≡ length c.args.self.now.text.now - begin = ap (λ (t : Text). length t) c.range_from.ensures.value ∙ length-drop begin c.args.self.now.text.now in
-    omega (arith, rest, c.requires.cut.0, c.margin_of-margin.ensures.within)
+    omega (arith, ap (λ (t : Text). length t) c.range_from.ensures.value ∙ length-drop (c.args.self.now.at + c.args.len) c.args.self.now.text.now, c.requires.cut.0, c.margin_of-margin.ensures.within)
 
 pub returns-clause-read : goal.returns-clause-read
 returns-clause-read c = IfOk-weaker c.lay_margin.result _ _ (λ is_laid read history kept stands. read history (state_reads c.args.self.now.text.now history c.args.self.now c.margin_of-margin.new.reads kept) stands) c.lay_margin.ensures.read

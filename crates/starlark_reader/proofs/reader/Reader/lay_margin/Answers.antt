@@ -8,7 +8,7 @@ use Rattle.starlark_reader.specs.declared.reader.Reader.{Reader}
 use Rattle.starlark_reader.specs.Inner.MarginViews.{IsMargin}
 use Rattle.starlark_reader.specs.Inner.MarginLines.{IsOfMargin}
 use Rattle.starlark_reader.proofs.TakenMargins.LaidMargins.{after_none, end_refused, end_taken}
-use Rattle.starlark_reader.proofs.TakenPieces.Taken.{line_less, line_refused, line_taken}
+use Rattle.starlark_reader.proofs.TakenPieces.Taken.{line_refused, line_taken}
 use Rattle.starlark_reader.proofs.reader.Reader.lay_margin.Goals as goal
 
 pub take_margin-requires-clause-idle : goal.take_margin-requires-clause-idle
@@ -37,18 +37,6 @@ returns-clause-read c = λ history kept stands.
     let of : IsOfMargin begin seen.at c.args.self.now.levels c.take_margin.new.pending = rw margin.at at c.in_ok-take_margin.ensures.place in
     line_taken c.args.self.now.text.now history c.args.self.now c.args.len kept stands c.step_over.new.self _ token.Newline refl c.requires.line_end.here.text.utf8 (rw new taken) (rw new of)
     (ap (λ (reader : Reader). reader.nesting) new) (ap (λ (reader : Reader). reader.before) new) (ap (λ (reader : Reader). reader.at) new) (ap (λ (reader : Reader). reader.stage) new)
-
-pub returns-clause-less : goal.returns-clause-less
-returns-clause-less c =
-    let new = c.step_over.ensures in
-    let stands = c.requires.line_end.here.stands in
-    let begin = c.args.self.now.at + c.args.len in
-    let seen = margin_of (drop begin c.args.self.now.text.now) in
-    let margin : IsMargin seen c.args.margin = c.requires.margin in
-    let laid = rw c.if-not-branch.false at (c.in_ok-take_margin.ensures.laid stands.0.widths seen stands.1.levels margin) in
-    let taken = end_taken c.args.self.now.text.now c.args.self.now.at c.args.len c.args.self.now.levels c.take_margin.new.levels stands.0.widths c.args.margin c.take_margin.new.pending stands.1.levels margin c.requires.line_end.here.text.utf8 c.requires.line_end.cut c.in_ok-take_margin.ensures.place laid in
-    line_less c.args.self.now.text.now stands.0 c.args.self.now c.args.len stands.1 stands.2 c.step_over.new.self taken
-    (ap (λ (reader : Reader). reader.stage) new) (ap (λ (reader : Reader). reader.at) new)
 
 pub returns-then-not-branch-clause-reads : goal.returns-then-not-branch-clause-reads
 returns-then-not-branch-clause-reads c = λ before counted there.

@@ -1,14 +1,14 @@
 use Rattle.std.proofs.Common.{ap, arith, refl}
 use Rattle.starlark_reader.specs.Inner.Pending.{owed}
 use Rattle.starlark_reader.specs.declared.reader.Reader.{Reader}
-use Rattle.starlark_reader.proofs.TakenPieces.PieceTaken.{name_changes, name_here, token_inside, token_passed}
+use Rattle.starlark_reader.proofs.TakenPieces.PieceTaken.{name_here, token_inside, token_passed}
 use Rattle.starlark_reader.proofs.TakenPieces.SameTexts.{passed_here, state_here}
 use Rattle.starlark_reader.proofs.reader.Reader.pass_name.Goals as goal
 
 pub returns-clause-ahead : goal.returns-clause-ahead
 returns-clause-ahead c =
     passed_here c.args.self.now _ c.step_over.new.self c.requires.stands.stage c.requires.stands.idle
-    (λ history kept. token_passed c.args.self.now.text.now history c.args.self.now c.step_over.new.self c.args.len _ c.requires.sound.text.utf8 kept (name_here c.args.self.now.text.now history c.args.self.now c.args.len kept c.requires.stands) c.requires.stands.idle refl refl (name_changes _) c.step_over.ensures)
+    (λ history kept. token_passed c.args.self.now.text.now history c.args.self.now c.step_over.new.self c.args.len _ c.requires.sound.text.utf8 kept (name_here c.args.self.now.text.now history c.args.self.now c.args.len kept c.requires.stands) c.requires.stands.idle refl refl c.step_over.ensures)
 
 pub step_over-requires-clause-fits : goal.step_over-requires-clause-fits
 step_over-requires-clause-fits c =

@@ -1,13 +1,11 @@
-use Rattle.std.proofs.Common.{◌+◌, ◌≤◌, ◌^◌, ap, arith, drop, refl, rules, sym}
+use Rattle.std.proofs.Common.{◌+◌, ◌≤◌, ◌^◌, arith, drop, refl, rules, sym}
 use Rattle.std.proofs.lemmas.Str.{IsUtf8-drop}
 use Rattle.starlark_grammar.proofs.Lists.{drop-sum}
 use Rattle.starlark_grammar.proofs.Order.Edges.{boundary_shift}
 use Rattle.starlark_grammar.specs.declared.class.Class.TheVariants as class
 use Rattle.starlark_grammar.specs.declared.class.LiteralKind.TheVariants as kind
 use Rattle.starlark_reader.proofs.TakenPieces.CodePlaces.{word_cut}
-use Rattle.starlark_reader.specs.Inner.Pending.{owed}
-use Rattle.starlark_reader.specs.declared.reader.Reader.{Reader}
-use Rattle.starlark_reader.proofs.TakenPieces.PieceTaken.{text_changes, text_here, token_inside, token_passed}
+use Rattle.starlark_reader.proofs.TakenPieces.PieceTaken.{text_here, token_inside, token_passed}
 use Rattle.starlark_reader.proofs.TakenPieces.SameTexts.{passed_here, state_here}
 use Rattle.starlark_reader.proofs.reader.Reader.pass_plain_text.Goals as goal
 
@@ -15,7 +13,7 @@ pub returns-clause-ahead : goal.returns-clause-ahead
 returns-clause-ahead c =
     passed_here c.args.self.now _ c.step_over.new.self c.requires.stands.stage c.requires.stands.idle
     (λ history kept. token_passed c.args.self.now.text.now history c.args.self.now c.step_over.new.self (c.args.len + c.args.body + 1) _ c.requires.sound.text.utf8 kept
-    (text_here c.args.self.now.text.now history c.args.self.now c.args.is_raw c.args.quote c.args.len c.args.body kept c.requires.stands c.requires.plain) c.requires.stands.idle refl refl (text_changes _) c.step_over.ensures)
+    (text_here c.args.self.now.text.now history c.args.self.now c.args.is_raw c.args.quote c.args.len c.args.body kept c.requires.stands c.requires.plain) c.requires.stands.idle refl refl c.step_over.ensures)
 
 pub step_over-requires-clause-fits : goal.step_over-requires-clause-fits
 step_over-requires-clause-fits c =
@@ -24,11 +22,7 @@ step_over-requires-clause-fits c =
     omega (arith, here.1, c.requires.sound.text.fits)
 
 pub returns-clause-taken : goal.returns-clause-taken
-returns-clause-taken c =
-    let left = state_here c.args.self.now c.requires.sound c.requires.stands.stage in
-    let here = token_inside c.args.self.now.text.now left.0 c.args.self.now (c.args.len + c.args.body + 1) _ left.1 (text_here c.args.self.now.text.now left.0 c.args.self.now c.args.is_raw c.args.quote c.args.len c.args.body left.1 c.requires.stands c.requires.plain) in
-    let is = c.step_over.ensures in
-    (here.0, (ap (λ (reader : Reader). reader.at) is, ap (λ (reader : Reader). reader.reads) is, omega (arith, ap (λ (reader : Reader). owed reader.pending) is)), ap (λ (reader : Reader). reader.stage) is)
+returns-clause-taken c = search (rules, state_here, token_inside, text_here)
 
 pub overflow_add-len-2 : goal.overflow_add-len-2
 overflow_add-len-2 c =

@@ -1,9 +1,9 @@
-use Rattle.std.proofs.Common.{◌≡◌, ◌+◌, ◌*◌, ap, arith, drop, length, sym, take, ◌∙◌}
+use Rattle.std.proofs.Common.{◌≡◌, ap, drop, length, sym, take, ◌∙◌, rules}
 use Rattle.std.proofs.Math.Nat.{sub-zero}
 use Rattle.starlark_grammar.specs.AfterFaults.{next_line}
 use Rattle.starlark_grammar.specs.Front.{language_front}
 use Rattle.starlark_grammar.specs.Words.{class_in, language}
-use Rattle.starlark_reader.specs.Inner.ReadBounds.{AreWordReads, LeavesReads}
+use Rattle.starlark_reader.specs.Inner.ReadBounds.{AreWordReads}
 use Rattle.starlark_reader.proofs.TakenMargins.Waiting.{after_error}
 use Rattle.starlark_reader.proofs.TakenPieces.CodePlaces.{word_class, word_cut, word_len, word_some}
 use Rattle.starlark_reader.proofs.TakenPieces.NextLexeme.{onward_something}
@@ -21,10 +21,7 @@ fault_step-requires-clause-known c =
     ap (class_in language) front ∙ word_class (drop c.args.self.now.at c.args.self.now.text.now) c.args.word.class c.args.word.len (sym c.requires.stands.front)
 
 pub fault_step-requires-clause-some : goal.fault_step-requires-clause-some
-fault_step-requires-clause-some c =
-    let front : c.range.result.now ≡ take c.args.word.len (drop c.args.self.now.at c.args.self.now.text.now) = c.range.ensures.value ∙ ap (λ n. take n c.range_from-rest.result.now) (sub-zero _) ∙ ap (take c.args.word.len) c.range_from-rest.ensures.value in
-    let rest = drop c.args.self.now.at c.args.self.now.text.now in
-    omega (arith, ap length front, word_len rest c.args.word.class c.args.word.len (sym c.requires.stands.front), word_some rest c.args.word.class c.args.word.len (sym c.requires.stands.front))
+fault_step-requires-clause-some c = search (rules, sub-zero, word_len, word_some)
 
 pub returns-in_err-step-clause-memory : goal.returns-in_err-step-clause-memory
 returns-in_err-step-clause-memory c = after_error c.from_residual.result _ (λ lexemes fault ahead. onward_something c.args.self.now.text.now c.args.self.now lexemes fault c.requires.stands.idle c.requires.stands.stage ahead)
@@ -44,12 +41,9 @@ pub returns-clause-reads : goal.returns-clause-reads
 returns-clause-reads c = λ before has read.
     let front : c.range.result.now ≡ take c.args.word.len (drop c.args.self.now.at c.args.self.now.text.now) = c.range.ensures.value ∙ ap (λ n. take n c.range_from-rest.result.now) (sub-zero _) ∙ ap (take c.args.word.len) c.range_from-rest.ensures.value in
     let old = c.args.self.now in
-    let text = old.text.now in
-    let rest = drop old.at text in
+    let rest = drop old.at old.text.now in
     let left = state_here old c.requires.sound c.requires.stands.stage in
-    let step = c.in_ok-step.step in
-    let is = step_of_word text left.0 old c.args.word c.range.result.now step left.1 c.requires.stands front c.in_ok-step.ensures.step in
+    let is = step_of_word old.text.now left.0 old c.args.word c.range.result.now c.in_ok-step.step left.1 c.requires.stands front c.in_ok-step.ensures.step in
     let len : length c.range.result.now ≡ c.args.word.len = ap length front ∙ word_len rest c.args.word.class c.args.word.len (sym c.requires.stands.front) in
-    let more : AreWordReads c.args.word.len 9 2 (next_line (take c.args.word.len rest) 0) 8 step old.reads old.reads = rw (len, front) at (c.in_ok-step.ensures.reads old.reads) in
-    let leaves : LeavesReads (5 * c.args.word.len + 3) (take c.args.word.len rest) step old.reads old.reads = rw (len, front) at (c.in_ok-step.ensures.leaves old.reads) in
-    word_step_reads text before old.reads old.reads left.0 c.args.word step old c.take.new.self left.1 c.requires.stands is has read more leaves c.take.ensures.passed
+    let more : AreWordReads c.args.word.len 9 2 (next_line (take c.args.word.len rest) 0) 8 c.in_ok-step.step old.reads old.reads = rw (len, front) at (c.in_ok-step.ensures.reads old.reads) in
+    word_step_reads old.text.now before old.reads old.reads left.0 c.args.word c.in_ok-step.step old c.take.new.self left.1 c.requires.stands is has read more (rw (len, front) at (c.in_ok-step.ensures.leaves old.reads)) c.take.ensures.passed

@@ -1,27 +1,33 @@
-use Rattle.std.proofs.Common.{◌+◌, ◌≤◌, length, rules, Some}
-use Rattle.starlark_reader.proofs.TakenPieces.Here.{piece_here}
-use Rattle.starlark_reader.proofs.TakenPieces.PieceTaken.{terminal_shown, terminal_step}
+use Rattle.std.proofs.Common.{◌≡◌, ◌∙◌, List, Some, ap, refl, sym}
+use Rattle.starlark_grammar.specs.Depths.{mode_after}
+use Rattle.starlark_grammar.specs.Pieces.{terminal_token}
+use Rattle.starlark_grammar.specs.Tokens.{Token}
+use Rattle.starlark_token.specs.TokenViews.{Whole, token_view}
+use Rattle.starlark_reader.specs.Inner.Nesting.{Represents}
+use Rattle.starlark_reader.proofs.TakenPieces.PieceTaken.{brace_deeper, other_terminal, terminal_shown, terminal_step}
 use Rattle.starlark_reader.proofs.TakenPieces.SameTexts.{at_step, state_here, taken_here}
 use Rattle.starlark_reader.proofs.reader.Reader.take_terminal.Goals as goal
+use Rattle.starlark_reader.proofs.reader.Reader.take_terminal.Goals.{After-take_token-arg-1}
 
-pub pass_token-requires : goal.pass_token-requires
-pass_token-requires c =
-    at_step c.args.self.now _ c.requires.sound c.requires.stands.stage c.requires.stands.idle (λ history kept. terminal_step c.args.self.now.text.now history c.args.self.now c.args.terminal c.args.len c.token_in-token.result kept c.requires.stands c.token_in-token.ensures.token c.token_in-token.ensures.own)
+view : (c : After-take_token-arg-1) (tokens : List Token) → Represents tokens c.args.self.now.nesting → token_view c.match-terminal.token ≡ Whole (terminal_token (mode_after tokens) c.args.terminal)
+unfolding token_view
+view c tokens same = elim c.match-terminal.branch [
+  | goal.in-ClosingCurly+in-AtTop w ↦ rw (w.token-is, w.in-ClosingCurly.is, ← w.mode.ensures tokens same, w.in-AtTop.is) refl
+  | goal.in-ClosingCurly+in_default-mode w ↦ rw (w.token-is, w.in-ClosingCurly.is, ← w.mode.ensures tokens same) (ap Whole (sym (brace_deeper w.mode.result w.in_default-mode.not-AtTop)))
+  | goal.in_default w ↦ rw w.token-is (w.own_token-token.ensures ∙ ap Whole (sym (other_terminal (mode_after tokens) c.args.terminal w.in_default.not-ClosingCurly)))
+]
 
-pub overflow_add-result : goal.overflow_add-result
-overflow_add-result c =
-    let left = state_here c.args.self.now c.requires.sound c.requires.stands.stage in
-    let stands = terminal_step c.args.self.now.text.now left.0 c.args.self.now c.args.terminal c.args.len c.token_in-token.result left.1 c.requires.stands c.token_in-token.ensures.token c.token_in-token.ensures.own in
-    let here = piece_here c.args.self.now.text.now left.0 c.args.self.now _ left.1 stands.3 in
-    let inside : c.args.self.now.at + c.args.len ≤ length c.args.self.now.text.now = here.1 in
-    search (rules, inside)
+pub take_token-requires : goal.take_token-requires
+take_token-requires c =
+    at_step c.args.self.now _ c.requires.sound c.requires.stands.stage c.requires.stands.idle
+    (λ history kept. terminal_step c.args.self.now.text.now history c.args.self.now c.args.terminal c.args.len c.match-terminal.token kept c.requires.stands (view (goal.at.take_token-requires c).After-take_token-arg-1 history.tokens kept.nesting))
 
 pub returns-clause-ahead : goal.returns-clause-ahead
 returns-clause-ahead c =
-    taken_here c.args.self.now (Some (c.args.self.now.at, c.token_in-token.result, c.args.self.now.at + c.args.len)) c.pass_token.new.self c.requires.stands.stage c.requires.stands.idle
-    (λ history kept. c.pass_token.ensures.read history kept (terminal_step c.args.self.now.text.now history c.args.self.now c.args.terminal c.args.len c.token_in-token.result kept c.requires.stands c.token_in-token.ensures.token c.token_in-token.ensures.own))
+    taken_here c.args.self.now (Some c.take_token.result) c.take_token.new.self c.requires.stands.stage c.requires.stands.idle
+    (λ history kept. c.take_token.ensures.read history kept (terminal_step c.args.self.now.text.now history c.args.self.now c.args.terminal c.args.len c.match-terminal.token kept c.requires.stands (view (goal.at.returns-clause-ahead c).After-take_token-arg-1 history.tokens kept.nesting)))
 
 pub returns-clause-token : goal.returns-clause-token
 returns-clause-token c =
     let left = state_here c.args.self.now c.requires.sound c.requires.stands.stage in
-    terminal_shown _ c.args.terminal _ (c.token_in-token.ensures.token left.0.tokens left.1.nesting)
+    terminal_shown _ c.args.terminal _ (ap token_view c.take_token.ensures.token ∙ view (goal.at.returns-clause-token c).After-take_token-arg-1 left.0.tokens left.1.nesting)

@@ -18,8 +18,7 @@ returns-in-Tabs-clause-step c = λ s remainder. rw c.in-Tabs.is (InvalidTab, ref
 
 pub returns-in-Tabs-clause-reads : goal.returns-in-Tabs-clause-reads
 returns-in-Tabs-clause-reads c = λ reads.
-    let word = c.args.word.now in
-    tabs_reads (length word) (next_line word 0) (steps.Fault 0 error.InvalidTab 0) reads (refl, refl) c.requires.some (tabs_line word (c.requires.known ∙ ap Some c.in-Tabs.is))
+    tabs_reads (length c.args.word.now) (next_line c.args.word.now 0) (steps.Fault 0 error.InvalidTab 0) reads (refl, refl) c.requires.some (tabs_line c.args.word.now (c.requires.known ∙ ap Some c.in-Tabs.is))
 
 pub returns-in-Tabs-clause-leaves : goal.returns-in-Tabs-clause-leaves
 returns-in-Tabs-clause-leaves c = λ reads.
@@ -36,25 +35,15 @@ reserved_only : (it : Class) (word : Text) → IsFaultWord it word → (it ≡ c
 reserved_only class.Reserved word is tabs decimal = refl
 reserved_only class.Tabs word is tabs decimal = absurd (tabs refl)
 reserved_only class.Decimal word is tabs decimal = absurd (decimal refl)
-reserved_only class.Skipped word is tabs decimal = absurd is
-reserved_only class.LineEnd word is tabs decimal = absurd is
-reserved_only (class.Opener kind is_raw quote) word is tabs decimal = absurd is
-reserved_only class.Comment word is tabs decimal = absurd is
-reserved_only class.Identifier word is tabs decimal = absurd is
-reserved_only class.Hexadecimal word is tabs decimal = absurd is
-reserved_only class.Octal word is tabs decimal = absurd is
-reserved_only class.Binary word is tabs decimal = absurd is
-reserved_only class.Float word is tabs decimal = absurd is
-reserved_only (class.Fixed terminal) word is tabs decimal = absurd is
+reserved_only it word is tabs decimal = absurd is
 
 pub returns-in_ok-from_str-in_default : goal.returns-in_ok-from_str-in_default
 returns-in_ok-from_str-in_default c =
     let word = c.args.word.now in
     let view = ap (λ text. Some (ReservedKeyword text)) c.in_ok-from_str-in_default.ensures.ok in
     let step = steps.Fault 0 (error.ReservedKeyword c.in_ok-from_str-in_default.field-0) (length word) in
-    let reserved = reserved_only c.args.class word c.requires.fault c.in_default.not-Tabs c.in_default.not-Decimal in
     record {
-      step = λ s remainder. rw reserved (ReservedKeyword word, view, refl);
+      step = λ s remainder. rw (reserved_only c.args.class word c.requires.fault c.in_default.not-Tabs c.in_default.not-Decimal) (ReservedKeyword word, view, refl);
       reads = λ reads. word_reads (length word) (next_line word 0) step reads reads (omega arith) (omega arith) (refl, omega arith, refl);
       leaves = λ reads. step_leaves (5 * length word + 3) word (grammar.fault 0 (ReservedKeyword word) (length word)) step reads reads (ReservedKeyword word, view, refl) (word_leaves word (5 * length word + 3) (length word) (ReservedKeyword word) reads reads refl (omega (arith, c.requires.some)));
     }

@@ -1,11 +1,11 @@
-use Rattle.std.proofs.Common.{◌≡◌, ap, refl, sym, ◌∙◌, Some}
+use Rattle.std.proofs.Common.{◌≡◌, ap, refl, ◌∙◌, Some, rules}
 use Rattle.starlark_grammar.proofs.Words.Classes.{binary_digits, decimal_digits, hexadecimal_digits, octal_digits}
 use Rattle.starlark_grammar.specs.Tokens.{Float}
 use Rattle.starlark_grammar.specs.Words.{Text}
 use Rattle.starlark_grammar.specs.declared.class.Class.{Class}
 use Rattle.starlark_grammar.specs.declared.class.Class.TheVariants as class
 use Rattle.starlark_reader.specs.Inner.StepViews.{number_of}
-use Rattle.starlark_token.specs.TokenViews.{Whole, token_view}
+use Rattle.starlark_token.specs.TokenViews.{token_view}
 use Rattle.starlark_reader.proofs.reading.words.number_token.Goals as goal
 
 pub integer-requires-clause-digits : goal.integer-requires-clause-digits
@@ -35,18 +35,8 @@ float_of class.Decimal word d h o b = absurd (d refl)
 float_of class.Hexadecimal word d h o b = absurd (h refl)
 float_of class.Octal word d h o b = absurd (o refl)
 float_of class.Binary word d h o b = absurd (b refl)
-float_of class.Float word d h o b = refl
-float_of class.Skipped word d h o b = refl
-float_of class.LineEnd word d h o b = refl
-float_of (class.Opener kind is_raw quote) word d h o b = refl
-float_of class.Comment word d h o b = refl
-float_of class.Tabs word d h o b = refl
-float_of class.Reserved word d h o b = refl
-float_of class.Identifier word d h o b = refl
-float_of (class.Fixed terminal) word d h o b = refl
+float_of it word d h o b = refl
 
 pub returns-in_ok-from_str-in_default : goal.returns-in_ok-from_str-in_default
 unfolding token_view
-returns-in_ok-from_str-in_default c =
-    ap (λ text. Whole (Float text)) c.in_ok-from_str-in_default.ensures.ok
-    ∙ ap Whole (sym (float_of c.args.class c.args.word.now c.in_default.not-Decimal c.in_default.not-Hexadecimal c.in_default.not-Octal c.in_default.not-Binary))
+returns-in_ok-from_str-in_default c = search (rules, float_of)

@@ -1,16 +1,17 @@
-use Rattle.std.proofs.Common.{◌≡◌, ◌-◌, ◌++◌, None, ap, arith, length, map, subst, sym, take, true, ◌∙◌}
+use Rattle.std.proofs.Common.{◌≡◌, ◌++◌, None, ap, arith, length, map, refl, subst, sym, true, ◌∙◌, rules}
 use Rattle.std.proofs.Math.Seq.{take-length}
 use Rattle.std.proofs.lemmas.List.{length-map}
 use Rattle.starlark_base.specs.Sources.{SourceFile}
 use Rattle.starlark_grammar.specs.Cuts.{is_clean_cut, without_closing}
 use Rattle.starlark_grammar.specs.Reading.{outcome}
+use Rattle.starlark_grammar.proofs.Order.Inside.{lexemes_few}
 use Rattle.starlark_syntax.specs.LexedTexts as texts
 use Rattle.starlark_syntax.specs.LexedTexts.{IsLexed, LexedView}
 use Rattle.starlark_token.specs.Lexemes.{lexeme_view, shown_lexeme}
-use Rattle.starlark_syntax.specs.Inner.LexedTexts.{AreCuts, later, later_cut}
+use Rattle.starlark_syntax.specs.Inner.LexedTexts.{AreCuts, later_cut}
 use Rattle.starlark_syntax.proofs.LexedTexts.JoinedLists.{begun, cut_joined, joined_lexed, list_joined, no_fault}
 use Rattle.starlark_syntax.proofs.LexedTexts.KeptCuts.{count_is}
-use Rattle.starlark_syntax.proofs.LexedTexts.RelexedOutcomes.{count_near, cuts_joined, cuts_near}
+use Rattle.starlark_syntax.proofs.LexedTexts.RelexedOutcomes.{cuts_joined, cuts_near}
 use Rattle.starlark_syntax.proofs.LexedTexts.Within.{lexemes_near}
 use Rattle.starlark_syntax.proofs.lexed_text.LexedText.join.Goals as goal
 use Rattle.starlark_syntax.proofs.lexed_text.LexedText.join.Goals.{After-append_cuts, After-append_later}
@@ -22,35 +23,21 @@ pub append_cuts-requires-clause-near : goal.append_cuts-requires-clause-near
 append_cuts-requires-clause-near c = cuts_near c.second.inside.text.now c.second.inside.cuts.items c.second.invariant.0 c.second.invariant.2.each
 
 pub append_cuts-requires-clause-count : goal.append_cuts-requires-clause-count
-append_cuts-requires-clause-count c =
-    let few = count_near c.first.inside.text.now c.first.invariant.0 in
-    omega (arith, few, c.saturating_sub-kept.ensures, c.len.ensures, c.first.inside.lexemes.ok, ap length c.first.invariant.3.1.lexemes, length-map c.first.inside.lexemes.items lexeme_view, length-map (outcome c.first.inside.text.now).lexemes shown_lexeme)
+append_cuts-requires-clause-count c = search (rules, lexemes_few, length-map)
 
 -- what was made is the joined text
 made : (c : After-append_later) → record { text = c.args.joined.now; lexemes = map lexeme_view c.append_later.new.lexemes.items; fault = None; reads = 0 } ≡ texts.joined c.args.self c.args.second
-made c =
-    let kept : c.saturating_sub-kept.result ≡ length c.first.inside.lexemes.items - 1 = omega (arith, c.saturating_sub-kept.ensures, c.len.ensures, c.first.inside.lexemes.ok) in
-    let first : c.append_later.new.lexemes.items ≡ take (length c.first.inside.lexemes.items - 1) c.first.inside.lexemes.items ++ map (later (length c.first.inside.text.now)) c.second.inside.lexemes.items =
-    c.append_later.ensures ∙ ap (λ ls. take c.saturating_sub-kept.result ls ++ map (later (length c.first.inside.text.now)) c.second.inside.lexemes.items) c.make_room.ensures.same
-    ∙ ap (λ n. take n c.first.inside.lexemes.items ++ map (later (length c.first.inside.text.now)) c.second.inside.lexemes.items) kept in
-    let list = list_joined (length c.first.inside.text.now) c.first.inside.lexemes.items c.second.inside.lexemes.items c.append_later.new.lexemes.items first in
-    let whole : c.args.joined.now ≡ c.first.inside.text.now ++ c.second.inside.text.now = rw (← c.first.view_is, ← c.second.view_is) at c.requires.whole in
-    rw (← c.first.view_is, ← c.second.view_is) (
-    ap (λ text. record { text = text; lexemes = map lexeme_view c.append_later.new.lexemes.items; fault = None; reads = 0 }) whole
-    ∙ ap (λ lexemes. record { text = c.first.inside.text.now ++ c.second.inside.text.now; lexemes = lexemes; fault = None; reads = 0 }) list)
+made c = search (rules, list_joined)
 
 -- and it is what that text comes to
 lexed : (c : After-append_later) (file : SourceFile) → IsLexed file (record { text = c.args.joined.now; lexemes = map lexeme_view c.append_later.new.lexemes.items; fault = None; reads = 0 })
 lexed c file =
     let first = subst (IsLexed c.first.invariant.3.0) c.first.view_is c.first.invariant.3.1 in
-    let second = subst (IsLexed c.second.invariant.3.0) c.second.view_is c.second.invariant.3.1 in
-    subst (IsLexed file) (sym (made c)) (joined_lexed _ _ c.args.self c.args.second c.requires.clean c.requires.faultless first second file)
+    subst (IsLexed file) (sym (made c)) (joined_lexed _ _ c.args.self c.args.second c.requires.clean c.requires.faultless first (subst (IsLexed c.second.invariant.3.0) c.second.view_is c.second.invariant.3.1) file)
 
 -- with the cuts of both
 cuts : (c : After-append_cuts) → AreCuts c.args.joined.now c.append_cuts.new.cuts.items
 cuts c =
-    let one = c.first.inside.text.now in
-    let other = c.second.inside.text.now in
     let clean : is_clean_cut c.first.inside.text.now ≡ true = ap (λ (v : LexedView). is_clean_cut v.text) c.first.view_is ∙ c.requires.clean in
     let none = no_fault c.second.invariant.3.0 (outcome c.second.inside.text.now).fault c.second.inside.fault (ap (λ (v : LexedView). v.fault) c.second.view_is ∙ c.requires.faultless) c.second.invariant.3.1.fault in
     let whole : c.args.joined.now ≡ c.first.inside.text.now ++ c.second.inside.text.now = rw (← c.first.view_is, ← c.second.view_is) at c.requires.whole in
@@ -58,12 +45,9 @@ cuts c =
     omega (arith, count_is (outcome c.first.inside.text.now).lexemes, c.saturating_sub-kept.ensures, c.len.ensures, c.first.inside.lexemes.ok, ap length c.first.invariant.3.1.lexemes, length-map c.first.inside.lexemes.items lexeme_view, length-map (outcome c.first.inside.text.now).lexemes shown_lexeme) in
     let all : c.len-cuts.result ≡ length c.first.inside.cuts.items = omega (arith, c.len-cuts.ensures, c.first.inside.cuts.ok) in
     let list : c.append_cuts.new.cuts.items ≡ c.first.inside.cuts.items ++ map (later_cut (length c.first.inside.text.now) (length (without_closing (outcome c.first.inside.text.now).lexemes))) c.second.inside.cuts.items =
-    c.append_cuts.ensures ∙ ap (λ ls. take c.len-cuts.result ls ++ map (later_cut (length c.first.inside.text.now) c.saturating_sub-kept.result) c.second.inside.cuts.items) c.make_room-else-is_err.ensures.same
-    ∙ ap (λ n. take n c.first.inside.cuts.items ++ map (later_cut (length c.first.inside.text.now) c.saturating_sub-kept.result) c.second.inside.cuts.items) all
-    ∙ ap (λ ls. ls ++ map (later_cut (length c.first.inside.text.now) c.saturating_sub-kept.result) c.second.inside.cuts.items) (take-length c.first.inside.cuts.items)
-    ∙ ap (λ n. c.first.inside.cuts.items ++ map (later_cut (length c.first.inside.text.now) n) c.second.inside.cuts.items) kept in
+    rw (c.append_cuts.ensures, c.make_room-else-is_err.ensures.same, all, take-length c.first.inside.cuts.items, kept) refl in
     subst (AreCuts c.args.joined.now) (sym list) (subst (λ t. AreCuts t (c.first.inside.cuts.items ++ map (later_cut (length c.first.inside.text.now) (length (without_closing (outcome c.first.inside.text.now).lexemes))) c.second.inside.cuts.items)) (sym whole)
-    (cuts_joined one other c.first.inside.cuts.items c.second.inside.cuts.items clean (begun other none) c.first.invariant.2 c.second.invariant.2))
+    (cuts_joined c.first.inside.text.now c.second.inside.text.now c.first.inside.cuts.items c.second.inside.cuts.items clean (begun c.second.inside.text.now none) c.first.invariant.2 c.second.invariant.2))
 
 pub invariant_of-result : goal.invariant_of-result
 invariant_of-result c =

@@ -1,5 +1,4 @@
-use Rattle.starlark_syntax.proofs.LexedTexts.ListBoundaries.{lexemes_between}
-use Rattle.starlark_syntax.proofs.LexedTexts.Within.{lexemes_within}
+use Rattle.starlark_syntax.proofs.LexedTexts.Within.{lexemes_between, lexemes_within}
 use Rattle.starlark_syntax.proofs.lexed_text.LexedText.lexemes.Goals as goal
 
 pub returns-clause-within : goal.returns-clause-within

@@ -1,4 +1,4 @@
-use Rattle.std.proofs.Common.{ap, ◌∙◌, false}
+use Rattle.std.proofs.Common.{ap, ◌∙◌, false, rules}
 use Rattle.std.specs.Prelude.{◌||◌}
 use Rattle.std.proofs.Common.{Some}
 use Rattle.starlark_syntax.specs.Inner.LexerStates.{StateView}
@@ -9,26 +9,18 @@ use Rattle.starlark_syntax.proofs.PlainLexemes.{passed_going, passed_reads, symb
 use Rattle.starlark_syntax.proofs.lexemes.Lexer.next_plain.Goals as goal
 
 pub returns-in-Passed-clause-item : goal.returns-in-Passed-clause-item
-returns-in-Passed-clause-item c =
-    let going = passed_going c.self.inside.state _ c.next_plain.new.self (λ other. cc) c.in-Passed.ensures.ended in
-    let past = (c.in-Passed.ensures.passed going).1 in
-    rw (← c.self.view_is) (lexeme_item c.self.inside.state.reader.text.now c.self.inside.state.yielded_count _ past.0 past.1)
+returns-in-Passed-clause-item c = search (rules, passed_going, lexeme_item)
 
 pub returns-in-Passed-clause-reads : goal.returns-in-Passed-clause-reads
-returns-in-Passed-clause-reads c =
-    let going = passed_going c.self.inside.state _ c.next_plain.new.self (λ other. cc) c.in-Passed.ensures.ended in
-    let after = c.in-Passed.ensures.after in
-    rw (← c.self.view_is) (passed_reads c.self.inside.state c.next_plain.new.self c.in-Passed.ensures.lexing going (ap (λ (v : StateView). v.text) after) (ap (λ (v : StateView). v.has_ended) after))
+returns-in-Passed-clause-reads c = search (rules, passed_going, passed_reads)
 
 pub of_symbol-requires : goal.of_symbol-requires
 of_symbol-requires c =
-    let going = passed_going c.self.inside.state _ c.next_plain.new.self (λ other. cc) c.in-Symbol.ensures.ended in
-    (c.in-Symbol.ensures.passed going).0
+    (c.in-Symbol.ensures.passed (passed_going c.self.inside.state _ c.next_plain.new.self (λ other. cc) c.in-Symbol.ensures.ended)).0
 
 pub returns-in-Symbol-clause-item : goal.returns-in-Symbol-clause-item
 returns-in-Symbol-clause-item c =
-    let going = passed_going c.self.inside.state _ c.next_plain.new.self (λ other. cc) c.in-Symbol.ensures.ended in
-    let past = (c.in-Symbol.ensures.passed going).1 in
+    let past = (c.in-Symbol.ensures.passed (passed_going c.self.inside.state _ c.next_plain.new.self (λ other. cc) c.in-Symbol.ensures.ended)).1 in
     rw (← c.self.view_is) (lexeme_item c.self.inside.state.reader.text.now c.self.inside.state.yielded_count _ past.0 past.1 ∙ ap (λ x. Some (Given x)) (symbol_shown c.self.inside.state.reader.text.now c.in-Symbol.lexeme c.of_symbol.result (c.of_symbol.ensures.token _) c.of_symbol.ensures.places))
 
 pub returns-in-Symbol-clause-within : goal.returns-in-Symbol-clause-within
@@ -37,10 +29,7 @@ returns-in-Symbol-clause-within c =
     rw (← c.self.view_is) (symbol_inside c.self.inside.state c.in-Symbol.lexeme c.next_plain.new.self c.of_symbol.result c.self.invariant.0.0.fits (c.self.invariant.0.1 going).0 c.self.invariant.0.0.utf8 (c.in-Symbol.ensures.passed going).1 c.of_symbol.ensures.places)
 
 pub returns-in-Symbol-clause-reads : goal.returns-in-Symbol-clause-reads
-returns-in-Symbol-clause-reads c =
-    let going = passed_going c.self.inside.state _ c.next_plain.new.self (λ other. cc) c.in-Symbol.ensures.ended in
-    let after = c.in-Symbol.ensures.after in
-    rw (← c.self.view_is) (passed_reads c.self.inside.state c.next_plain.new.self c.in-Symbol.ensures.lexing going (ap (λ (v : StateView). v.text) after) (ap (λ (v : StateView). v.has_ended) after))
+returns-in-Symbol-clause-reads c = search (rules, passed_going, passed_reads)
 
 pub returns-in-Passed-clause-cut : goal.returns-in-Passed-clause-cut
 returns-in-Passed-clause-cut c =

@@ -1,13 +1,10 @@
-use Rattle.std.proofs.Common.{◌≡◌, ◌+◌, ◌≤◌, ◌^◌, arith, refl, rules}
+use Rattle.std.proofs.Common.{refl, rules}
 use Rattle.starlark_grammar.proofs.Order.Inside.{lexemes_few}
 use Rattle.starlark_syntax.proofs.FoundWords.{past_lexing}
 use Rattle.starlark_syntax.proofs.lexer_state.LexerState.item_of.Goals as goal
 
 pub overflow_add-self : goal.overflow_add-self
-overflow_add-self c =
-    let few = lexemes_few c.args.self.now.reader.text.now c.requires.taken.text.fits in
-    let small : c.args.self.now.yielded_count + 1 ≤ 2 ^ 34 = omega (arith, c.requires.taken.few, few) in
-    search (rules, small)
+overflow_add-self c = search (rules, lexemes_few)
 
 pub returns-in-Ok : goal.returns-in-Ok
 returns-in-Ok c =
@@ -19,6 +16,4 @@ returns-in-Ok c =
     }
 
 pub returns-in-Err : goal.returns-in-Err
-returns-in-Err c =
-    let none : c.args.self.now.yielded_count + 0 ≡ c.args.self.now.yielded_count = omega (arith) in
-    record { answer = rw c.in-Err.is at c.requires.taken.memory; lexing = (c.requires.taken.text, (λ on. cc), tt, (λ on. cc)); after = rw none refl }
+returns-in-Err c = search rules

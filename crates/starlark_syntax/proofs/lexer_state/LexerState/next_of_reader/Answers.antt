@@ -1,44 +1,28 @@
-use Rattle.std.proofs.Common.{true, ◌≡◌, ap, ◌+◌, ◌≤◌, ◌^◌, arith, refl, rules, subst}
+use Rattle.std.proofs.Common.{◌≡◌, Err, None, Ok, Option, Some, subst, sym, ◌∙◌}
+use Rattle.std.proofs.lemmas.Result.{IfOk-weaker, on_err_weaker}
+use Rattle.std.specs.Prelude.{IfOk, OnErr, Result}
+use Rattle.std.specs.Result.{result_transpose}
 use Rattle.starlark_grammar.specs.Reading.{outcome}
-use Rattle.starlark_reader.specs.Inner.Reader.{IsAheadAfter}
+use Rattle.starlark_reader.specs.Inner.Reader.{IsAheadAfter, IsSomething}
 use Rattle.starlark_syntax.specs.Inner.LexerStates.{left_in}
-use Rattle.starlark_syntax.proofs.FoundWords.{one_more_fits, past_lexing}
-use Rattle.starlark_syntax.proofs.LexerStates.{lexing_sound, same_lexing}
-use Rattle.starlark_syntax.proofs.LexerReads.{found_out}
-use Rattle.starlark_reader.specs.declared.lookahead.Found.TheVariants as found
+use Rattle.starlark_syntax.proofs.FoundWords.{taken_next}
+use Rattle.starlark_syntax.proofs.LexerStates.{lexing_sound}
 use Rattle.starlark_syntax.proofs.lexer_state.LexerState.next_of_reader.Goals as goal
 
-pub overflow_add-self : goal.overflow_add-self
-overflow_add-self c =
-    let small : c.args.self.now.yielded_count + 1 ≤ 2 ^ 34 = one_more_fits c.args.self.now c.requires.lexing.0.fits (c.requires.lexing.1 c.requires.going).0 in
-    search (rules, small)
+-- what is said of a result is said of what was taken
+taken_as : {T E : Type 0} (result : Result (Option T) E) (taken : Result T E) (Q : Option T → Type 0) (P : Type 0) → result_transpose result ≡ Some taken → IfOk result Q → OnErr result P → IfOk taken (λ lexeme. Q (Some lexeme)) × OnErr taken P
+taken_as {T} {E} (Ok (Some lexeme)) taken Q P is ok err = let same : ◌≡◌ {A = Result T E} (Ok lexeme) taken = cc in subst (λ (t : Result T E). IfOk t (λ lexeme. Q (Some lexeme)) × OnErr t P) same (ok, tt)
+taken_as (Ok None) taken Q P is ok err = cc
+taken_as {T} {E} (Err error) taken Q P is ok err = let same : ◌≡◌ {A = Result T E} (Err error) taken = cc in subst (λ (t : Result T E). IfOk t (λ lexeme. Q (Some lexeme)) × OnErr t P) same (tt, err)
 
-pub next-requires : goal.next-requires
-next-requires c = record { sound = lexing_sound c.args.self.now c.requires.lexing c.requires.going; found = c.requires.lexing.3 c.requires.going }
+pub read-requires : goal.read-requires
+read-requires c = record { sound = lexing_sound c.args.self.now c.requires.lexing c.requires.going; found = c.requires.lexing.3 c.requires.going; looked = c.requires.looked }
 
-pub returns-in-Ok-Some : goal.returns-in-Ok-Some
-returns-in-Ok-Some c =
+pub item_of-requires-clause-taken : goal.item_of-requires-clause-taken
+item_of-requires-clause-taken c =
+    let state = c.args.self.now in
     let inv = c.requires.lexing.1 c.requires.going in
-    let is = subst (λ given. IsAheadAfter c.args.self.now.reader.text.now given c.next.new.self (left_in c.args.self.now) (outcome c.args.self.now.reader.text.now).fault) c.in-Ok-Some.field-0-is (c.in-Ok-Some.ensures.next _ _ inv.1) in
-    record {
-      answer = is;
-      lexing = past_lexing c.args.self.now _ _ (record c.args.self.now.lookahead { found = c.looked_after-self.result }) c.next.ensures.text c.requires.lexing.0 c.requires.going is (found_out c.args.self.now.reader.text.now c.next.new.self c.args.self.now.lookahead.word c.args.self.now.lookahead.run c.looked_after-self.result c.looked_after-self.ensures is.2.is_pending c.in-Ok-Some.ensures.reads);
-      after = rw (c.next.ensures.text, c.requires.going) refl;
-    }
-
-pub returns-in-Ok-None : goal.returns-in-Ok-None
-returns-in-Ok-None c =
-    let inv = c.requires.lexing.1 c.requires.going in
-    let is = subst (λ given. IsAheadAfter c.args.self.now.reader.text.now given c.next.new.self (left_in c.args.self.now) (outcome c.args.self.now.reader.text.now).fault) c.in-Ok-None.field-0-is (c.in-Ok-None.ensures.next _ _ inv.1) in
-    let none : c.args.self.now.yielded_count + 0 ≡ c.args.self.now.yielded_count = omega (arith) in
-    record {
-      answer = c.in-Ok-None.ensures.end c.in-Ok-None.field-0-is;
-      lexing = same_lexing c.args.self.now.reader.text.now (record c.args.self.now { reader = c.next.new.self; lookahead = record c.args.self.now.lookahead { found = found.All } }) (ap (λ t. t.now) c.next.ensures.text) (c.requires.lexing.0, (λ on. (inv.0, is)), tt, (λ on. c.in-Ok-None.ensures.reads));
-      after = rw (c.next.ensures.text, c.requires.going, none) refl;
-    }
-
-pub returns-in-Err : goal.returns-in-Err
-returns-in-Err c =
-    let inv = c.requires.lexing.1 c.requires.going in
-    let none : c.args.self.now.yielded_count + 0 ≡ c.args.self.now.yielded_count = omega (arith) in
-    record { answer = c.in-Err.ensures.memory _ _ inv.1; lexing = same_lexing c.args.self.now.reader.text.now (record c.args.self.now { reader = c.next.new.self; has_ended = true; lookahead = record c.args.self.now.lookahead { found = found.All } }) (ap (λ t. t.now) c.next.ensures.text) (c.requires.lexing.0, (λ on. cc), tt, (λ on. cc)); after = rw (c.next.ensures.text, none) refl }
+    let text = state.reader.text.now in
+    let both = taken_as c.read.result c.in-Some.taken (λ given. IsAheadAfter text given c.read.new.self (left_in state) (outcome text).fault) (IsSomething (left_in state) (outcome text).fault) (sym c.transpose.ensures ∙ c.in-Some.is)
+    (IfOk-weaker c.read.result _ _ (λ given takes. takes _ _ inv.1) c.read.ensures.ahead) (on_err_weaker c.read.result (λ is. is _ _ inv.1) c.read.ensures.memory) in
+    taken_next state c.read.new.self c.in-Some.taken c.read.ensures.text c.requires.lexing c.requires.going both.0 both.1

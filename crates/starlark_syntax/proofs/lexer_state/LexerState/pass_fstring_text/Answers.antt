@@ -9,7 +9,7 @@ use Rattle.starlark_syntax.proofs.FoundWords.{one_more_fits, past_lexing}
 use Rattle.starlark_reader.proofs.TakenPieces.SameTexts.{keeps_passes, keeps_takes}
 use Rattle.starlark_syntax.proofs.LexerStates.{lexing_sound, same_lexing}
 use Rattle.starlark_syntax.proofs.LexerReads.{all_read, found_out, peeked_first, peeked_taken}
-use Rattle.starlark_syntax.proofs.PlainLexemes.{fstring_text_shown, mark_counted, mark_passed, plain_inside, waiting_in_memory}
+use Rattle.starlark_syntax.proofs.PlainLexemes.{fstring_text_shown, lexeme_waits, mark_counted, mark_passed, mark_waits, plain_inside, waiting_in_memory}
 use Rattle.starlark_syntax.specs.declared.plain_lexeme.PlainKind.TheVariants as kind
 use Rattle.starlark_token.specs.TokenViews.{TokenView, token_view}
 use Rattle.starlark_reader.specs.declared.lookahead.Found.TheVariants as found
@@ -18,8 +18,8 @@ use Rattle.starlark_syntax.proofs.lexer_state.LexerState.pass_fstring_text.Goals
 pub plain_text-requires : goal.plain_text-requires
 plain_text-requires c = record {
   sound = lexing_sound c.args.self.now c.requires.lexing c.requires.going;
-  stage = c.reads_on.ensures.stage c.if-not-reads_on.false;
-  idle = c.reads_on.ensures.idle c.if-not-reads_on.false c.args.self.now.reader.text.now (c.requires.lexing.1 c.requires.going).1.is_pending;
+  stage = c.requires.stage;
+  idle = c.requires.idle;
 }
 
 pub returns-in-Some-Err : goal.returns-in-Some-Err
@@ -31,12 +31,12 @@ returns-in-Some-Err c =
     let run = c.in-Some-Err.run' in
     let none : c.args.self.now.yielded_count + 0 ≡ c.args.self.now.yielded_count = omega (arith) in
     record {
-      passed = tt;
+      passed = record { some = λ e. cc; end = λ e. cc };
       lexing = same_lexing text (record c.args.self.now { reader = c.plain_text.new.self; lookahead = record c.args.self.now.lookahead { found = found.Text; run = run } }) (ap (λ t. t.now) c.plain_text.ensures.text) (
         c.requires.lexing.0,
         (λ going. (inv.0, c.plain_text.ensures.ahead _ _ inv.1)),
         c.requires.going,
-        (λ going. (subst (λ (t : Text). IsTextRun t run c.plain_text.new.self) (ap (λ t. t.now) c.plain_text.ensures.text) other.0, peeked_first text run (6 * run + 4) run (8 * run + 4) c.args.self.now.reader c.plain_text.new.self (c.reads_on.ensures.stage c.if-not-reads_on.false) had other.1 (omega arith) (omega arith))),
+        (λ going. (subst (λ (t : Text). IsTextRun t run c.plain_text.new.self) (ap (λ t. t.now) c.plain_text.ensures.text) other.0, peeked_first text run (6 * run + 4) run (8 * run + 4) c.args.self.now.reader c.plain_text.new.self c.requires.stage had other.1 (omega arith) (omega arith))),
       );
       after = rw (c.plain_text.ensures.text, c.requires.going, none) refl;
     }
@@ -54,16 +54,16 @@ returns-then-found-eq0 c =
     let plain = c.in-Some-Ok.found in
     let some = rw c.in-Some-Ok.field-0-is at c.in-Some-Ok.ensures.some in
     let looked = rw c.in-Some-Ok.field-0-is at c.in-Some-Ok.ensures.lookahead in
-    let peeked = peeked_first c.args.self.now.reader.text.now (plain.len + 3) (6 * plain.len + 4) (plain.len + 3) (6 * plain.len + 4) c.args.self.now.reader c.plain_text.new.self (c.reads_on.ensures.stage c.if-not-reads_on.false) had looked (omega arith) (omega arith) in
+    let peeked = peeked_first c.args.self.now.reader.text.now (plain.len + 3) (6 * plain.len + 4) (plain.len + 3) (6 * plain.len + 4) c.args.self.now.reader c.plain_text.new.self c.requires.stage had looked (omega arith) (omega arith) in
     let read = peeked_taken c.args.self.now.reader.text.now (plain.len + 3) (6 * plain.len + 4) (plain.len + plain.stop_len) c.plain_text.new.self c.pass_text_end-begin.new.self peeked (omega (arith, some.1)) (omega (arith, some.0)) c.pass_text_end-begin.ensures.passed in
     let lexeme = c.pass_text_end-begin.result in
     let count = mark_counted c.of_mark.result (token_view lexeme.1) lexeme.0 lexeme.2 c.of_mark.ensures in
-    let memory = waiting_in_memory c.of_mark.result lexeme.0 lexeme.2 in
-    record {
+    let memory = waiting_in_memory c.of_mark.result (token_view lexeme.1) lexeme.0 lexeme.2 c.of_mark.ensures in
+    lexeme_waits c.args.self.now c.of_mark.result _ (mark_waits c.of_mark.result (token_view lexeme.1) c.of_mark.ensures) (record {
       passed = mark_passed c.args.self.now c.of_mark.result lexeme _ c.requires.lexing.0.fits inv.0 c.requires.lexing.0.utf8 c.of_mark.ensures is;
       lexing = past_lexing c.args.self.now _ _ (record c.args.self.now.lookahead { found = c.looked_after-self.result }) (c.pass_text_end-begin.ensures.text ∙ c.plain_text.ensures.text) c.requires.lexing.0 c.requires.going is (found_out c.args.self.now.reader.text.now c.pass_text_end-begin.new.self c.args.self.now.lookahead.word c.args.self.now.lookahead.run c.looked_after-self.result c.looked_after-self.ensures is.2.is_pending read);
       after = rw (c.pass_text_end-begin.ensures.text, c.plain_text.ensures.text, c.requires.going, count, memory) refl;
-    }
+    })
 
 pub returns : goal.returns
 returns c =
@@ -73,7 +73,7 @@ returns c =
     let plain = c.in-Some-Ok.found in
     let some = rw c.in-Some-Ok.field-0-is at c.in-Some-Ok.ensures.some in
     let looked = rw c.in-Some-Ok.field-0-is at c.in-Some-Ok.ensures.lookahead in
-    let peeked = peeked_first c.args.self.now.reader.text.now (plain.len + 3) (6 * plain.len + 4) (plain.len + 3) (6 * plain.len + 4) c.args.self.now.reader c.plain_text.new.self (c.reads_on.ensures.stage c.if-not-reads_on.false) had looked (omega arith) (omega arith) in
+    let peeked = peeked_first c.args.self.now.reader.text.now (plain.len + 3) (6 * plain.len + 4) (plain.len + 3) (6 * plain.len + 4) c.args.self.now.reader c.plain_text.new.self c.requires.stage had looked (omega arith) (omega arith) in
     let read = peeked_taken c.args.self.now.reader.text.now (plain.len + 3) (6 * plain.len + 4) (plain.len + plain.stop_len) c.plain_text.new.self c.pass_text.new.self peeked (omega (arith, some.1)) (omega (arith, some.0)) c.pass_text.ensures.passed in
     let at = c.plain_text.new.self.at in
     let edges = rw c.plain_text.ensures.text at c.pass_text.ensures.edges in

@@ -13,7 +13,7 @@ returns c =
     let taken = c.pass_name.ensures.taken in
     let read = peeked_taken c.args.self.now.reader.text.now c.args.len (5 * c.args.len - 2) c.args.len c.args.self.now.reader c.pass_name.new.self c.requires.read (omega (arith)) (omega (arith)) (taken.1, taken.2) in
     record {
-      passed = rw (c.name.ensures, c.at-begin.ensures, c.at.ensures) (name_passed c.args.self.now c.args.self.now c.args.self.now.reader c.pass_name.new.self c.args.len (refl, refl) c.requires.text.fits c.requires.stands.stage taken.2 c.requires.ahead taken.1.0 is);
+      passed = rw (c.at-begin.ensures, c.at-end.ensures) (name_passed c.args.self.now c.args.self.now c.args.self.now.reader c.pass_name.new.self c.args.len (refl, refl) c.requires.text.fits c.requires.stands.stage taken.2 c.requires.ahead taken.1.0 is);
       lexing = past_lexing c.args.self.now _ _ c.args.self.now.lookahead c.pass_name.ensures.text c.requires.text c.requires.going is (nothing_kept c.args.self.now.reader.text.now c.pass_name.new.self c.args.self.now.lookahead c.requires.lookahead c.pass_name.ensures.code read);
       after = rw (c.pass_name.ensures.text, c.requires.going) refl;
     }

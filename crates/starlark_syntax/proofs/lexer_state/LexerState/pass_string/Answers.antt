@@ -56,7 +56,7 @@ returns-in-Err-clause-stays c = λ no.
     let at = c.requires.opener in
     let none : c.args.self.now.yielded_count + 0 ≡ c.args.self.now.yielded_count = omega (arith) in
     record {
-      passed = tt;
+      passed = record { some = λ e. cc; end = λ e. cc };
       lexing = same_lexing text (record c.args.self.now { reader = c.plain_body_len.new.self; lookahead = record { found = found.Literal; word = record { class = class.Opener literal.Text c.args.is_raw c.args.quote; len = c.args.len }; run = c.in-Err.run' } }) (ap (λ t. t.now) c.plain_body_len.ensures.text) (
         at.text,
         (λ on. (at.few, c.plain_body_len.ensures.ahead _ _ at.ahead)),

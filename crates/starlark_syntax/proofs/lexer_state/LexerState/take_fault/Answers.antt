@@ -1,4 +1,4 @@
-use Rattle.std.proofs.Common.{◌≡◌, ◌+◌, ◌≤◌, ◌^◌, arith, ap, subst, Some, rules, sym, ◌∙◌}
+use Rattle.std.proofs.Common.{◌≡◌, arith, ap, subst, Some, rules, sym, ◌∙◌}
 use Rattle.starlark_grammar.specs.AfterFaults.{restart}
 use Rattle.starlark_grammar.specs.Reading.{outcome}
 use Rattle.starlark_grammar.specs.Tokens.{Fault, Spanned}
@@ -10,43 +10,23 @@ use Rattle.starlark_syntax.proofs.FoundWords.{one_more_fits}
 use Rattle.starlark_syntax.proofs.LexerReads.{end_read}
 use Rattle.starlark_syntax.proofs.LexerStates.{none_dropped, raw_place, same_lexing}
 use Rattle.starlark_reader.specs.Inner.ReadBounds.{LeavesRepair}
-use Rattle.starlark_reader.specs.declared.lookahead.Found.TheVariants as found
 use Rattle.starlark_syntax.proofs.lexer_state.LexerState.take_fault.Goals as goal
 
 pub returns-in_err-fault-clause-last : goal.returns-in_err-fault-clause-last
-returns-in_err-fault-clause-last c = λ going.
-    let text = c.args.self.now.reader.text.now in
-    let inv = c.requires.lexing.1 going in
-    let had = end_read text c.args.self.now.reader c.args.self.now.lookahead (c.requires.end going) (c.requires.lexing.3 going) in
-    let is = c.in_err-fault.ensures.last text (left_in c.args.self.now) (outcome text).fault (c.requires.end going) inv.1 in
-    let read = c.in_err-fault.ensures.reads text (c.requires.end going) had in
-    rw c.from_residual.ensures (is.0, is.1, is.3, read.1, omega (arith, read.2))
+returns-in_err-fault-clause-last c = search (rules, end_read)
 
 pub returns-in_err-fault-clause-lexing : goal.returns-in_err-fault-clause-lexing
-returns-in_err-fault-clause-lexing c = same_lexing c.args.self.now.reader.text.now (record c.args.self.now { reader = c.take_fault.new.self; lookahead = record c.args.self.now.lookahead { found = found.All } }) (ap (λ t. t.now) c.take_fault.ensures.text) (
-  c.requires.lexing.0,
-  (λ on.
-      let inv = c.requires.lexing.1 on in
-      let is = c.in_err-fault.ensures.last c.args.self.now.reader.text.now (left_in c.args.self.now) (outcome c.args.self.now.reader.text.now).fault (c.requires.end on) inv.1 in
-      (inv.0, rw (is.0, is.1) is.2)),
-  tt,
-  (λ on.
-      let had = end_read c.args.self.now.reader.text.now c.args.self.now.reader c.args.self.now.lookahead (c.requires.end on) (c.requires.lexing.3 on) in
-      (c.in_err-fault.ensures.reads c.args.self.now.reader.text.now (c.requires.end on) had).0),
-)
+returns-in_err-fault-clause-lexing c = search (rules, same_lexing, end_read)
 
 pub overflow_add-self : goal.overflow_add-self
-overflow_add-self c =
-    let small : c.args.self.now.yielded_count + 1 ≤ 2 ^ 34 = one_more_fits c.args.self.now c.requires.lexing.0.fits (c.requires.lexing.1 c.if-self.false).0 in
-    search (rules, small)
+overflow_add-self c = search (rules, one_more_fits c.args.self.now c.requires.lexing.0.fits (c.requires.lexing.1 c.if-self.false).0)
 
 pub returns-clause-last : goal.returns-clause-last
 returns-clause-last c = λ going.
     let text = c.args.self.now.reader.text.now in
     let inv = c.requires.lexing.1 going in
-    let had = end_read text c.args.self.now.reader c.args.self.now.lookahead (c.requires.end going) (c.requires.lexing.3 going) in
     let is = c.in_ok-fault.ensures.last text (left_in c.args.self.now) (outcome text).fault (c.requires.end going) inv.1 in
-    let read = c.in_ok-fault.ensures.reads text (c.requires.end going) had in
+    let read = c.in_ok-fault.ensures.reads text (c.requires.end going) (end_read text c.args.self.now.reader c.args.self.now.lookahead (c.requires.end going) (c.requires.lexing.3 going)) in
     let it : Spanned Fault = is.1.0 in
     let raw = is.1.2 in
     let few = read.1 it.node raw.1 in

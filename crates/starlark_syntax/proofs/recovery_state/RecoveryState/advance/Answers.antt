@@ -1,16 +1,13 @@
-use Rattle.std.proofs.Common.{◌≡◌, ap, subst, ◌∙◌, drop, false}
+use Rattle.std.proofs.Common.{◌≡◌, ap, subst, ◌∙◌, drop, rules}
 use Rattle.starlark_grammar.specs.Words.{Text}
-use Rattle.starlark_syntax.specs.Inner.LexerStates.{HasFound, IsLexingIn, StateView}
+use Rattle.starlark_syntax.specs.Inner.LexerStates.{IsLexingIn, StateView}
 use Rattle.starlark_syntax.specs.Inner.RecoveryStates.{part_of}
-use Rattle.starlark_syntax.specs.declared.lexer_state.LexerState.{LexerState}
 use Rattle.starlark_syntax.proofs.RecoveryStates.{back_lexing, found_back, lent_lexing}
 use Rattle.starlark_syntax.proofs.recovery_state.RecoveryState.advance.Goals as goal
 
 pub returns-in_default-clause-lexing : goal.returns-in_default-clause-lexing
 returns-in_default-clause-lexing c =
-    let own = c.requires.is_part.own (c.copy.ensures.none.0 c.in_default.is) in
-    let text = ap (λ (v : StateView). v.text) c.next_item.ensures.after in
-    subst (λ (t : Text). IsLexingIn t c.next_item.new.self) (text ∙ own) c.next_item.ensures.lexing
+    subst (λ (t : Text). IsLexingIn t c.next_item.new.self) ((ap (λ (v : StateView). v.text) c.next_item.ensures.after) ∙ c.requires.is_part.own (c.copy.ensures.none.0 c.in_default.is)) c.next_item.ensures.lexing
 
 pub next_item-item-requires : goal.next_item-item-requires
 next_item-item-requires c =
@@ -18,17 +15,9 @@ next_item-item-requires c =
     record { lexing = lent_lexing (part_of c.args.self.now) c.args.self.now.state c.replace-lent.result c.over-state.result c.over-state.ensures.same c.replace-lent.ensures.value text c.requires.is_part.lexing }
 
 pub returns-clause-found : goal.returns-clause-found
-returns-clause-found c = λ going.
-    let text : c.over-state.result.reader.text.now ≡ part_of c.args.self.now = c.over-state.ensures.text ∙ c.range_from.ensures.value ∙ ap (drop c.args.self.now.begin) c.in-Some.ensures.some in
-    let whole = c.over-state.ensures.same in
-    let lent = c.replace-lent.ensures.value in
-    let ended : c.over-state.result.has_ended ≡ false = ap (λ (s : LexerState). s.has_ended) whole ∙ ap (λ (s : LexerState). s.has_ended) lent ∙ going in
-    let count = ap (λ (s : LexerState). s.yielded_count) whole ∙ ap (λ (s : LexerState). s.yielded_count) lent in
-    found_back (part_of c.args.self.now) c.args.self.now.state c.over-state.result c.next_item-item.new.self c.over.result c.next_item-item.result count c.over.ensures.same
-    (subst (λ (t : Text). HasFound t c.over-state.result c.next_item-item.result c.next_item-item.new.self) text (c.next_item-item.ensures.found ended))
+returns-clause-found c = search (rules, found_back)
 
 pub returns-clause-lexing : goal.returns-clause-lexing
 returns-clause-lexing c =
     let text : c.over-state.result.reader.text.now ≡ part_of c.args.self.now = c.over-state.ensures.text ∙ c.range_from.ensures.value ∙ ap (drop c.args.self.now.begin) c.in-Some.ensures.some in
-    let now = ap (λ (v : StateView). v.text) c.next_item-item.ensures.after in
-    back_lexing (part_of c.args.self.now) c.next_item-item.new.self c.over.result c.over.ensures.same (now ∙ text) c.next_item-item.ensures.lexing
+    back_lexing (part_of c.args.self.now) c.next_item-item.new.self c.over.result c.over.ensures.same ((ap (λ (v : StateView). v.text) c.next_item-item.ensures.after) ∙ text) c.next_item-item.ensures.lexing

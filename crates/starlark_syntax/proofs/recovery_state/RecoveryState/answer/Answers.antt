@@ -1,20 +1,14 @@
-use Rattle.std.proofs.Common.{◌≡◌, ◌+◌, ap, refl, subst, sym, ◌∙◌, Ok, Err, Some}
-use Rattle.starlark_syntax.specs.Inner.RecoveryStates.{IsRecovering, IsStopped, last_comment, view_of}
+use Rattle.std.proofs.Common.{◌≡◌, ◌+◌, ap, refl, subst, sym, ◌∙◌, Ok, Some, rules}
+use Rattle.starlark_syntax.specs.Inner.RecoveryStates.{IsRecovering, last_comment, view_of}
 use Rattle.starlark_syntax.specs.RecoveringLexer.{IsNextOf}
 use Rattle.starlark_syntax.specs.declared.recovery_state.RecoveryState.{RecoveryState}
 use Rattle.starlark_syntax.proofs.RecoverySteps.{fault_on, lexeme_next, lexeme_recovering, memory_next, some_goes, stopped_here}
-use Rattle.starlark_text.specs.declared.or_memory.OrMemory.TheVariants.{Memory}
 use Rattle.starlark_token.specs.TokenViews.{token_view}
 use Rattle.starlark_syntax.proofs.recovery_state.RecoveryState.answer.Goals as goal
 use Rattle.starlark_syntax.proofs.recovery_state.RecoveryState.answer.Goals.{After-record_comment}
 
 pub pass-requires : goal.pass-requires
-pass-requires c =
-    let e = rw c.in-Err-Error.field-0-is at (rw c.in-Err-Error.is at c.requires.1) in
-    let going = some_goes c.requires.0.state.has_ended (λ on. (e.ended on).0) in
-    let found = e.found going in
-    let stopped = stopped_here c.requires.0 e.recovering c.args.self.now.state c.in-Err-Error.fault going found e.lexing e.count e.ends e.own e.within e.between in
-    (found.0, subst (λ (m : RecoveryState). IsStopped m found.0) (sym e.after) stopped, found.4)
+pass-requires c = search (rules, some_goes, stopped_here)
 
 -- the state after a lexeme, by the state before it was found
 noted : (c : After-record_comment) (before : RecoveryState) → c.args.self.now ≡ record before { state = c.args.self.now.state }
@@ -37,10 +31,7 @@ returns-in-Ok-clause-next c before advanced =
     (lexeme_next before e.recovering c.args.self.now.state c.in-Ok.from c.in-Ok.token c.in-Ok.to going (e.found going) e.lexing e.count e.ends e.own _ refl e.within e.between)
 
 pub returns-in-Err-Memory-clause-next : goal.returns-in-Err-Memory-clause-next
-returns-in-Err-Memory-clause-next c before advanced =
-    let e = rw c.in-Err-Memory.field-0-is at (rw c.in-Err-Memory.is at advanced) in
-    let going = some_goes before.state.has_ended (λ on. (e.ended on).0) in
-    subst (λ (m : RecoveryState). IsNextOf (view_of before) (Some (Err Memory)) (view_of m)) (sym e.after) (memory_next before e.recovering c.args.self.now.state going (e.found going) e.lexing e.ends e.own)
+returns-in-Err-Memory-clause-next c before advanced = search (rules, some_goes, memory_next)
 
 pub returns-in-Err-Error-clause-recovering : goal.returns-in-Err-Error-clause-recovering
 returns-in-Err-Error-clause-recovering c =

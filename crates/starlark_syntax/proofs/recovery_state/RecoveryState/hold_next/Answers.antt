@@ -1,5 +1,5 @@
-use Rattle.std.proofs.Common.{sym, subst, None}
-use Rattle.starlark_syntax.specs.Inner.RecoveryStates.{IsAdvanced, IsRecovering, view_of}
+use Rattle.std.proofs.Common.{sym, subst, None, rules}
+use Rattle.starlark_syntax.specs.Inner.RecoveryStates.{IsAdvanced, view_of}
 use Rattle.starlark_syntax.specs.RecoveringLexer.{IsNextOf}
 use Rattle.starlark_syntax.specs.declared.recovery_state.RecoveryState.{RecoveryState}
 use Rattle.starlark_syntax.proofs.RecoverySteps.{nothing_next, nothing_recovering, recovering_held}
@@ -7,24 +7,16 @@ use Rattle.starlark_syntax.proofs.recovery_state.RecoveryState.hold_next.Goals a
 use Rattle.starlark_syntax.proofs.recovery_state.RecoveryState.hold_next.Goals.{After-advance}
 
 advanced : (c : After-advance) → IsAdvanced c.args.self.now c.advance.result c.advance.new.self
-advanced c =
-    let e = c.advance.ensures in
-    record { recovering = c.requires; ended = e.ended; found = e.found; lexing = e.lexing; within = e.within; between = e.between; count = e.count; ends = e.ends; own = e.own; after = e.after }
+advanced c = search rules
 
 pub answer-requires : goal.answer-requires
 answer-requires c = (c.args.self.now, rw c.in-Some.is at (advanced (goal.at.answer-requires c).After-advance))
-
-pub returns-in-Some-clause-recovering : goal.returns-in-Some-clause-recovering
-returns-in-Some-clause-recovering c = recovering_held c.answer.new.self _ c.answer.ensures.recovering
 
 pub returns-in-Some-clause-next : goal.returns-in-Some-clause-next
 returns-in-Some-clause-next c = c.answer.ensures.next c.args.self.now (rw c.in-Some.is at (advanced (goal.at.returns-in-Some-clause-next c).After-advance))
 
 pub returns-in-None-clause-recovering : goal.returns-in-None-clause-recovering
-returns-in-None-clause-recovering c =
-    let e = rw c.in-None.is at (advanced (goal.at.returns-in-None-clause-recovering c).After-advance) in
-    subst (λ (m : RecoveryState). IsRecovering (record m { held = None })) (sym e.after)
-    (recovering_held _ None (nothing_recovering c.args.self.now e.recovering c.advance.new.self.state (λ on. (e.ended on).1) e.found e.lexing e.count e.ends e.own))
+returns-in-None-clause-recovering c = search (rules, advanced, recovering_held, nothing_recovering)
 
 pub returns-in-None-clause-next : goal.returns-in-None-clause-next
 returns-in-None-clause-next c =

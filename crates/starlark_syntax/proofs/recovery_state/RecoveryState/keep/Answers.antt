@@ -1,4 +1,4 @@
-use Rattle.std.proofs.Common.{◌≡◌, ◌+◌, ◌≤◌, ap, arith, rules, subst, sym, ◌∙◌}
+use Rattle.std.proofs.Common.{◌≡◌, ◌+◌, ap, arith, refl, rules, subst, sym, ◌∙◌}
 use Rattle.std.specs.Str.{IsCharBoundary}
 use Rattle.starlark_grammar.specs.RepairLaws.{KeepsLine}
 use Rattle.starlark_grammar.specs.Repairs.{filled, repair_end, repaired}
@@ -9,22 +9,14 @@ use Rattle.starlark_syntax.proofs.RecoveryStates.{counted_few, if_not_err, kept_
 use Rattle.starlark_syntax.proofs.recovery_state.RecoveryState.keep.Goals as goal
 
 pub overflow_add-begin-4 : goal.overflow_add-begin-4
-overflow_add-begin-4 c =
-    let keeps : KeepsLine (part_of c.args.self.now) c.requires.0 = (c.requires.1.here.has, c.requires.3) in
-    let inside = repair_inside c.args.self.now c.requires.0 c.requires.1 keeps in
-    let small : c.args.self.now.begin + c.args.end ≤ 4294967296 = omega (arith, inside.1, c.requires.4) in
-    search (rules, small)
+overflow_add-begin-4 c = search (rules, repair_inside)
 
 pub repair-repaired-requires-clause-ends : goal.repair-repaired-requires-clause-ends
 repair-repaired-requires-clause-ends c =
-    let keeps : KeepsLine (part_of c.args.self.now) c.requires.0 = (c.requires.1.here.has, c.requires.3) in
-    subst (λ n. IsCharBoundary (bytes_of c.args.self.now.mended) (c.args.self.now.begin + n)) (sym c.requires.4) (repair_ends c.args.self.now c.requires.0 c.requires.1 keeps)
+    subst (λ n. IsCharBoundary (bytes_of c.args.self.now.mended) (c.args.self.now.begin + n)) (sym c.requires.4) (repair_ends c.args.self.now c.requires.0 c.requires.1 (c.requires.1.here.has, c.requires.3))
 
 pub go_on-requires-clause-fits : goal.go_on-requires-clause-fits
-go_on-requires-clause-fits c =
-    let keeps : KeepsLine (part_of c.args.self.now) c.requires.0 = (c.requires.1.here.has, c.requires.3) in
-    let inside = repair_inside c.args.self.now c.requires.0 c.requires.1 keeps in
-    omega (arith, inside.1, c.requires.4)
+go_on-requires-clause-fits c = omega (arith, (repair_inside c.args.self.now c.requires.0 c.requires.1 (c.requires.1.here.has, c.requires.3)).1, c.requires.4)
 
 pub go_on-requires-clause-few : goal.go_on-requires-clause-few
 go_on-requires-clause-few c = counted_few c.args.self.now c.requires.0 c.requires.1
@@ -33,13 +25,9 @@ pub returns : goal.returns
 returns c = λ found stopped raw line.
     let part = part_of c.args.self.now in
     let keeps : KeepsLine part found = (stopped.here.has, line) in
-    let same = one_fault part c.requires.0 found c.requires.1.here.has stopped.here.has in
-    let end : c.args.end ≡ repair_end part found = c.requires.4 ∙ ap (repair_end part) same in
-    let filled_so = if_not_err c.repair-repaired.result _ (sym c.is_err.ensures.value ∙ c.if-is_err.false) c.repair-repaired.ensures.filled in
+    let end : c.args.end ≡ repair_end part found = c.requires.4 ∙ ap (repair_end part) (one_fault part c.requires.0 found c.requires.1.here.has stopped.here.has) in
     let bytes : bytes_of c.repair-repaired.new.self ≡ filled (c.args.self.now.begin + found.begin) (c.args.self.now.begin + repair_end part found) (bytes_of c.args.self.now.mended) =
-    filled_so
-    ∙ ap (λ n. filled (c.args.self.now.begin + n) (c.args.self.now.begin + c.args.end) (bytes_of c.args.self.now.mended)) raw.0
-    ∙ ap (λ n. filled (c.args.self.now.begin + found.begin) (c.args.self.now.begin + n) (bytes_of c.args.self.now.mended)) end in
+    if_not_err c.repair-repaired.result _ (sym c.is_err.ensures.value ∙ c.if-is_err.false) c.repair-repaired.ensures.filled ∙ rw (raw.0, end) refl in
     let some = if_not_err c.repair-repaired.result _ (sym c.is_err.ensures.value ∙ c.if-is_err.false) c.repair-repaired.ensures.copied in
     let boundary : IsCharBoundary (repaired part found) c.args.end = subst (IsCharBoundary (repaired part found)) (sym end) (repaired_ends c.args.self.now found stopped keeps) in
     kept_on c.args.self.now found stopped keeps c.repair-repaired.new.self c.go_on.new.self c.saturating_add-self.result c.repair-repaired.ensures.text bytes some

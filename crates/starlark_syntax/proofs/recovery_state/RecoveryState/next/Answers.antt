@@ -1,3 +1,4 @@
+use Rattle.std.proofs.Common.{rules}
 use Rattle.starlark_syntax.specs.Inner.RecoveryStates.{IsAdvanced}
 use Rattle.starlark_syntax.proofs.RecoverySteps.{advanced_in_text, nothing_next, nothing_recovering}
 use Rattle.starlark_syntax.proofs.recovery_state.RecoveryState.next.Goals as goal
@@ -12,14 +13,10 @@ pub answer-requires : goal.answer-requires
 answer-requires c = (c.args.self.now, rw c.in_ok-item.was at (advanced (goal.at.answer-requires c).After-next_item))
 
 pub returns-in_err-item-clause-recovering : goal.returns-in_err-item-clause-recovering
-returns-in_err-item-clause-recovering c =
-    let e = rw c.in_err-item.was at (advanced (goal.at.returns-in_err-item-clause-recovering c).After-next_item) in
-    nothing_recovering c.args.self.now c.requires c.next_item.new.self (λ on. (e.ended on).1) e.found e.lexing e.count e.ends e.own
+returns-in_err-item-clause-recovering c = search (rules, advanced, nothing_recovering)
 
 pub returns-in_err-item-clause-next : goal.returns-in_err-item-clause-next
-returns-in_err-item-clause-next c =
-    let e = rw c.in_err-item.was at (advanced (goal.at.returns-in_err-item-clause-next c).After-next_item) in
-    rw c.from_residual.ensures (nothing_next c.args.self.now c.requires c.next_item.new.self (λ on. (e.ended on).1) e.found e.lexing e.count e.ends e.own)
+returns-in_err-item-clause-next c = search (rules, advanced, nothing_next)
 
 pub returns-clause-next : goal.returns-clause-next
 returns-clause-next c = c.answer.ensures.next c.args.self.now (rw c.in_ok-item.was at (advanced (goal.at.returns-clause-next c).After-next_item))

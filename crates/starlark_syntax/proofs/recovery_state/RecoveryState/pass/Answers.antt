@@ -16,9 +16,8 @@ use Rattle.starlark_syntax.proofs.recovery_state.RecoveryState.pass.Goals.{After
 lines : (c : After-keeps_line) (found : Spanned Fault) → IsStopped c.args.self.now found → IsRaw found c.args.fault → c.keeps_line.result ≡ keeps_line (part_of c.args.self.now) (outcome (part_of c.args.self.now)).lexemes found
 lines c found stopped raw =
     let part : c.range_from-part.result.now ≡ part_of c.args.self.now = c.range_from-part.ensures.value ∙ ap (λ (t : Text). drop c.args.self.now.begin t) c.as_str.ensures in
-    let here = stopped.here in
-    let passed : c.yielded_count-lexemes.result - 1 ≡ length (outcome (part_of c.args.self.now)).lexemes = omega (arith, c.yielded_count-lexemes.ensures, here.counted) in
-    let follows = c.is_end-follows_comment.ensures ∙ ap (is_end c.args.self.now.comment (c.yielded_count-lexemes.result - 1)) raw.0 ∙ ap (λ n. is_end c.args.self.now.comment n found.begin) passed ∙ sym (stopped.comment found.begin) in
+    let passed : c.args.self.now.state.yielded_count - 1 ≡ length (outcome (part_of c.args.self.now)).lexemes = omega (arith, stopped.here.counted) in
+    let follows = c.is_end-follows_comment.ensures ∙ ap (is_end c.args.self.now.comment (c.args.self.now.state.yielded_count - 1)) raw.0 ∙ ap (λ n. is_end c.args.self.now.comment n found.begin) passed ∙ sym (stopped.comment found.begin) in
     c.keeps_line.ensures ∙ ap (λ (t : Text). error_keeps_line t c.args.fault.0 c.args.fault.1 c.is_end-follows_comment.result) part
     ∙ keeps_is (part_of c.args.self.now) (outcome (part_of c.args.self.now)).lexemes found c.args.fault.0 c.args.fault.2 c.args.fault.1 c.is_end-follows_comment.result raw follows
 

@@ -1,32 +1,69 @@
--- A name is looked up among the words of its length, since no other is equal to it.
-use Rattle.std.proofs.Common.{ap, ◌∙◌, ◌++◌, arith, nat_eq, length, refl}
+-- A keyword of five letters or more is known by its bytes.
+use Rattle.std.proofs.Common.{codes, arith}
 use Rattle.starlark_grammar.specs.Words.{names}
-use Rattle.starlark_grammar.specs.declared.class.TheConstants.{NAMES}
-use Rattle.starlark_words.proofs.Scan.Listed.{among_its_length, is_other_length, other_length}
+use Rattle.starlark_words.proofs.Scan.Listed.{class_by_bytes}
 use Rattle.starlark_words.proofs.scanner.names.listing_of.Goals as goal
 
-pub returns-in-2 : goal.returns-in-2
+pub returns-in-break-terminals : goal.returns-in-break-terminals
 unfolding names
-returns-in-2 c = c.two_letters.ensures ∙ among_its_length (nat_eq 2) NAMES.0 refl c.args.name.now (ap (nat_eq 2) c.in-2.is)
+returns-in-break-terminals c = class_by_bytes c.args.name.now (codes "break") (omega arith) (search arith)
 
-pub returns-in-3 : goal.returns-in-3
+pub returns-in-async-terminals : goal.returns-in-async-terminals
 unfolding names
-returns-in-3 c = c.three_letters.ensures ∙ among_its_length (nat_eq 3) NAMES.1 refl c.args.name.now (ap (nat_eq 3) c.in-3.is)
+returns-in-async-terminals c = class_by_bytes c.args.name.now (codes "async") (omega arith) (grind arith)
 
-pub returns-in-4 : goal.returns-in-4
+pub returns-in-await-terminals : goal.returns-in-await-terminals
 unfolding names
-returns-in-4 c = c.four_letters.ensures ∙ among_its_length (nat_eq 4) NAMES.2 refl c.args.name.now (ap (nat_eq 4) c.in-4.is)
+returns-in-await-terminals c = class_by_bytes c.args.name.now (codes "await") (omega arith) (omega arith, (omega arith, (omega arith, (omega arith, (omega arith, tt)))))
 
-pub returns-in-5 : goal.returns-in-5
+pub returns-in-class-terminals : goal.returns-in-class-terminals
 unfolding names
-returns-in-5 c = c.five_letters.ensures ∙ among_its_length (nat_eq 5) NAMES.3 refl c.args.name.now (ap (nat_eq 5) c.in-5.is)
+returns-in-class-terminals c = class_by_bytes c.args.name.now (codes "class") (omega arith) (omega arith, (omega arith, (omega arith, (omega arith, (omega arith, tt)))))
 
-pub returns-in-6 : goal.returns-in-6
+pub returns-in-raise-terminals : goal.returns-in-raise-terminals
 unfolding names
-returns-in-6 c = c.six_letters.ensures ∙ among_its_length (nat_eq 6) NAMES.4 refl c.args.name.now (ap (nat_eq 6) c.in-6.is)
+returns-in-raise-terminals c = class_by_bytes c.args.name.now (codes "raise") (omega arith) (omega arith, (omega arith, (omega arith, (omega arith, (omega arith, tt)))))
 
-pub returns-in_default : goal.returns-in_default
+pub returns-in-while-terminals : goal.returns-in-while-terminals
 unfolding names
-returns-in_default c =
-    let other = other_length (length c.args.name.now) (λ e. omega (arith, e)) (λ e. omega (arith, e)) (λ e. omega (arith, e)) (λ e. omega (arith, e)) (λ e. omega (arith, e)) in
-    c.more_letters.ensures ∙ among_its_length is_other_length (NAMES.5 ++ NAMES.6) refl c.args.name.now other
+returns-in-while-terminals c = class_by_bytes c.args.name.now (codes "while") (omega arith) (omega arith, (omega arith, (omega arith, (omega arith, (omega arith, tt)))))
+
+pub returns-in-yield-terminals : goal.returns-in-yield-terminals
+unfolding names
+returns-in-yield-terminals c = class_by_bytes c.args.name.now (codes "yield") (omega arith) (omega arith, (omega arith, (omega arith, (omega arith, (omega arith, tt)))))
+
+pub returns-in-return-terminals : goal.returns-in-return-terminals
+unfolding names
+returns-in-return-terminals c = class_by_bytes c.args.name.now (codes "return") (omega arith) (omega arith, (omega arith, (omega arith, (omega arith, (omega arith, (omega arith, tt))))))
+
+pub returns-in-lambda-terminals : goal.returns-in-lambda-terminals
+unfolding names
+returns-in-lambda-terminals c = class_by_bytes c.args.name.now (codes "lambda") (omega arith) (omega arith, (omega arith, (omega arith, (omega arith, (omega arith, (omega arith, tt))))))
+
+pub returns-in-assert-terminals : goal.returns-in-assert-terminals
+unfolding names
+returns-in-assert-terminals c = class_by_bytes c.args.name.now (codes "assert") (omega arith) (omega arith, (omega arith, (omega arith, (omega arith, (omega arith, (omega arith, tt))))))
+
+pub returns-in-except-terminals : goal.returns-in-except-terminals
+unfolding names
+returns-in-except-terminals c = class_by_bytes c.args.name.now (codes "except") (omega arith) (omega arith, (omega arith, (omega arith, (omega arith, (omega arith, (omega arith, tt))))))
+
+pub returns-in-global-terminals : goal.returns-in-global-terminals
+unfolding names
+returns-in-global-terminals c = class_by_bytes c.args.name.now (codes "global") (omega arith) (omega arith, (omega arith, (omega arith, (omega arith, (omega arith, (omega arith, tt))))))
+
+pub returns-in-import-terminals : goal.returns-in-import-terminals
+unfolding names
+returns-in-import-terminals c = class_by_bytes c.args.name.now (codes "import") (omega arith) (omega arith, (omega arith, (omega arith, (omega arith, (omega arith, (omega arith, tt))))))
+
+pub returns-in-finally-terminals : goal.returns-in-finally-terminals
+unfolding names
+returns-in-finally-terminals c = class_by_bytes c.args.name.now (codes "finally") (omega arith) (omega arith, (omega arith, (omega arith, (omega arith, (omega arith, (omega arith, (omega arith, tt)))))))
+
+pub returns-in-continue-terminals : goal.returns-in-continue-terminals
+unfolding names
+returns-in-continue-terminals c = class_by_bytes c.args.name.now (codes "continue") (omega arith) (omega arith, (omega arith, (omega arith, (omega arith, (omega arith, (omega arith, (omega arith, (omega arith, tt))))))))
+
+pub returns-in-nonlocal-terminals : goal.returns-in-nonlocal-terminals
+unfolding names
+returns-in-nonlocal-terminals c = class_by_bytes c.args.name.now (codes "nonlocal") (omega arith) (search arith)

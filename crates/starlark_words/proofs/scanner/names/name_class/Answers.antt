@@ -3,5 +3,4 @@ use Rattle.std.proofs.Common.{refl}
 use Rattle.starlark_words.proofs.scanner.names.name_class.Goals as goal
 
 pub returns-then-not-may_be_listed : goal.returns-then-not-may_be_listed
-returns-then-not-may_be_listed c =
-    rw (← c.as_bytes.ensures.value, c.may_be_listed.ensures c.if-not-may_be_listed.true) refl
+returns-then-not-may_be_listed c = rw (c.may_be_listed.ensures c.if-not-may_be_listed.true) refl

@@ -1,7 +1,10 @@
 -- Without its letter there is no exponent.
-use Rattle.std.proofs.Common.{sym}
+use Rattle.std.proofs.Common.{sym, arith}
 use Rattle.starlark_words.proofs.Scan.ScannedNumbers.{exponent_none}
 use Rattle.starlark_words.proofs.scanner.numbers.exponent_len.Goals as goal
 
-pub returns-else-begins_exponent-clause-value : goal.returns-else-begins_exponent-clause-value
-returns-else-begins_exponent-clause-value c = sym (exponent_none c.args.text.now (sym c.if-begins_exponent.ensures.value))
+pub returns-in_default-clause-value : goal.returns-in_default-clause-value
+returns-in_default-clause-value c = sym (exponent_none c.args.text.now (search arith))
+
+pub returns-in_default-2-clause-value : goal.returns-in_default-2-clause-value
+returns-in_default-2-clause-value c = sym (exponent_none c.args.text.now (search arith))

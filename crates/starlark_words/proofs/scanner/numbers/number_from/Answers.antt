@@ -7,13 +7,13 @@ use Rattle.starlark_words.proofs.scanner.numbers.number_from.Goals.{then-more-eq
 
 pub returns-in-Some-clause-word : goal.returns-in-Some-clause-word
 returns-in-Some-clause-word c =
-    let whole = number_language c.args.text.now (λ b rest e. omega (arith, rw e at c.type_inv.text 0)) c.requires.number in
+    let whole = number_language c.args.text.now (λ b rest e. omega (arith, rw e at c.type_inv.text 0)) c.requires in
     let based = rw c.in-Some.is at c.based_front.ensures.value in
     sym (whole ∙ rw (← based) refl)
 
 pub returns-clause-word : goal.returns-clause-word
 returns-clause-word c =
-    let whole = number_language c.args.text.now (λ b rest e. omega (arith, rw e at c.type_inv.text 0)) c.requires.number in
+    let whole = number_language c.args.text.now (λ b rest e. omega (arith, rw e at c.type_inv.text 0)) c.requires in
     let based = rw c.in_default.is at c.based_front.ensures.value in
     let more = rw (take_rest, c.digits_len-digits.ensures.value) at c.float_end_len-more.ensures.value in
     elim c.if-more-eq0.branch [
@@ -24,6 +24,6 @@ returns-clause-word c =
 pub returns-clause-reads : goal.returns-clause-reads
 returns-clause-reads c =
     let more = rw (take_rest, c.digits_len-digits.ensures.value) at c.float_end_len-more.ensures.value in
-    let whole = number_is_long c.args.text.now c.requires.number in
+    let whole = number_is_long c.args.text.now c.requires in
     let long = rw (← more, ← c.digits_len-digits.ensures.value) at whole in
     (omega (arith, c.digits_len-digits.ensures.reads, c.float_end_len-more.ensures.reads, c.in_default.ensures.reads), omega (arith, long, c.digits_len-digits.ensures.reads, c.float_end_len-more.ensures.reads, c.float_end_len-more.ensures.few, c.in_default.ensures.reads))

@@ -1,0 +1,20 @@
+use Rattle.std.proofs.Common.{ap, refl, subst, sym}
+use Rattle.std.proofs.lemmas.Result.{on_ok_weaker}
+use Rattle.starlark_grammar.specs.Words.{Text}
+use Rattle.starlark_reader.specs.Inner.ReadBounds.{HasRead}
+use Rattle.starlark_syntax.proofs.FoundWords.{word_here}
+use Rattle.starlark_syntax.proofs.LexerReads.{peeked_begun, word_inside}
+use Rattle.starlark_syntax.proofs.LexerStates.{given_same}
+use Rattle.starlark_syntax.proofs.lexer_state.LexerState.next_word.Goals as goal
+
+pub item_of-requires-in-Opener-FString-default-default-clause-found : goal.item_of-requires-in-Opener-FString-default-default-clause-found
+item_of-requires-in-Opener-FString-default-default-clause-found c =
+    let state = c.args.self.now in
+    let here = word_here state c.args.word c.requires.lexing c.requires.going c.requires.found c.requires.word in
+    let inside = word_inside state.reader.text.now state.reader _ _ c.args.word.class c.args.word.len here.0.stage (c.requires.lexing.1 c.requires.going).1 (sym here.0.front) in
+    let peeked = rw c.in-Opener-FString-default-default.is at here.2 in
+    on_ok_weaker c.take_fstring-taken.result (λ begun. subst (λ (t : Text). HasRead t c.take_fstring-taken.new.self) (sym (ap (λ t. t.now) c.take_fstring-taken.ensures.text))
+    (peeked_begun state.reader.text.now c.args.word.len state.reader c.take_fstring-taken.new.self inside.0 peeked begun)) c.take_fstring-taken.ensures.begun
+
+pub returns-in-Some : goal.returns-in-Some
+returns-in-Some c = given_same c.args.self.now _ c.item_of-in-Some.result c.item_of-in-Some.new.self (ap (λ t. t.now) c.take_digit-lexeme.ensures.text, refl) c.item_of-in-Some.ensures
