@@ -9,7 +9,7 @@ ghost use Rattle.starlark_token.specs.Lexemes.{shown_lexeme};
 ghost use Rattle.starlark_words.specs.Inner.LiteralViews.{IsPlainBody, fstring_literal, single_literal};
 ghost use Rattle.starlark_words.specs.Inner.PlainRuns.{IsRun};
 ghost use Rattle.starlark_grammar.specs.Inner.Openings.{opening_view};
-ghost use Rattle.starlark_words.specs.Inner.ScannedWords.{begins_mark, is_common, is_number, word_len};
+ghost use Rattle.starlark_words.specs.Inner.ScannedWords.{begins_mark, is_common, is_number, peeked_len, word_len};
 ghost use Rattle.starlark_grammar.specs.Margins.{margin_of, open_widths};
 ghost use Rattle.starlark_reader.specs.Inner.MarginViews.{IsMargin, spaces_margin};
 ghost use Rattle.starlark_grammar.specs.Pieces as grammar;
@@ -676,8 +676,8 @@ impl<'a> Reader<'a> {
         ensures stands { IfSome result (λ word. IsWordHere self.new.text.now self.new word) }
         ensures none { result ≡ None → begins is_name_start (drop self.new.at self.new.text.now) ≡ false }
         ensures rest { result ≡ None → begins_mark (drop self.new.at self.new.text.now) ≡ false }
-        ensures lookahead { HasLooked (word_len result) ((5 * word_len result - 4) + 2) self.old self.new }
-        ensures two { result ≡ None → HasLooked 2 2 self.old self.new }
+        ensures lookahead { IfSome result (λ word. HasLooked word.len ((5 * word.len - 4) + 2) self.old self.new) }
+        ensures peeked { result ≡ None → HasLooked (peeked_len (drop self.new.at self.new.text.now)) (peeked_len (drop self.new.at self.new.text.now)) self.old self.new }
     {
         let gap = self.pass_spaces();
         word_after(&mut self.reads, gap, &self.text[self.at..])
@@ -697,7 +697,7 @@ impl<'a> Reader<'a> {
         ensures stands { IfSome result (IsWordHere self.new.text.now self.new) }
         ensures none { result ≡ None → language_front (drop self.new.at self.new.text.now) ≡ None }
         ensures class { begins_mark (drop self.old.at self.old.text.now) ≡ false → IfSome result (λ word. is_common word.class ≡ false) }
-        ensures lookahead { HasLookedHere (word_len result - 2) (5 * word_len result + 1) self.old self.new }
+        ensures lookahead { HasLookedHere (word_len result - peeked_len (drop self.old.at self.old.text.now)) (5 * word_len result + 3 - peeked_len (drop self.old.at self.old.text.now)) self.old self.new }
     {
         unnamed_word(&mut self.reads, &self.text[self.at..])
     }

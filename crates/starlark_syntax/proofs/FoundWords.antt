@@ -31,7 +31,7 @@ use Rattle.starlark_syntax.specs.declared.plain_lexeme.PlainKind.TheVariants as 
 use Rattle.starlark_token.specs.Lexemes.{shown_lexeme}
 use Rattle.starlark_token.specs.TokenViews.{TokenView}
 use Rattle.starlark_token.specs.declared.tokens.Token.{Token}
-use Rattle.starlark_words.specs.Inner.ScannedWords.{begins_mark}
+use Rattle.starlark_words.specs.Inner.ScannedWords.{begins_mark, peeked_len}
 use Rattle.starlark_words.specs.declared.scanner.word.Word.{Word}
 
 -- the reader took something
@@ -85,7 +85,7 @@ at_word state mid word same lexing nothing looked keeps stands =
     }
 
 -- where the first two bytes tell no word
-pub unnamed_here : (state : LexerState) (mid : Reader) → mid.text ≡ state.reader.text → IsLexing state → is_nothing state.lookahead.found ≡ true → HasLooked 2 2 state.reader mid → KeepsAhead state.reader mid → IsAtCode mid.text.now mid → begins is_name_start (drop mid.at mid.text.now) ≡ false → begins_mark (drop mid.at mid.text.now) ≡ false
+pub unnamed_here : (state : LexerState) (mid : Reader) → mid.text ≡ state.reader.text → IsLexing state → is_nothing state.lookahead.found ≡ true → HasLooked (peeked_len (drop mid.at mid.text.now)) (peeked_len (drop mid.at mid.text.now)) state.reader mid → KeepsAhead state.reader mid → IsAtCode mid.text.now mid → begins is_name_start (drop mid.at mid.text.now) ≡ false → begins_mark (drop mid.at mid.text.now) ≡ false
     → IsUnnamed (record state { reader = mid })
 unnamed_here state mid same lexing nothing looked keeps code unnamed marks =
     let text = ap (λ t. t.now) same in
@@ -100,7 +100,7 @@ unnamed_here state mid same lexing nothing looked keeps code unnamed marks =
       unnamed = unnamed;
       marks = marks;
       lookahead = nothing_is state.lookahead.found nothing;
-      read = subst (λ (t : Text). HasPeeked t 2 2 mid) (sym text) (peeked_after state.reader.text.now 2 2 2 state.reader mid quick.1.stage quick.2 looked (omega arith));
+      read = let len = peeked_len (drop mid.at mid.text.now) in subst (λ (t : Text). HasPeeked t len len mid) (sym text) (peeked_after state.reader.text.now len len len state.reader mid quick.1.stage quick.2 looked (omega arith));
     }
 
 -- what was found is stored, where the fast path doesn't pass it

@@ -1,5 +1,5 @@
 -- What lookahead has found, and what it reads.
-use Rattle.std.proofs.Common.{rules, ◌≡◌, if◌then◌else◌, ◌≢◌, ◌≤◌, ◌<◌, ◌+◌, ◌-◌, ◌*◌, Bool, List, Option, Some, true, false, ℕ, drop, ap, length, refl, subst, sym, arith}
+use Rattle.std.proofs.Common.{rules, ◌≡◌, if◌then◌else◌, ◌==◌, ◌≢◌, ◌≤◌, ◌<◌, ◌+◌, ◌-◌, ◌*◌, Bool, List, Option, Some, true, false, ℕ, drop, ap, get_or, length, refl, subst, sym, arith}
 use Rattle.std.proofs.lemmas.List.{length-drop, length-take}
 use Rattle.starlark_grammar.specs.Front.{language_front}
 use Rattle.starlark_grammar.specs.Tokens.{Fault, Spanned}
@@ -24,7 +24,7 @@ use Rattle.starlark_reader.specs.declared.reader.LineEnd.{LineEnd}
 use Rattle.starlark_reader.specs.declared.reader.LineEnd.TheVariants as line_end
 use Rattle.starlark_reader.specs.declared.reader.Reader.{Reader}
 use Rattle.starlark_reader.specs.declared.reader.Stage.TheVariants as stages
-use Rattle.starlark_words.specs.Inner.ScannedWords.{is_common}
+use Rattle.starlark_words.specs.Inner.ScannedWords.{is_common, peeked_len}
 use Rattle.starlark_reader.proofs.TakenPieces.CodePlaces.{word_len, word_some}
 use Rattle.starlark_reader.proofs.TakenPieces.PieceTaken.{left_onward}
 use Rattle.starlark_reader.proofs.TakenPieces.ReaderReads.{onward_reads}
@@ -43,6 +43,13 @@ word_inside text reader lexemes fault class len onward ahead front =
 -- those before it are few
 pub peeked_few : (text : Text) (least most : ℕ) (reader : Reader) → HasPeeked text least most reader → reader.reads ≤ 10 * reader.at + 2 + most
 peeked_few text least most reader peeked = omega (arith, peeked.1.1, peeked.2.1)
+
+pub peeked_len_few : (text : Text) → peeked_len text ≤ 3
+peeked_len_few text = go (get_or text 1 0 == get_or text 0 0)
+  where
+    go : (doubled : Bool) → (if doubled then 3 else 2) ≤ 3
+    go true = omega arith
+    go false = omega arith
 
 -- more bytes are peeked at the same offset
 pub peeked_more : (text : Text) (least most more extra at_least at_most : ℕ) (old new : Reader) → HasPeeked text least most old → HasLookedHere more extra old new → at_least ≤ least + more → most + extra ≤ at_most → HasPeeked text at_least at_most new

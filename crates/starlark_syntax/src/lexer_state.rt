@@ -19,10 +19,11 @@ ghost use Rattle.starlark_syntax.specs.Lexer.{is_ended_by, most_reads, yielded_b
 ghost use Rattle.starlark_syntax.specs.Inner.RawItems.{OffsetsHold};
 ghost use Rattle.starlark_syntax.specs.PlainLexemes.{IsPlainIn};
 ghost use Rattle.starlark_token.specs.Lexemes.{IsWithin};
-ghost use Rattle.starlark_reader.specs.Inner.Pending.{IsIdle, IsMark};
+ghost use Rattle.starlark_reader.specs.Inner.Pending.{IsIdle, IsMark, IsPending};
+ghost use Rattle.starlark_reader.specs.Inner.ReadBounds.{HasRead};
 ghost use Rattle.starlark_token.specs.TokenViews.{token_view};
 ghost use Rattle.starlark_syntax.specs.Inner.Looked.{IsFoundInCode, IsFoundOut};
-ghost use Rattle.starlark_reader.specs.Inner.Lookaheads.{IsFoundAt, IsLooked};
+ghost use Rattle.starlark_reader.specs.Inner.Lookaheads.{IsFound, IsFoundAt, IsLooked};
 ghost use Rattle.starlark_reader.specs.declared.reader.Stage.TheVariants as Stage;
 ghost use Rattle.starlark_grammar.specs.declared.class.LiteralKind.TheVariants as kind;
 
@@ -155,6 +156,20 @@ fn looked_after(reader: &Reader<'_>) -> Found
         Found::Nothing
     } else {
         Found::All
+    }
+}
+
+/// Lookahead state after the first margin. At the text's end no word begins.
+fn looked_after_margin(reader: &Reader<'_>) -> Found
+    ensures { IsPending reader.now.text.now reader.now.pending → HasRead reader.now.text.now reader.now → (word : Word) (run : ℕ) → IsFound reader.now.text.now reader.now word run result }
+{
+    if !reader.is_at_code() {
+        return Found::All;
+    }
+    if reader.at() == reader.text().len() {
+        Found::Wordless
+    } else {
+        Found::Nothing
     }
 }
 
@@ -424,11 +439,11 @@ impl<'a> LexerState<'a> {
         requires idle { IsIdle self.old.reader.text.now self.old.reader.pending }
         ensures { HasPassedWaiting self.old result self.new }
     {
-        if self.reader.read_first_margin().is_err() {
+        let Ok(()) = self.reader.read_first_margin() else {
             self.has_ended = true;
             return Waiting::OutOfMemory;
-        }
-        self.lookahead.found = looked_after(&self.reader);
+        };
+        self.lookahead.found = looked_after_margin(&self.reader);
         Waiting::Layout
     }
 

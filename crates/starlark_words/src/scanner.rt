@@ -4,7 +4,7 @@ ghost use Rattle.std.specs.Prelude.{get_or, ◌≡◌, false, ◌<◌, ◌≤◌
 ghost use Rattle.std.specs.Option.{option_map};
 ghost use Rattle.starlark_grammar.specs.Front.{language_front};
 ghost use Rattle.starlark_words.specs.Inner.Reads.{AreReads, more_reads};
-ghost use Rattle.starlark_words.specs.Inner.ScannedWords.{begins_mark, begins_number, is_common, word_len, word_view};
+ghost use Rattle.starlark_words.specs.Inner.ScannedWords.{begins_mark, begins_number, is_common, peeked_len, word_len, word_view};
 ghost use Rattle.starlark_grammar.specs.Pieces.{is_bang};
 ghost use Rattle.starlark_grammar.specs.Words as grammar;
 ghost use Rattle.starlark_grammar.specs.declared.class.Class.TheVariants as class;
@@ -45,31 +45,6 @@ pub fn gap_len(text: &str) -> usize
     1 + uncounted_spaces_len(&bytes[1..])
 }
 
-/// The longest mark at the front of a text whose first two bytes are the same. Counts `passed` reads,
-/// and that of the third byte where it is read.
-// A call: with a second `match` on the marks the lexer's step grows so large that the compiler drops
-// its hint (24 % of a mix).
-#[inline(never)]
-fn doubled_mark(reads: &mut ReadCounter, passed: usize, text: &str) -> Option<Word>
-    requires few { passed < 2 ^ 33 }
-    requires same { get_or text.now 1 0 ≡ get_or text.now 0 0 }
-    ensures word { IfSome result (λ word. Some (word_view word) ≡ language_front text.now) }
-    ensures bang { IfSome result (λ word. is_bang text.now ≡ false) }
-    ensures rest { result ≡ None → begins_mark text.now ≡ false }
-    ensures reads { AreReads (passed + (word_len result - 2)) (passed + (5 * word_len result - 4)) reads.old reads.new }
-    ensures two { result ≡ None → reads.new ≡ more_reads reads.old passed }
-{
-    let bytes = text.as_bytes();
-    let first = byte_at(bytes, 0);
-    let second = byte_at(bytes, 1);
-    if marks::mark(first, second, 0).is_none() {
-        reads.add(passed);
-        return None;
-    }
-    reads.add(passed + 1);
-    marks::mark(first, second, byte_at(bytes, 2))
-}
-
 /// The longest word after `gap` spaces if its first two bytes tell its kind: a name, a symbol, a line
 /// end, or the quote of a text literal. `None` for any other word.
 ///
@@ -84,8 +59,8 @@ pub fn word_after(reads: &mut ReadCounter, gap: usize, text: &str) -> Option<Wor
     ensures bang { IfSome result (λ word. is_bang text.now ≡ false) }
     ensures none { result ≡ None → grammar.begins grammar.is_name_start text.now ≡ false }
     ensures rest { result ≡ None → begins_mark text.now ≡ false }
-    ensures reads { AreReads (gap + word_len result) (gap + (5 * word_len result - 4) + 2) reads.old reads.new }
-    ensures two { result ≡ None → reads.new ≡ more_reads reads.old (gap + 2) }
+    ensures reads { IfSome result (λ word. AreReads (gap + word.len) (gap + (5 * word.len - 4) + 2) reads.old reads.new) }
+    ensures peeked { result ≡ None → reads.new ≡ more_reads reads.old (gap + peeked_len text.now) }
 {
     let passed = gap + 2;
     let bytes = text.as_bytes();
@@ -101,11 +76,13 @@ pub fn word_after(reads: &mut ReadCounter, gap: usize, text: &str) -> Option<Wor
         return Some(names::name_from(reads, passed, text));
     }
     let second = byte_at(bytes, 1);
-    if second != first {
-        reads.add(passed);
-        return marks::mark(first, second, 0);
-    }
-    doubled_mark(reads, passed, text)
+    let (third, passed) = if second == first {
+        (byte_at(bytes, 2), passed + 1)
+    } else {
+        (0, passed)
+    };
+    reads.add(passed);
+    marks::mark(first, second, third)
 }
 
 /// Whether a text begins with `!`, and not with `!=`.
@@ -121,17 +98,19 @@ pub fn is_bang(text: &[u8]) -> bool
 }
 
 /// The longest word at the front of a text that doesn't begin with a letter or `_`; `None` if there
-/// is none. The caller has counted the reads of the first two bytes.
+/// is none. The caller has counted the reads of the first bytes, as `word_after` does.
 #[inline(always)]
 pub fn unnamed_word(reads: &mut ReadCounter, text: &str) -> Option<Word>
     requires { grammar.begins grammar.is_name_start text.now ≡ false }
     ensures word { option_map word_view result ≡ language_front text.now }
     ensures bang { IfSome result (λ word. is_bang text.now ≡ false) }
     ensures class { begins_mark text.now ≡ false → IfSome result (λ word. is_common word.class ≡ false) }
-    ensures reads { AreReads (word_len result - 2) (5 * word_len result + 1) reads.old reads.new }
+    ensures reads { AreReads (word_len result - peeked_len text.now) (5 * word_len result + 3 - peeked_len text.now) reads.old reads.new }
 {
     let bytes = text.as_bytes();
-    reads.add(1);
+    let first = byte_at(bytes, 0);
+    let second = byte_at(bytes, 1);
+    reads.add((second != first) as usize);
     if numbers::is_digit_alone(bytes) {
         return Some(Word {
             class: Class::Decimal,
@@ -141,7 +120,6 @@ pub fn unnamed_word(reads: &mut ReadCounter, text: &str) -> Option<Word>
     if begins_number(bytes) {
         return Some(numbers::number_from(reads, bytes));
     }
-    let first = byte_at(bytes, 0);
     match first {
         b' ' => Some(Word {
             class: Class::Skipped,
@@ -155,7 +133,7 @@ pub fn unnamed_word(reads: &mut ReadCounter, text: &str) -> Option<Word>
             class: Class::Comment,
             len: 1 + front_len(reads, 0, &bytes[1..], b'\r'),
         }),
-        _ => marks::mark(first, byte_at(bytes, 1), byte_at(bytes, 2)),
+        _ => marks::mark(first, second, byte_at(bytes, 2)),
     }
 }
 

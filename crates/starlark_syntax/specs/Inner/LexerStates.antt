@@ -10,7 +10,7 @@ use Rattle.starlark_grammar.specs.Words.{Text, begins, is_name_start}
 use Rattle.starlark_grammar.specs.declared.class.Class.TheVariants as class
 use Rattle.starlark_grammar.specs.declared.class.LiteralKind.TheVariants as literal
 use Rattle.starlark_grammar.specs.declared.class.Quote.{Quote}
-use Rattle.starlark_words.specs.Inner.ScannedWords.{begins_mark}
+use Rattle.starlark_words.specs.Inner.ScannedWords.{begins_mark, peeked_len}
 use Rattle.starlark_words.specs.declared.scanner.word.Word.{Word}
 use Rattle.starlark_reader.specs.Inner.Reader.{IsAhead, IsAheadAfter, IsAheadPast, IsAtCode, IsAtEnd, IsRaw, IsSomething, IsStateAfter, IsStateAtFault, IsText, IsTokenOf, IsWordHere, begins_with_tab, has_read_none, history_of, is_fault, left_to_read}
 use Rattle.starlark_reader.specs.Inner.ReadBounds.{HasRead, LeavesRepair}
@@ -259,7 +259,7 @@ pub record IsUnnamed (state : LexerState) : Type 0 where
   pub unnamed : begins is_name_start (drop state.reader.at state.reader.text.now) ≡ false
   pub marks : begins_mark (drop state.reader.at state.reader.text.now) ≡ false
   pub lookahead : state.lookahead.found ≡ found.Nothing
-  pub read : HasPeeked state.reader.text.now 2 2 state.reader
+  pub read : HasPeeked state.reader.text.now (peeked_len (drop state.reader.at state.reader.text.now)) (peeked_len (drop state.reader.at state.reader.text.now)) state.reader
 
 -- the string literal between two offsets, by the length of its opener
 abbrev pub plain_string : (begin opener end : ℕ) → PlainLexeme

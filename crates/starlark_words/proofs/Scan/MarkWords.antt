@@ -1,15 +1,15 @@
 -- The word that is found by the first bytes of a text.
-use Rattle.std.proofs.Common.{◌≡◌, ◌≢◌, ℕ, ◌<◌, ◌≤◌, false, true, [], ◌∷◌, get_or, sym, ap, ◌∙◌, Option, None, Some, inl, inr}
-use Rattle.std.specs.Option.{is_some, option_map}
+use Rattle.std.proofs.Common.{◌≡◌, ◌≢◌, ℕ, ◌<◌, false, [], ◌∷◌, get_or, sym, ap, ◌∙◌, Option, None, Some, inl, inr}
+use Rattle.std.specs.Option.{option_map}
 use Rattle.std.specs.Prelude.{IfSome}
 use Rattle.starlark_grammar.specs.Front.{language_front}
 use Rattle.starlark_grammar.specs.Words.{Text}
 use Rattle.starlark_grammar.specs.declared.class.Class.{Class}
 use Rattle.starlark_grammar.specs.declared.class.Class.TheVariants.{LineEnd}
-use Rattle.starlark_words.specs.Inner.ScannedWords.{begins_mark, is_common_front, mark_front, word_len, word_view}
+use Rattle.starlark_words.specs.Inner.ScannedWords.{begins_mark, is_common_front, mark_front, word_view}
 use Rattle.starlark_words.specs.declared.scanner.word.Word.{Word}
 use Rattle.starlark_words.proofs.Scan.ByFirst.{word_of_mark}
-use Rattle.starlark_words.proofs.Scan.Marks.{by_two, line_feed, mark_by_three, no_longer, no_shorter}
+use Rattle.starlark_words.proofs.Scan.Marks.{by_two, line_feed, mark_by_three}
 
 -- a word that was found
 pub if_found : (found : Option Word) (front : Option (Class × ℕ)) → option_map word_view found ≡ front → IfSome found (λ word. Some (word_view word) ≡ front)
@@ -34,19 +34,6 @@ by_two_bytes text found small other is =
     nothing : (found : Option Word) → option_map word_view found ≡ None → begins_mark text ≡ false → IsWord text found
     nothing None e h = (tt, λ none. h)
     nothing (Some word) e h = cc
-
--- where the first two bytes are the same
-
-pub none_doubled : (text : Text) (found : Option Word) → get_or text 1 0 ≡ get_or text 0 0 → option_map word_view found ≡ mark_front (get_or text 0 0 ∷ get_or text 1 0 ∷ 0 ∷ []) → is_some found ≡ false → begins_mark text ≡ false
-none_doubled text None same is none =
-    let nothing : mark_front (get_or text 0 0 ∷ get_or text 1 0 ∷ get_or text 2 0 ∷ []) ≡ None = rw same (no_shorter (get_or text 0 0) (get_or text 2 0) (sym (rw same at is))) in
-    ap is_common_front (mark_by_three text ∙ nothing)
-none_doubled text (Some word) same is none = cc
-
-pub some_longer : (a b c : ℕ) (short found : Option Word) → option_map word_view short ≡ mark_front (a ∷ b ∷ 0 ∷ []) → is_some short ≡ true → option_map word_view found ≡ mark_front (a ∷ b ∷ c ∷ []) → IfSome found (λ word. 1 ≤ word.len) → 1 ≤ word_len found
-some_longer a b c None found is some longer len = cc
-some_longer a b c (Some word) None is some longer len = let none : Some (word_view word) ≡ None = is ∙ no_longer a b c (sym longer) in cc
-some_longer a b c (Some word) (Some found) is some longer len = len
 
 pub at_line_feed : (text : Text) → ((i : ℕ) → get_or text i 0 < 256) → get_or text 0 0 ≡ 10 → language_front text ≡ Some (LineEnd, 1)
 at_line_feed text small first = word_of_mark text (LineEnd, 1) small (mark_by_three text ∙ rw first (line_feed (get_or text 1 0) (get_or text 2 0)))

@@ -1,17 +1,16 @@
 -- The longest mark at the front of a text.
 use Rattle.std.proofs.Common.{◌≡◌, ◌≢◌, ℕ, suc, Bool, true, false, not, ◌&&◌, ◌||◌, ◌==◌, nat_le, [], ◌∷◌, length, get_or, refl, sym, ap, ◌∙◌, Option, None, Some, ◌⊎◌, inl, inr, arith}
-use Rattle.std.proofs.lemmas.Bool.{and_parts, eq-eqb, eqb-true, ne_eqb}
+use Rattle.std.proofs.lemmas.Bool.{and_parts, eqb-true, ne_eqb}
 use Rattle.std.proofs.lemmas.Bool.Decides.{nat_tests}
 use Rattle.std.specs.List.{list_all}
-use Rattle.std.specs.Option.{is_some, option_map}
+use Rattle.std.specs.Option.{option_map}
 use Rattle.std.specs.Prelude.{IfSome}
 use Rattle.starlark_grammar.specs.Front.{longest_front}
 use Rattle.starlark_grammar.specs.Words.{Text, line_ends, symbols}
-use Rattle.starlark_words.specs.Inner.ScannedWords.{begins_fraction, is_common, is_common_front, mark_front, mark_of, marks, word_view}
+use Rattle.starlark_words.specs.Inner.ScannedWords.{is_common, is_common_front, mark_front, mark_of, marks, word_view}
 use Rattle.starlark_grammar.specs.declared.class.Class.{Class}
 use Rattle.starlark_grammar.specs.declared.class.Class.TheVariants.{LineEnd}
 use Rattle.starlark_words.specs.declared.scanner.word.Word.{Word}
-use Rattle.starlark_grammar.proofs.Words.Fronts.{front_absent}
 use Rattle.starlark_words.proofs.Scan.Listed.{lookup_fails}
 use Rattle.starlark_words.proofs.Scan.WordFronts.{front_triple}
 
@@ -79,35 +78,6 @@ by_two a b c other = go (is_escape a b) refl
     go false e =
         let third : mark_of (a ∷ b ∷ c ∷ []) ≡ None = lookup_fails begins_triple (a ∷ b ∷ c ∷ []) marks refl (rw (ne_eqb a b (λ same. other (sym same)), e) refl) in
         inl (rw (third, zero_after_two a b) refl)
-
--- where the first two bytes are the same, a mark of three has shorter ones
-
-begins_alone : Text → Bool
-begins_alone (a ∷ b ∷ c ∷ []) = not (a == b) || is_some (mark_of (a ∷ []))
-begins_alone word = true
-
-pub no_longer : (a b c : ℕ) → mark_front (a ∷ b ∷ c ∷ []) ≡ None → mark_front (a ∷ b ∷ 0 ∷ []) ≡ None
-unfolding longest_front
-no_longer a b c none = go (begins_fraction (a ∷ b ∷ [])) refl none
-  where
-    go : (fraction : Bool) → begins_fraction (a ∷ b ∷ []) ≡ fraction → mark_front (a ∷ b ∷ c ∷ []) ≡ None → mark_front (a ∷ b ∷ 0 ∷ []) ≡ None
-    go true e none = rw e refl
-    go false e none =
-        let absent : longest_front mark_of (a ∷ b ∷ c ∷ []) ≡ None = rw e at none in
-        rw (e, zero_after_two a b, front_absent mark_of (a ∷ b ∷ c ∷ []) absent 2 (omega arith) (omega arith), front_absent mark_of (a ∷ b ∷ c ∷ []) absent 1 (omega arith) (omega arith)) refl
-
-pub no_shorter : (a c : ℕ) → mark_front (a ∷ a ∷ 0 ∷ []) ≡ None → mark_front (a ∷ a ∷ c ∷ []) ≡ None
-unfolding longest_front marks line_ends symbols begins_alone
-no_shorter a c none = go (begins_fraction (a ∷ a ∷ [])) refl none
-  where
-    go : (fraction : Bool) → begins_fraction (a ∷ a ∷ []) ≡ fraction → mark_front (a ∷ a ∷ 0 ∷ []) ≡ None → mark_front (a ∷ a ∷ c ∷ []) ≡ None
-    go true e none = rw e refl
-    go false e none =
-        let absent : longest_front mark_of (a ∷ a ∷ 0 ∷ []) ≡ None = rw e at none in
-        let one : mark_of (a ∷ []) ≡ None = front_absent mark_of (a ∷ a ∷ 0 ∷ []) absent 1 (omega arith) (omega arith) in
-        let two : mark_of (a ∷ a ∷ []) ≡ None = front_absent mark_of (a ∷ a ∷ 0 ∷ []) absent 2 (omega arith) (omega arith) in
-        let three : mark_of (a ∷ a ∷ c ∷ []) ≡ None = lookup_fails begins_alone (a ∷ a ∷ c ∷ []) marks refl (rw (eq-eqb a a refl, one) refl) in
-        rw (e, three, two, one) refl
 
 -- a line feed is a mark by itself
 pub line_feed : (b c : ℕ) → mark_front (10 ∷ b ∷ c ∷ []) ≡ Some (LineEnd, 1)

@@ -1,5 +1,5 @@
 -- Words, and the tables and tests by which the scanner finds them.
-use Rattle.std.specs.Prelude.{ℕ, Bool, true, false, not, ◌&&◌, ◌||◌, ◌==◌, if◌then◌else◌, List, [], ◌∷◌, ◌++◌, Option, None, Some, codes, unwrap_or}
+use Rattle.std.specs.Prelude.{ℕ, Bool, true, false, not, ◌&&◌, ◌||◌, ◌==◌, if◌then◌else◌, List, [], ◌∷◌, ◌++◌, Option, None, Some, codes, get_or, unwrap_or}
 use Rattle.std.specs.Map.{lookup}
 use Rattle.std.specs.Str.{bytes_eq}
 use Rattle.std.specs.Char.{is_ascii_digit}
@@ -86,6 +86,11 @@ is_common_front (Some front) = is_common front.0
 -- a symbol, a line end or a quote is at the front of the text
 abbrev pub begins_mark : grammar.Text → Bool
 begins_mark text = is_common_front (mark_front text)
+
+-- how many bytes are read to see whether a mark is at the front: the third one where it is like the
+-- first two
+abbrev pub peeked_len : grammar.Text → ℕ
+peeked_len text = if get_or text 1 0 == get_or text 0 0 then 3 else 2
 
 -- a byte that may be part of a number
 abbrev pub may_be_in_number : ℕ → Bool

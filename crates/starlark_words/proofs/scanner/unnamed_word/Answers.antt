@@ -40,7 +40,7 @@ returns-in-35-clause-word c =
     ap (λ (n : ℕ). Some (class.Comment, n)) (ap (λ n. 1 + n) found ∙ hash_line c.args.text.now first) ∙ sym (front_hash c.args.text.now first)
 
 mark_at : (c : goal.After-mark) → option_map word_view c.mark.result ≡ mark_front c.args.text.now
-mark_at c = (rw (c.byte_at-first.ensures, c.byte_at.ensures, c.byte_at-in_default.ensures, c.as_bytes-bytes.ensures.value) at c.mark.ensures.word) ∙ sym (mark_by_three c.args.text.now)
+mark_at c = (rw (c.byte_at-first.ensures, c.byte_at.ensures, c.byte_at-second.ensures, c.as_bytes-bytes.ensures.value) at c.mark.ensures.word) ∙ sym (mark_by_three c.args.text.now)
 
 pub returns-in_default-clause-word : goal.returns-in_default-clause-word
 returns-in_default-clause-word c =

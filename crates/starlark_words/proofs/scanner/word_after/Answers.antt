@@ -1,6 +1,7 @@
-use Rattle.std.proofs.Common.{◌≡◌, ◌∙◌, arith, get_or, sym}
+use Rattle.std.proofs.Common.{◌≡◌, ◌∙◌, ◌<◌, ℕ, arith, get_or, sym}
 use Rattle.starlark_words.proofs.Scan.Bangs.{no_bang_at_word}
-use Rattle.starlark_words.proofs.Scan.MarkWords.{at_line_feed, by_two_bytes}
+use Rattle.starlark_words.proofs.Scan.MarkWords.{IsWord, at_line_feed, by_three_bytes, by_two_bytes}
+use Rattle.starlark_words.proofs.scanner.word_after.Goals.{After-mark, else-second-first, then-second-first}
 use Rattle.starlark_words.proofs.scanner.word_after.Goals as goal
 
 pub returns-then-first-eq10-clause-word : goal.returns-then-first-eq10-clause-word
@@ -8,18 +9,19 @@ returns-then-first-eq10-clause-word c =
     let first : get_or c.args.text.now 0 0 ≡ 10 = rw c.as_bytes-bytes.ensures.value at (sym c.byte_at-first.ensures ∙ c.if-first-eq10.true) in
     sym (at_line_feed c.args.text.now (λ i. omega (arith, c.type_inv.text i)) first)
 
-pub returns-then-second-first-clause-word : goal.returns-then-second-first-clause-word
-returns-then-second-first-clause-word c =
-    let other = rw (c.byte_at-first.ensures, c.byte_at-second.ensures, c.as_bytes-bytes.ensures.value) at c.if-second-first.true in
-    (by_two_bytes c.args.text.now c.mark.result (λ i. omega (arith, c.type_inv.text i)) other (rw (c.byte_at-first.ensures, c.byte_at-second.ensures, c.as_bytes-bytes.ensures.value) at c.mark.ensures.word)).0
+is_word : (c : goal.After-mark) → IsWord c.args.text.now c.mark.result
+is_word c =
+    let small : (i : ℕ) → get_or c.args.text.now i 0 < 256 = λ i. omega (arith, c.type_inv.text i) in
+    elim c.if-second-first.branch [
+      | then-second-first w ↦ by_three_bytes c.args.text.now c.mark.result small (rw (w.third-is, c.byte_at-first.ensures, c.byte_at-second.ensures, w.byte_at.ensures, c.as_bytes-bytes.ensures.value) at c.mark.ensures.word)
+      | else-second-first w ↦ by_two_bytes c.args.text.now c.mark.result small (rw (c.byte_at-first.ensures, c.byte_at-second.ensures, c.as_bytes-bytes.ensures.value) at w.if-second-first.false) (rw (w.third-is, c.byte_at-first.ensures, c.byte_at-second.ensures, c.as_bytes-bytes.ensures.value) at c.mark.ensures.word)
+    ]
 
-pub returns-then-second-first-clause-bang : goal.returns-then-second-first-clause-bang
-returns-then-second-first-clause-bang c = no_bang_at_word c.args.text.now c.mark.result (returns-then-second-first-clause-word c)
+pub returns-clause-word : goal.returns-clause-word
+returns-clause-word c = (is_word c).0
 
-pub returns-then-second-first-clause-rest : goal.returns-then-second-first-clause-rest
-returns-then-second-first-clause-rest c =
-    let other = rw (c.byte_at-first.ensures, c.byte_at-second.ensures, c.as_bytes-bytes.ensures.value) at c.if-second-first.true in
-    (by_two_bytes c.args.text.now c.mark.result (λ i. omega (arith, c.type_inv.text i)) other (rw (c.byte_at-first.ensures, c.byte_at-second.ensures, c.as_bytes-bytes.ensures.value) at c.mark.ensures.word)).1
+pub returns-clause-bang : goal.returns-clause-bang
+returns-clause-bang c = no_bang_at_word c.args.text.now c.mark.result (is_word c).0
 
-pub doubled_mark-requires-clause-same : goal.doubled_mark-requires-clause-same
-doubled_mark-requires-clause-same c = rw (c.byte_at-first.ensures, c.byte_at-second.ensures, c.as_bytes-bytes.ensures.value) at c.if-second-first.false
+pub returns-clause-rest : goal.returns-clause-rest
+returns-clause-rest c = (is_word c).1

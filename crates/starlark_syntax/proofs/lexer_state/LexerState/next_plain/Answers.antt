@@ -28,7 +28,7 @@ returns-in-Fixed c =
 
 pub look_further-requires : goal.look_further-requires
 look_further-requires c =
-    unnamed_here c.loop-self.self c.common_word.new.self c.common_word.ensures.text c.loop-self.invariant.lexing (sym c.is_nothing.ensures ∙ c.if-not-is_nothing.false) (c.common_word.ensures.two c.in_default.is) c.common_word.ensures.ahead c.common_word.ensures.code (c.common_word.ensures.none c.in_default.is) (c.common_word.ensures.rest c.in_default.is)
+    unnamed_here c.loop-self.self c.common_word.new.self c.common_word.ensures.text c.loop-self.invariant.lexing (sym c.is_nothing.ensures ∙ c.if-not-is_nothing.false) (c.common_word.ensures.peeked c.in_default.is) c.common_word.ensures.ahead c.common_word.ensures.code (c.common_word.ensures.none c.in_default.is) (c.common_word.ensures.rest c.in_default.is)
 
 pub pass_literal-requires : goal.pass_literal-requires
 pass_literal-requires c =
