@@ -314,47 +314,6 @@ impl<'a> LexerState<'a> {
         }
     }
 
-    /// Passes the string literal here, whose opener has `len` bytes, if it has no escapes and one quote
-    /// closes it. Returns whether it was passed.
-    ///
-    /// Lookahead is all spent before, and nothing is looked at after it is passed.
-    // A result in a register: one in memory costs each lexeme (8 % of a mix).
-    #[inline(never)]
-    fn pass_string(&mut self, is_raw: bool, quote: Quote, len: usize) -> bool
-        requires opener { IsAtOpener (record self.old { lookahead = record self.old.lookahead { found = Found.Nothing } }) is_raw quote len }
-        requires all { self.old.lookahead.found ≡ Found.All }
-        ensures passed { result ≡ true → HasPassedNext self.old (FastPath.Passed (plain_string self.old.reader.at len self.new.reader.at)) self.new }
-        ensures closed { result ≡ true → self.old.reader.at + len < self.new.reader.at }
-        ensures stays { result ≡ false → HasPassedNext self.old FastPath.Undecided self.new }
-    {
-        match self
-            .reader
-            .plain_body_len(LiteralKind::Text, is_raw, quote, len)
-        {
-            Ok(body) => {
-                self.reader.pass_plain_text(is_raw, quote, len, body);
-                self.yielded_count += 1;
-                self.lookahead.found = Found::Nothing;
-                true
-            }
-            Err(run) => {
-                self.lookahead = Lookahead {
-                    found: Found::Literal,
-                    word: Word {
-                        class: Class::Opener {
-                            kind: LiteralKind::Text,
-                            is_raw,
-                            quote,
-                        },
-                        len,
-                    },
-                    run,
-                };
-                false
-            }
-        }
-    }
-
     /// Passes the first pending comment. Returns the offsets where it begins and ends.
     // A call that returns two registers: a result in memory costs each lexeme.
     #[inline(never)]
@@ -476,7 +435,7 @@ impl<'a> LexerState<'a> {
     }
 
     /// Passes the name of `len` bytes here.
-    // Always, as `pass_symbol` and `pass_literal`: as plain `inline` these are calls (39 % of a mix).
+    // Always, as `pass_symbol` and `pass_string`: as plain `inline` these are calls (39 % of a mix).
     #[inline(always)]
     fn pass_name(&mut self, len: usize) -> FastPath
         requires { IsAtWord self.old (record { class = Class.Identifier; len = len }) }
@@ -509,25 +468,43 @@ impl<'a> LexerState<'a> {
 
     /// Passes the string literal whose opener of `len` bytes is here, if it has no escapes and one
     /// quote closes it.
-    // Lookahead is spent before the call: else each lexeme takes 15 instructions more.
+    // Always: as a call it costs 3 % of BUILD files.
     #[inline(always)]
-    fn pass_literal(&mut self, is_raw: bool, quote: Quote, len: usize) -> FastPath
+    fn pass_string(&mut self, is_raw: bool, quote: Quote, len: usize) -> FastPath
         requires { IsAtOpener self.old is_raw quote len }
         ensures { HasPassedNext self.old result self.new }
     {
         let begin = self.reader.at();
-        self.lookahead.found = Found::All;
-        if !self.pass_string(is_raw, quote, len) {
-            return FastPath::Undecided;
+        match self
+            .reader
+            .plain_body_len(LiteralKind::Text, is_raw, quote, len)
+        {
+            Ok(body) => {
+                self.reader.pass_plain_text(is_raw, quote, len, body);
+                self.yielded_count += 1;
+                let end = self.reader.at();
+                FastPath::Passed(PlainLexeme {
+                    kind: PlainKind::String,
+                    begin,
+                    end,
+                    value_begin: begin + len,
+                    value_end: end - 1,
+                })
+            }
+            Err(run) => {
+                let class = Class::Opener {
+                    kind: LiteralKind::Text,
+                    is_raw,
+                    quote,
+                };
+                self.lookahead = Lookahead {
+                    found: Found::Literal,
+                    word: Word { class, len },
+                    run,
+                };
+                FastPath::Undecided
+            }
         }
-        let end = self.reader.at();
-        FastPath::Passed(PlainLexeme {
-            kind: PlainKind::String,
-            begin,
-            end,
-            value_begin: begin + len,
-            value_end: end - 1,
-        })
     }
 
     /// Finds the word here, where the first two bytes tell none. Passes it if it is skipped, and returns
@@ -632,7 +609,7 @@ impl<'a> LexerState<'a> {
                     kind: LiteralKind::Text,
                     is_raw,
                     quote,
-                } => return self.pass_literal(is_raw, quote, len),
+                } => return self.pass_string(is_raw, quote, len),
                 Class::Skipped => self.reader.pass_gap(len),
                 _ => {
                     self.lookahead.found = Found::Word;

@@ -10,11 +10,9 @@ use crate::lanes::LANES;
 use crate::reads::ReadCounter;
 use std::simd::prelude::*;
 
-/// Bytes of a line before its first step of 16: its first one, and the four after that.
+/// Bytes of a line that are read one by one before the first SIMD step.
+// After fewer a step would read more than `most_front_reads` has room for.
 const ALONE: usize = 5;
-
-/// Bytes in one SIMD step of a long line.
-const WIDE_LANES: usize = 64;
 
 /// Number of bytes before the first LF or `other` byte, or all of them, one byte at a time. The
 /// caller has to count the reads.
@@ -41,32 +39,6 @@ fn front_ends(text: &[u8], at: usize, other: u8) -> u64
 {
     let lanes = u8x16::from_slice(&text[at..]);
     let ends = lanes.simd_eq(u8x16::splat(other)) | lanes.simd_eq(u8x16::splat(b'\n'));
-    ends.to_bitmask()
-}
-
-/// The LFs and `other` bytes among the 64 bytes from `at` on, as a mask: the lowest bit is the
-/// first byte's. The caller has to count the reads.
-#[inline(always)]
-fn wide_ends(text: &[u8], at: usize, other: u8) -> u64
-    requires { at + 64 ≤ length text.now }
-    ensures none { result ≡ 0 → prefix_len (is_in_front other) (take 64 (drop at text.now)) ≡ 64 }
-    ensures some { 0 < result → (trailing_zeros w64 result ≡ prefix_len (is_in_front other) (take 64 (drop at text.now))) × (trailing_zeros w64 result < 64) }
-{
-    let lanes = u8x64::from_slice(&text[at..]);
-    let ends = lanes.simd_eq(u8x64::splat(other)) | lanes.simd_eq(u8x64::splat(b'\n'));
-    ends.to_bitmask()
-}
-
-/// The LFs and `other` bytes among the four bytes from `at` on, as a mask: the lowest bit is the
-/// first byte's. The caller has to count the reads.
-#[inline(always)]
-fn four_ends(text: &[u8], at: usize, other: u8) -> u64
-    requires { at + 4 ≤ length text.now }
-    ensures none { result ≡ 0 → prefix_len (is_in_front other) (take 4 (drop at text.now)) ≡ 4 }
-    ensures some { 0 < result → (trailing_zeros w64 result ≡ prefix_len (is_in_front other) (take 4 (drop at text.now))) × (trailing_zeros w64 result < 4) }
-{
-    let lanes = u8x4::from_slice(&text[at..]);
-    let ends = lanes.simd_eq(u8x4::splat(other)) | lanes.simd_eq(u8x4::splat(b'\n'));
     ends.to_bitmask()
 }
 
@@ -110,65 +82,9 @@ fn long_front_len(
     }
 }
 
-/// Number of bytes before the first LF or `other` byte of a text of 16 bytes or more, or all of
-/// them, if the first `from` bytes have none.
-///
-/// It reads 64 bytes at a time. Where fewer are left it reads 16 at a time. Counts `passed` reads
-/// besides.
-#[inline(always)]
-fn wide_front_len(
-    reads: &mut ReadCounter,
-    passed: usize,
-    text: &[u8],
-    other: u8,
-    from: usize,
-) -> usize
-    requires fits { passed + length text.now < 2 ^ 64 - 16 }
-    requires long { 16 ≤ length text.now }
-    requires none { prefix_len (is_in_front other) text.now ≡ from + prefix_len (is_in_front other) (drop from text.now) }
-    requires inside { from ≤ length text.now }
-    ensures value { result ≡ prefix_len (is_in_front other) text.now }
-    ensures within { result ≤ length text.now }
-    ensures reads { AreReads (passed + (result + 1)) (passed + (result + 64)) reads.old reads.new }
-{
-    let mut at = from;
-    while at + WIDE_LANES <= text.len() {
-        let ends = wide_ends(text, at, other);
-        if ends != 0 {
-            reads.add(passed + at + WIDE_LANES);
-            return at + ends.trailing_zeros() as usize;
-        }
-        at += WIDE_LANES;
-    }
-    long_front_len(reads, passed, text, other, at)
-}
-
-/// Number of bytes before the first LF or `other` byte of a text of 85 bytes or more, or all of
-/// them, if the first five bytes have none.
-///
-/// It reads the next 16 bytes, and then 64 at a time. Counts `passed` reads besides.
-// The first step has 16 bytes: `most_front_reads` has no room for 64 before offset 16.
-#[inline(always)]
-fn far_front_len(reads: &mut ReadCounter, passed: usize, text: &[u8], other: u8) -> usize
-    requires fits { passed + length text.now < 2 ^ 64 - 16 }
-    requires long { 85 ≤ length text.now }
-    requires none { prefix_len (is_in_front other) text.now ≡ 5 + prefix_len (is_in_front other) (drop 5 text.now) }
-    ensures value { result ≡ prefix_len (is_in_front other) text.now }
-    ensures within { result ≤ length text.now }
-    ensures reads { AreReads (passed + (result + 1)) (passed + most_front_reads result text.now) reads.old reads.new }
-{
-    let ends = front_ends(text, ALONE, other);
-    if ends != 0 {
-        reads.count_run_and_lanes(passed + ALONE);
-        return ALONE + ends.trailing_zeros() as usize;
-    }
-    wide_front_len(reads, passed, text, other, ALONE + LANES)
-}
-
 /// Number of bytes before the first LF or `other` byte of a text, or all of them.
 ///
-/// It reads the first byte, the next four together, and then 16 at a time. In a text of 85 bytes
-/// or more it reads 64 at a time after the first 21. Counts `passed` reads besides.
+/// It reads five bytes one by one, and then 16 at a time. Counts `passed` reads besides.
 #[inline(always)]
 pub fn front_len(reads: &mut ReadCounter, passed: usize, text: &[u8], other: u8) -> usize
     requires { passed + length text.now < 2 ^ 64 - 16 }
@@ -181,17 +97,10 @@ pub fn front_len(reads: &mut ReadCounter, passed: usize, text: &[u8], other: u8)
         reads.count_run(passed + len);
         return len;
     }
-    if text[0] == other || text[0] == b'\n' {
-        reads.count_run(passed);
-        return 0;
+    let len = short_front_len(&text[..ALONE], other);
+    if len < ALONE {
+        reads.count_run(passed + len);
+        return len;
     }
-    let ends = four_ends(text, 1, other);
-    if ends != 0 {
-        reads.count_run(passed + 4);
-        return 1 + ends.trailing_zeros() as usize;
-    }
-    if text.len() < ALONE + LANES + WIDE_LANES {
-        return long_front_len(reads, passed, text, other, ALONE);
-    }
-    far_front_len(reads, passed, text, other)
+    long_front_len(reads, passed, text, other, ALONE)
 }

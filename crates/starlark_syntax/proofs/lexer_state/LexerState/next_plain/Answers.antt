@@ -30,8 +30,8 @@ pub look_further-requires : goal.look_further-requires
 look_further-requires c =
     unnamed_here c.loop-self.self c.common_word.new.self c.common_word.ensures.text c.loop-self.invariant.lexing (sym c.is_nothing.ensures ∙ c.if-not-is_nothing.false) (c.common_word.ensures.peeked c.in_default.is) c.common_word.ensures.ahead c.common_word.ensures.code (c.common_word.ensures.none c.in_default.is) (c.common_word.ensures.rest c.in_default.is)
 
-pub pass_literal-requires : goal.pass_literal-requires
-pass_literal-requires c =
+pub pass_string-requires : goal.pass_string-requires
+pass_string-requires c =
     let opener = c.in-Opener-Text-default-default in
     let state = record c.loop-self.self { reader = c.common_word.new.self } in
     let kind = rw opener.is at opener.kind-is in
@@ -40,7 +40,7 @@ pass_literal-requires c =
 
 pub returns-in-Opener-Text-default-default : goal.returns-in-Opener-Text-default-default
 returns-in-Opener-Text-default-default c =
-    let since = passed_since c.args.self.now c.loop-self.self c.common_word.new.self c.pass_literal.result c.pass_literal.new.self c.loop-self.invariant (still_going c.loop-self.self c.loop-self.invariant.lexing (sym c.is_nothing.ensures ∙ c.if-not-is_nothing.false)) c.common_word.ensures.text c.pass_literal.ensures in
+    let since = passed_since c.args.self.now c.loop-self.self c.common_word.new.self c.pass_string.result c.pass_string.new.self c.loop-self.invariant (still_going c.loop-self.self c.loop-self.invariant.lexing (sym c.is_nothing.ensures ∙ c.if-not-is_nothing.false)) c.common_word.ensures.text c.pass_string.ensures in
     record { ended = since.ended; passed = since.passed; lexing = since.lexing; after = since.after }
 
 pub loop-self-preserved-in-Passed : goal.loop-self-preserved-in-Passed

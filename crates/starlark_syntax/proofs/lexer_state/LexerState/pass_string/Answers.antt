@@ -13,19 +13,19 @@ use Rattle.starlark_syntax.specs.declared.plain_lexeme.PlainKind.TheVariants as 
 use Rattle.starlark_syntax.proofs.PlainLexemes.{plain_inside, reader_boundary, string_shown}
 use Rattle.starlark_syntax.proofs.LexerStates.{same_lexing}
 use Rattle.starlark_syntax.proofs.FoundWords.{one_more_fits, past_lexing}
-use Rattle.starlark_syntax.proofs.LexerReads.{opened_found, peeked_more, peeked_taken}
+use Rattle.starlark_syntax.proofs.LexerReads.{nothing_kept, opened_found, peeked_more, peeked_taken}
 use Rattle.starlark_syntax.proofs.lexer_state.LexerState.pass_string.Goals as goal
 
 pub overflow_add-self : goal.overflow_add-self
 overflow_add-self c =
-    let at = c.requires.opener in
+    let at = c.requires in
     let small : c.args.self.now.yielded_count + 1 ≤ 2 ^ 34 = one_more_fits c.args.self.now at.text.fits at.few in
     search (rules, small)
 
-pub returns-in-Ok-clause-passed : goal.returns-in-Ok-clause-passed
-returns-in-Ok-clause-passed c = λ yes.
+pub returns-in-Ok : goal.returns-in-Ok
+returns-in-Ok c =
     let text = c.args.self.now.reader.text.now in
-    let at = c.requires.opener in
+    let at = c.requires in
     let body = c.in-Ok.body in
     let len = c.args.len in
     let mid = c.plain_body_len.new.self in
@@ -39,21 +39,21 @@ returns-in-Ok-clause-passed c = λ yes.
     let value = rw c.plain_body_len.ensures.text at c.pass_plain_text.ensures.value in
     let to : mid.at + len + body ≡ c.pass_plain_text.new.self.at - 1 = omega (arith, taken.1.0) in
     record {
-      passed = (
+      passed = rw (c.at-begin.ensures, c.at-end.ensures) (
         plain_inside text kind.String c.args.self.now.reader.at c.pass_plain_text.new.self.at (c.args.self.now.reader.at + len) (c.pass_plain_text.new.self.at - 1) at.text.fits
             (omega (arith, same, taken.1.0)) (omega (arith, same, taken.1.0)) first last
             (subst (λ n. IsCharBoundary text (n + len)) same value.0) (subst (IsCharBoundary text) to value.1),
         subst (λ (lexeme : Spanned TokenView). IsAheadPast text lexeme c.pass_plain_text.new.self (left_in c.args.self.now) (outcome text).fault)
             (string_shown text c.args.self.now.reader.at mid.at len body c.pass_plain_text.new.self.at same taken.1.0) is,
       );
-      lexing = past_lexing c.args.self.now _ _ (record c.args.self.now.lookahead { found = found.Nothing }) (c.pass_plain_text.ensures.text ∙ c.plain_body_len.ensures.text) at.text at.going is (rw c.plain_body_len.ensures.text at c.pass_plain_text.ensures.code, read);
+      lexing = past_lexing c.args.self.now _ _ c.args.self.now.lookahead (c.pass_plain_text.ensures.text ∙ c.plain_body_len.ensures.text) at.text at.going is (nothing_kept text c.pass_plain_text.new.self c.args.self.now.lookahead at.lookahead (rw c.plain_body_len.ensures.text at c.pass_plain_text.ensures.code) read);
       after = rw (c.pass_plain_text.ensures.text, c.plain_body_len.ensures.text, at.going) refl;
     }
 
-pub returns-in-Err-clause-stays : goal.returns-in-Err-clause-stays
-returns-in-Err-clause-stays c = λ no.
+pub returns-in-Err : goal.returns-in-Err
+returns-in-Err c =
     let text = c.args.self.now.reader.text.now in
-    let at = c.requires.opener in
+    let at = c.requires in
     let none : c.args.self.now.yielded_count + 0 ≡ c.args.self.now.yielded_count = omega (arith) in
     record {
       passed = record { some = λ e. cc; end = λ e. cc };
@@ -65,6 +65,3 @@ returns-in-Err-clause-stays c = λ no.
       );
       after = rw (c.plain_body_len.ensures.text, at.going, none) refl;
     }
-
-pub returns-in-Ok-clause-closed : goal.returns-in-Ok-clause-closed
-returns-in-Ok-clause-closed c = λ yes. omega (arith, c.in-Ok.ensures.lookahead.0, c.pass_plain_text.ensures.taken.1.0)
