@@ -674,6 +674,7 @@ impl<'a> Reader<'a> {
         ensures onward { left_to_read self.old.text.now self.new self.new.stage ≤ left_to_read self.old.text.now self.old self.old.stage }
         ensures code { IsAtCode self.new.text.now self.new }
         ensures stands { IfSome result (λ word. IsWordHere self.new.text.now self.new word) }
+        ensures comment { IfSome result (λ word. word.class ≢ class.Comment) }
         ensures none { result ≡ None → begins is_name_start (drop self.new.at self.new.text.now) ≡ false }
         ensures rest { result ≡ None → begins_mark (drop self.new.at self.new.text.now) ≡ false }
         ensures lookahead { IfSome result (λ word. HasLooked word.len ((5 * word.len - 4) + 2) self.old self.new) }
@@ -767,21 +768,18 @@ impl<'a> Reader<'a> {
         self.step_over(len, Before::Other);
     }
 
-    /// Takes the comment of `len` bytes here. Don't use the reader after an `AllocError`.
+    /// Passes the comment of `len` bytes here.
     #[inline(always)]
-    pub fn take_comment(&mut self, len: usize) -> Result<Lexeme, AllocError>
+    pub fn pass_comment(&mut self, len: usize)
         requires sound { IsSound self.old }
         requires stands { IsWordHere self.old.text.now self.old (record { class = class.Comment; len = len }) }
         ensures text { self.new.text ≡ self.old.text }
-        ensures ahead { IfOk result (λ given. TakesNext self.old (Some given) self.new) }
-        ensures memory { OnErr result (HasSomething self.old) }
-        ensures code { OnOk result (IsAtCode self.new.text.now self.new) }
-        ensures taken { OnOk result (IsTaken len self.old self.new) }
+        ensures ahead { PassesNext self.old (comment_lexeme self.old.text.now self.old.at (self.old.at + len)) self.new }
+        ensures value { IsCharBoundary self.old.text.now (self.old.at + 1) }
+        ensures code { IsAtCode self.old.text.now self.new }
+        ensures taken { IsTaken len self.old self.new }
     {
-        let rest = &self.text[self.at..];
-        let word = &rest[..len];
-        let token = Token::Comment(String::from_str(self.alloc, &word[1..])?);
-        Ok(self.take_token(token, len))
+        self.step_over(len, Before::Other);
     }
 
     /// Length in bytes of the next literal's body, if it has no escapes and one quote closes it.

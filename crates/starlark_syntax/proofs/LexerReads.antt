@@ -129,17 +129,18 @@ end_read text reader it end is = go it.found is
     go now is = absurd (subst IsOver is.0.stage end.1)
 
 -- a word that its first two bytes don't tell
-pub slow_word : (word : Word) → is_common word.class ≡ false → word.class ≢ class.Skipped → (is_slow word.class ≡ true) × (5 * word.len + 3 ≤ most_peeked word)
+pub slow_word : (word : Word) → is_common word.class ≡ false → word.class ≢ class.Skipped → word.class ≢ class.Comment → (is_slow word.class ≡ true) × (5 * word.len + 3 ≤ most_peeked word)
 slow_word word = go word.class
   where
-    go : (it : Class) → is_common it ≡ false → it ≢ class.Skipped → (is_slow it ≡ true) × (5 * word.len + 3 ≤ most_peeked (record { class = it; len = word.len }))
-    go class.Skipped common other = absurd (other refl)
-    go class.LineEnd common other = cc
-    go (class.Opener kind is_raw quote) common other = cc
-    go class.Reserved common other = cc
-    go class.Identifier common other = cc
-    go (class.Fixed terminal) common other = cc
-    go it common other = (refl, omega arith)
+    go : (it : Class) → is_common it ≡ false → it ≢ class.Skipped → it ≢ class.Comment → (is_slow it ≡ true) × (5 * word.len + 3 ≤ most_peeked (record { class = it; len = word.len }))
+    go class.Skipped common gap comment = absurd (gap refl)
+    go class.Comment common gap comment = absurd (comment refl)
+    go class.LineEnd common gap comment = cc
+    go (class.Opener kind is_raw quote) common gap comment = cc
+    go class.Reserved common gap comment = cc
+    go class.Identifier common gap comment = cc
+    go (class.Fixed terminal) common gap comment = cc
+    go it common gap comment = (refl, omega arith)
 
 -- where the reader gives the lexeme
 pub all_read : (text : Text) (reader : Reader) (it : Lookahead) → it.found ≡ found.All → IsFoundAt text reader it → HasRead text reader

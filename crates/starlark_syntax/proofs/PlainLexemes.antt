@@ -171,6 +171,10 @@ pub lexeme_waits : (old : LexerState) (it : Waiting) (new : LexerState) → it �
 lexeme_waits old waiting.Layout new other is = absurd (other refl)
 lexeme_waits old it new other is = is
 
+pub waits_lexeme : (old : LexerState) (it : Waiting) (new : LexerState) → it ≢ waiting.Layout → HasPassedWaiting old it new → HasPassedNext old (passed_as it new.passed_begin new.passed_end) new
+waits_lexeme old waiting.Layout new other is = absurd (other refl)
+waits_lexeme old it new other is = is
+
 pub mark_waits : (it : Waiting) (view : TokenView) → IsOfMark it view → it ≢ waiting.Layout
 mark_waits it view token is = absurd (subst (λ (it : Waiting). IsOfMark it view) is token)
 

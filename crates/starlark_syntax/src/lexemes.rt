@@ -105,10 +105,10 @@ impl<'a> Lexer<'a> {
     /// is none: `next` tells which.
     ///
     /// It doesn't allocate a value. Plain are names, keywords, symbols, `Newline`, `Indent`, `Dedent`,
-    /// comments of comment-only lines, and string literals without escapes that one quote closes; and
-    /// of f-strings a text without escapes, and what ends it. For some of them, as the first lexeme of
-    /// a text, it returns `None` too. Where it can't allocate for an indent, it returns `None`, and
-    /// `next` returns out of memory.
+    /// comments, and string literals without escapes that one quote closes; and of f-strings a text
+    /// without escapes, and what ends it. For some of them, as the last `Newline` of a text, it returns
+    /// `None` too. Where it can't allocate for an indent, it returns `None`, and `next` returns out of
+    /// memory.
     #[inline(always)]
     pub fn next_plain(&mut self) -> Option<PlainLexeme>
         ensures item { IfSome result (λ plain. slice_get (items self.old.text) self.old.yielded_count ≡ Some (Given (plain_view self.old.text plain))) }

@@ -14,7 +14,7 @@ ghost use Rattle.starlark_grammar.specs.Words.{Text};
 ghost use Rattle.starlark_grammar.specs.Reading.{History};
 ghost use Rattle.starlark_reader.specs.Inner.MarginCuts.{IsCutBefore};
 ghost use Rattle.starlark_reader.specs.Inner.Reader.{IsAtCode, IsAtEnd, IsReached, IsStateAfter, has_read_none};
-ghost use Rattle.starlark_syntax.specs.Inner.LexerStates.{HasAnswered, HasFound, HasGivenNext, HasGoneOn, HasLooked, HasPassed, HasPassedNext, HasPassedOther, HasPassedWaiting, HasTaken, HasTakenLast, HasThrown, IsAtFault, IsAtOpener, IsAtWord, IsBegun, IsUnnamed, IsLexing, IsLexingIn, IsOfMark, IsTakenNext, has_fault, is_out_of_memory, left_in, passed_as, passed_count, plain_comment, plain_string, taken_count, thrown_count, view_of};
+ghost use Rattle.starlark_syntax.specs.Inner.LexerStates.{HasAnswered, HasFound, HasGivenNext, HasGoneOn, HasLooked, HasPassed, HasPassedNext, HasPassedWaiting, HasTaken, HasTakenLast, HasThrown, IsAtFault, IsAtOpener, IsAtWord, IsBegun, IsUnnamed, IsLexing, IsLexingIn, IsOfMark, IsTakenNext, has_fault, is_out_of_memory, left_in, passed_as, passed_count, plain_string, taken_count, thrown_count, view_of};
 ghost use Rattle.starlark_syntax.specs.Lexer.{is_ended_by, most_reads, yielded_by};
 ghost use Rattle.starlark_syntax.specs.Inner.RawItems.{OffsetsHold};
 ghost use Rattle.starlark_syntax.specs.PlainLexemes.{IsPlainIn};
@@ -45,7 +45,8 @@ pub(crate) type Item = Result<(usize, Token, usize), OrMemory<(usize, LexemeErro
 /// The state of lexing a text, which all lexers and `LexedText` share.
 ///
 /// It yields the lexemes of the text one by one, and then its fault. Any error ends it.
-/// `passed_begin` and `passed_end` are the offsets of the lexeme that `pass_waiting` passed last.
+/// `passed_begin` and `passed_end` are the offsets of the lexeme that `pass_waiting` or `look_further`
+/// passed last.
 // In this order for the reason that `Reader` has one.
 #[derive(Drop)]
 pub struct LexerState<'a> {
@@ -97,6 +98,7 @@ enum Waiting {
     FStringText,
     FStringExprStart,
     FStringEnd,
+    Comment,
     /// What has no lexeme.
     Layout,
     /// Out of memory, which ends the lexer.
@@ -124,6 +126,7 @@ impl FastPath {
     /// What was passed without lookahead in code, between two offsets.
     #[inline]
     fn of_waiting(waiting: Waiting, begin: usize, end: usize) -> FastPath
+        requires { waiting ≡ Waiting.Comment → begin < end }
         ensures { result ≡ passed_as waiting begin end }
     {
         let kind = match waiting {
@@ -135,6 +138,15 @@ impl FastPath {
                     begin,
                     end,
                     value_begin: begin,
+                    value_end: end,
+                });
+            }
+            Waiting::Comment => {
+                return FastPath::Passed(PlainLexeme {
+                    kind: PlainKind::Comment,
+                    begin,
+                    end,
+                    value_begin: begin + 1,
                     value_end: end,
                 });
             }
@@ -268,10 +280,6 @@ impl<'a> LexerState<'a> {
         ensures { HasGivenNext self.old result self.new }
     {
         match word.class {
-            Class::Comment => {
-                let taken = self.reader.take_comment(word.len);
-                self.item_of(taken, Found::Nothing)
-            }
             Class::Opener {
                 kind: LiteralKind::FString,
                 is_raw,
@@ -314,20 +322,21 @@ impl<'a> LexerState<'a> {
         }
     }
 
-    /// Passes the first pending comment. Returns the offsets where it begins and ends.
-    // A call that returns two registers: a result in memory costs each lexeme.
-    #[inline(never)]
-    fn pass_pending_comment(&mut self) -> (usize, usize)
+    /// Passes the first pending comment.
+    #[inline(always)]
+    fn pass_pending_comment(&mut self) -> Waiting
         requires lexing { IsLexing self.old }
         requires going { self.old.has_ended ≡ false }
         requires all { self.old.lookahead.found ≡ Found.All }
         requires some { self.old.reader.pending.from < self.old.reader.pending.to }
-        ensures { HasPassedNext self.old (FastPath.Passed (plain_comment result.0 result.1)) self.new }
+        ensures { HasPassedWaiting self.old result self.new }
     {
-        let place = self.reader.pass_pending_comment();
+        let (begin, end) = self.reader.pass_pending_comment();
         self.yielded_count += 1;
+        self.passed_begin = begin;
+        self.passed_end = end;
         self.lookahead.found = looked_after(&self.reader);
-        place
+        Waiting::Comment
     }
 
     /// Passes the first pending lexeme, where no comments are pending. Returns its kind.
@@ -406,20 +415,22 @@ impl<'a> LexerState<'a> {
         Waiting::Layout
     }
 
-    /// Passes the next lexeme where lookahead in code is spent, and no comments are pending: a pending
-    /// one, or the plain text of an f-string. Returns what was passed; its offsets are `passed_begin`
-    /// and `passed_end`.
+    /// Passes what comes next where lookahead in code is spent: a pending lexeme, the plain text of an
+    /// f-string, or the first margin. Returns what was passed; its offsets are `passed_begin` and
+    /// `passed_end`.
     // A kind in a register: a result in memory costs each lexeme.
     #[inline(never)]
     fn pass_waiting(&mut self) -> Waiting
         requires lexing { IsLexing self.old }
         requires going { self.old.has_ended ≡ false }
-        requires none { self.old.reader.pending.to ≤ self.old.reader.pending.from }
         requires looked { self.old.lookahead.found ≢ Found.Nothing }
         ensures { HasPassedWaiting self.old result self.new }
     {
         if !matches!(self.lookahead.found, Found::All) {
             return Waiting::Nothing;
+        }
+        if self.reader.has_comments() {
+            return self.pass_pending_comment();
         }
         match self.pass_mark() {
             Waiting::Nothing => {}
@@ -507,57 +518,41 @@ impl<'a> LexerState<'a> {
         }
     }
 
-    /// Finds the word here, where the first two bytes tell none. Passes it if it is skipped, and returns
-    /// whether it was.
+    /// Finds the word here, where the first two bytes tell none. Passes it if it is skipped, or a
+    /// comment, as `pass_waiting` does.
     // A call: in line it costs each lexeme.
     #[inline(never)]
-    fn look_further(&mut self) -> bool
+    fn look_further(&mut self) -> Waiting
         requires { IsUnnamed self.old }
-        ensures passed { result ≡ true → HasGoneOn self.old self.new }
-        ensures found { result ≡ false → HasPassedNext self.old FastPath.Undecided self.new }
+        ensures { HasPassedWaiting self.old result self.new }
     {
         let Some(word) = self.reader.unnamed_word() else {
             self.lookahead.found = Found::Wordless;
-            return false;
+            return Waiting::Nothing;
         };
-        if let Class::Skipped = word.class {
-            self.reader.pass_gap(word.len);
-            return true;
-        }
-        self.lookahead.found = Found::Word;
-        self.lookahead.word = word;
-        false
-    }
-
-    /// Passes what comes next where lookahead in code is spent. `None` where it has no lexeme.
-    #[inline(always)]
-    fn pass_other(&mut self) -> Option<FastPath>
-        requires lexing { IsLexing self.old }
-        requires going { self.old.has_ended ≡ false }
-        requires looked { self.old.lookahead.found ≢ Found.Nothing }
-        ensures { HasPassedOther self.old result self.new }
-    {
-        if self.reader.has_comments() {
-            if !matches!(self.lookahead.found, Found::All) {
-                return Some(FastPath::Undecided);
+        match word.class {
+            Class::Skipped => {
+                self.reader.pass_gap(word.len);
+                Waiting::Layout
             }
-            let (begin, end) = self.pass_pending_comment();
-            return Some(FastPath::Passed(PlainLexeme {
-                kind: PlainKind::Comment,
-                begin,
-                end,
-                value_begin: begin + 1,
-                value_end: end,
-            }));
-        }
-        match self.pass_waiting() {
-            Waiting::Layout => None,
-            waiting => Some(FastPath::of_waiting(waiting, self.passed_begin, self.passed_end)),
+            Class::Comment => {
+                self.yielded_count += 1;
+                self.passed_begin = self.reader.at();
+                self.reader.pass_comment(word.len);
+                self.passed_end = self.reader.at();
+                Waiting::Comment
+            }
+            _ => {
+                self.lookahead.found = Found::Word;
+                self.lookahead.word = word;
+                Waiting::Nothing
+            }
         }
     }
 
-    /// Passes the next lexeme if the fast path decides it: a name, a keyword, a symbol, a newline,
-    /// a string literal without escapes, a pending lexeme, or a text of an f-string without escapes.
+    /// Passes the next lexeme if the fast path decides it: a name, a keyword, a symbol, a newline, a
+    /// comment, a string literal without escapes, a pending lexeme, or a text of an f-string without
+    /// escapes.
     #[inline(always)]
     pub(crate) fn next_plain(&mut self) -> FastPath
         requires { IsLexing self.old }
@@ -571,16 +566,24 @@ impl<'a> LexerState<'a> {
                 if self.has_ended {
                     return FastPath::Undecided;
                 }
-                match self.pass_other() {
-                    Some(passed) => return passed,
-                    None => continue,
+                match self.pass_waiting() {
+                    Waiting::Layout => continue,
+                    waiting => return FastPath::of_waiting(
+                        waiting,
+                        self.passed_begin,
+                        self.passed_end,
+                    ),
                 }
             }
             let Some(Word { class, len }) = self.reader.common_word() else {
-                if self.look_further() {
-                    continue;
+                match self.look_further() {
+                    Waiting::Layout => continue,
+                    waiting => return FastPath::of_waiting(
+                        waiting,
+                        self.passed_begin,
+                        self.passed_end,
+                    ),
                 }
-                return FastPath::Undecided;
             };
             match class {
                 Class::Identifier => return self.pass_name(len),

@@ -1,6 +1,6 @@
 //! Finds the longest word at the front of a text.
 
-ghost use Rattle.std.specs.Prelude.{get_or, ◌≡◌, false, ◌<◌, ◌≤◌, ◌+◌, ◌-◌, ◌*◌, ◌^◌, IfSome, None, Some, length};
+ghost use Rattle.std.specs.Prelude.{◌≡◌, ◌≢◌, false, ◌<◌, ◌≤◌, ◌+◌, ◌-◌, ◌*◌, ◌^◌, IfSome, None, Some, length};
 ghost use Rattle.std.specs.Option.{option_map};
 ghost use Rattle.starlark_grammar.specs.Front.{language_front};
 ghost use Rattle.starlark_words.specs.Inner.Reads.{AreReads, more_reads};
@@ -57,6 +57,7 @@ pub fn word_after(reads: &mut ReadCounter, gap: usize, text: &str) -> Option<Wor
     requires { gap < 2 ^ 32 }
     ensures word { IfSome result (λ word. Some (word_view word) ≡ language_front text.now) }
     ensures bang { IfSome result (λ word. is_bang text.now ≡ false) }
+    ensures comment { IfSome result (λ word. word.class ≢ class.Comment) }
     ensures none { result ≡ None → grammar.begins grammar.is_name_start text.now ≡ false }
     ensures rest { result ≡ None → begins_mark text.now ≡ false }
     ensures reads { IfSome result (λ word. AreReads (gap + word.len) (gap + (5 * word.len - 4) + 2) reads.old reads.new) }

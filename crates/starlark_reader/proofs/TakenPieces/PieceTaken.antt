@@ -1,16 +1,17 @@
 -- What a reader does with the piece at its offset.
-use Rattle.std.proofs.Common.{rules, ◌≡◌, ◌≢◌, ℕ, ◌+◌, ◌≤◌, ◌==◌, Bool, true, false, List, [], ◌∷◌, length, drop, refl, sym, ap, ◌∙◌, subst, arith, append-nil, take, None}
-use Rattle.std.specs.Prelude.{⊤, ◌++◌, IfOk, Ok, Err, Result, Option, String, Vec, string_bytes, if◌then◌else◌}
+use Rattle.std.proofs.Common.{rules, ◌≡◌, ◌≢◌, ℕ, ◌+◌, ◌-◌, ◌≤◌, ◌==◌, Bool, true, false, List, [], ◌∷◌, length, drop, refl, sym, ap, ◌∙◌, subst, arith, append-nil, get_or, take, None}
+use Rattle.std.specs.Prelude.{⊤, ◌++◌, IfOk, Ok, Err, Result, Option, Vec, if◌then◌else◌}
 use Rattle.std.specs.Str.{IsCharBoundary, IsUtf8}
 use Rattle.std.proofs.Math.Bool.{and-false}
 use Rattle.std.specs.declared.alloc.Global.{Global}
-use Rattle.starlark_grammar.specs.Words.{Text, language}
+use Rattle.starlark_grammar.specs.Words.{Text, is_comment, language}
 use Rattle.starlark_grammar.specs.Numbers.{integer_of}
 use Rattle.starlark_grammar.specs.Tokens as Tokens
 use Rattle.starlark_grammar.specs.Tokens.{Fault, Spanned, moved}
 use Rattle.starlark_grammar.specs.declared.class.Class.{Class}
 use Rattle.starlark_grammar.specs.declared.class.Class.TheVariants as class
-use Rattle.std.proofs.lemmas.List.{length-drop, length-take}
+use Rattle.std.proofs.lemmas.Bool.{and_parts, eqb-true}
+use Rattle.std.proofs.lemmas.List.{drop-drop, drop-take, get_or-drop, get_or-take, length-drop, length-take}
 use Rattle.starlark_grammar.specs.declared.class.LiteralKind.{LiteralKind}
 use Rattle.starlark_grammar.specs.declared.class.LiteralKind.TheVariants.{Text as OfText, Bytes as OfBytes, FString as OfFString}
 use Rattle.starlark_grammar.specs.declared.class.Quote.{Quote}
@@ -23,8 +24,9 @@ use Rattle.std.specs.List.{AllByRecursion}
 use Rattle.starlark_words.specs.Inner.LiteralViews.{IsPlainBody}
 use Rattle.starlark_grammar.specs.Inner.Openings.{opening_view}
 use Rattle.starlark_grammar.specs.declared.class.Opening.{Opening}
-use Rattle.std.proofs.lemmas.Str.{IsUtf8-drop}
+use Rattle.std.proofs.lemmas.Str.{IsCharBoundary-after_ascii, IsUtf8-drop}
 use Rattle.starlark_grammar.proofs.Order.Edges.{boundary_shift}
+use Rattle.starlark_grammar.proofs.Words.Classes.{word_is_of}
 use Rattle.starlark_reader.proofs.ReadLiterals.LiteralPieces.{opener_plain}
 use Rattle.starlark_reader.proofs.OpenBrackets.OpenFStrings.{one_kept}
 use Rattle.starlark_token.specs.Lexemes.{shown_lexeme}
@@ -52,7 +54,7 @@ use Rattle.starlark_reader.specs.declared.reader.Before as sort
 use Rattle.starlark_reader.specs.declared.reader.Before.TheVariants as before
 use Rattle.starlark_reader.specs.declared.reader.Reader.{Reader}
 use Rattle.starlark_reader.specs.declared.reader.Stage.TheVariants as stage
-use Rattle.starlark_reader.proofs.TakenPieces.CodePlaces.{bang_at, in_text, word_at, word_cut, word_len, word_some}
+use Rattle.starlark_reader.proofs.TakenPieces.CodePlaces.{bang_at, in_text, word_at, word_class, word_cut, word_len, word_some}
 use Rattle.starlark_reader.proofs.TakenPieces.Here.{piece_here, shown_own}
 use Rattle.starlark_reader.proofs.TakenPieces.Taken.{none_before, past_ahead, read_ahead, took_past}
 use Rattle.starlark_reader.proofs.TakenMargins.Waiting.{HandsPast, hands_none, passes_one}
@@ -140,15 +142,29 @@ word_within text history reader it len kept here =
 pub gap_here : (text : Text) (history : History) (reader : Reader) (len : ℕ) → IsStateAfter text history reader → IsWordHere text reader (record { class = class.Skipped; len = len }) → step_here text history reader ≡ pieces.gap len
 gap_here text history reader len kept here = word_read text history reader (record { class = class.Skipped; len = len }) kept here ∙ ap pieces.gap (word_len (drop reader.at text) class.Skipped len (sym here.front))
 
-pub comment_step : (text : Text) (history : History) (reader : Reader) (len : ℕ) (value : String Global) → IsStateAfter text history reader → IsWordHere text reader (record { class = class.Comment; len = len })
-    → string_bytes value ≡ drop 1 (take len (drop reader.at text)) → IsStep (step_here text history reader) (step.Token (token.Comment value) len)
-unfolding token_view
-comment_step text history reader len value kept here is = (
-  Tokens.Comment (drop 1 (take len (drop reader.at text))),
-  ap (λ t. Whole (Tokens.Comment t)) is,
-  refl,
-  word_read text history reader (record { class = class.Comment; len = len }) kept here ∙ ap (λ n. pieces.token n (Tokens.Comment (drop 1 (take len (drop reader.at text))))) (word_len (drop reader.at text) class.Comment len (sym here.front)),
-)
+pub comment_here : (text : Text) (history : History) (reader : Reader) (len : ℕ) → IsStateAfter text history reader → IsWordHere text reader (record { class = class.Comment; len = len })
+    → step_here text history reader ≡ pieces.token len (Tokens.Comment (take (reader.at + len - (reader.at + 1)) (drop (reader.at + 1) text)))
+comment_here text history reader len kept here =
+    let rest = drop reader.at text in
+    let some = (word_within text history reader class.Comment len kept here).0 in
+    let whole : 1 + (len - 1) ≡ len = omega (arith, some) in
+    let count : len - 1 ≡ reader.at + len - (reader.at + 1) = omega arith in
+    let value : drop 1 (take len rest) ≡ take (reader.at + len - (reader.at + 1)) (drop (reader.at + 1) text) =
+    ap (λ n. drop 1 (take n rest)) (sym whole) ∙ drop-take 1 (len - 1) rest ∙ ap (take (len - 1)) (drop-drop 1 reader.at text) ∙ ap (λ n. take n (drop (reader.at + 1) text)) count in
+    word_read text history reader (record { class = class.Comment; len = len }) kept here ∙ ap (λ n. pieces.token n (Tokens.Comment (drop 1 (take len rest)))) (word_len rest class.Comment len (sym here.front)) ∙ ap (λ t. pieces.token len (Tokens.Comment t)) value
+
+-- the value of a comment begins at a character boundary
+pub comment_cut : (text : Text) (history : History) (reader : Reader) (len : ℕ) → IsUtf8 text → IsStateAfter text history reader → IsWordHere text reader (record { class = class.Comment; len = len }) → IsCharBoundary text (reader.at + 1)
+comment_cut text history reader len utf8 kept here =
+    let rest = drop reader.at text in
+    let within = word_within text history reader class.Comment len kept here in
+    let hash = begins_hash (take len rest) (word_is_of (take len rest) class.Comment (word_class rest class.Comment len (sym here.front))) in
+    let first : get_or text (reader.at + 0) 0 ≡ get_or text reader.at 0 = ap (λ i. get_or text i 0) (omega arith) in
+    IsCharBoundary-after_ascii text reader.at utf8 (omega (arith, within)) (omega (arith, hash, get_or-take len rest 0 0 within.0, get_or-drop reader.at text 0 0, first))
+  where
+    begins_hash : (word : Text) → is_comment word ≡ true → get_or word 0 0 ≡ 35
+    begins_hash [] h = cc
+    begins_hash (b ∷ bs) h = eqb-true b 35 (and_parts (b == 35) _ h).0
 
 -- the step of an integer of one digit
 digit_word : (s : Situation) (digit : ℕ) (word remainder : Text) → word ≡ (digit + 48) ∷ [] → pieces.word_step s class.Decimal word remainder ≡ pieces.token 1 (Tokens.Int (integer_of 10 word))

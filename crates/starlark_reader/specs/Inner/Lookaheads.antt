@@ -47,6 +47,7 @@ abbrev pub is_slow : Class → Bool
 is_slow class.Identifier = false
 is_slow (class.Fixed terminal) = false
 is_slow class.LineEnd = false
+is_slow class.Comment = false
 is_slow class.Skipped = false
 is_slow (class.Opener kind.Text is_raw quote) = false
 is_slow it = true

@@ -193,6 +193,10 @@ pub record HasPassedNext (old : LexerState) (found : FastPath) (new : LexerState
   pub lexing : IsLexing new
   pub after : view_of new ≡ record (view_of old) { yielded_count = old.yielded_count + passed_count found; has_ended = is_out_of_memory found; reads = new.reader.reads }
 
+-- the comment between two offsets, whose value is all after its `#`
+abbrev pub plain_comment : (begin end : ℕ) → PlainLexeme
+plain_comment begin end = record { kind = kind.Comment; begin = begin; end = end; value_begin = begin + 1; value_end = end }
+
 -- the text of an f-string between two offsets
 abbrev pub plain_fstring_text : (begin end : ℕ) → PlainLexeme
 plain_fstring_text begin end = record { kind = kind.FStringText; begin = begin; end = end; value_begin = begin; value_end = end }
@@ -209,6 +213,7 @@ passed_as waiting.Dedent begin end = fast.Passed (plain_mark kind.Dedent begin e
 passed_as waiting.FStringText begin end = fast.Passed (plain_fstring_text begin end)
 passed_as waiting.FStringExprStart begin end = fast.Passed (plain_mark kind.FStringExprStart begin end)
 passed_as waiting.FStringEnd begin end = fast.Passed (plain_mark kind.FStringEnd begin end)
+passed_as waiting.Comment begin end = fast.Passed (plain_comment begin end)
 passed_as waiting.Layout begin end = fast.Undecided
 passed_as waiting.OutOfMemory begin end = fast.OutOfMemory
 
@@ -230,10 +235,6 @@ pub record HasGoneOn (old new : LexerState) : Type 0 where
 abbrev pub HasPassedWaiting : LexerState → Waiting → LexerState → Type 0
 HasPassedWaiting old waiting.Layout new = HasGoneOn old new
 HasPassedWaiting old it new = HasPassedNext old (passed_as it new.passed_begin new.passed_end) new
-
-abbrev pub HasPassedOther : LexerState → Option FastPath → LexerState → Type 0
-HasPassedOther old None new = HasGoneOn old new
-HasPassedOther old (Some found) new = HasPassedNext old found new
 
 -- The lexer is at a word in code, which the scanner has found, and has spent no other lookahead.
 pub record IsAtWord (state : LexerState) (word : Word) : Type 0 where
@@ -264,10 +265,6 @@ pub record IsUnnamed (state : LexerState) : Type 0 where
 -- the string literal between two offsets, by the length of its opener
 abbrev pub plain_string : (begin opener end : ℕ) → PlainLexeme
 plain_string begin opener end = record { kind = kind.String; begin = begin; end = end; value_begin = begin + opener; value_end = end - 1 }
-
--- the comment between two offsets, whose value is all after its `#`
-abbrev pub plain_comment : (begin end : ℕ) → PlainLexeme
-plain_comment begin end = record { kind = kind.Comment; begin = begin; end = end; value_begin = begin + 1; value_end = end }
 
 -- the kind is that of a pending token
 abbrev pub IsOfMark : Waiting → TokenView → Type 0

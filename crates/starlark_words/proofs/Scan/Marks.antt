@@ -84,10 +84,14 @@ pub line_feed : (b c : ℕ) → mark_front (10 ∷ b ∷ c ∷ []) ≡ Some (Lin
 unfolding longest_front marks line_ends symbols
 line_feed b c = refl
 
--- no mark begins with a bang
+-- no mark begins with a bang or a hash sign
 pub no_mark_at_bang : (b c : ℕ) → (b == 61) ≡ false → mark_front (33 ∷ b ∷ c ∷ []) ≡ None
 unfolding longest_front marks line_ends symbols
 no_mark_at_bang b c h = rw h refl
+
+pub no_mark_at_hash : (b c : ℕ) → mark_front (35 ∷ b ∷ c ∷ []) ≡ None
+unfolding longest_front marks line_ends symbols
+no_mark_at_hash b c = refl
 
 -- a mark that is found is uncommon where that at the front is
 pub found_is_uncommon : (front : Option (Class × ℕ)) (found : Option Word) → option_map word_view found ≡ front → is_common_front front ≡ false → IfSome found (λ word. is_common word.class ≡ false)

@@ -1,5 +1,5 @@
 use Rattle.std.proofs.Common.{◌≡◌, ◌∙◌, ◌<◌, ℕ, arith, get_or, sym}
-use Rattle.starlark_words.proofs.Scan.Bangs.{no_bang_at_word}
+use Rattle.starlark_words.proofs.Scan.Bangs.{mark_not_comment, name_not_comment, no_bang_at_word}
 use Rattle.starlark_words.proofs.Scan.MarkWords.{IsWord, at_line_feed, by_three_bytes, by_two_bytes}
 use Rattle.starlark_words.proofs.scanner.word_after.Goals.{After-mark, else-second-first, then-second-first}
 use Rattle.starlark_words.proofs.scanner.word_after.Goals as goal
@@ -25,3 +25,10 @@ returns-clause-bang c = no_bang_at_word c.args.text.now c.mark.result (is_word c
 
 pub returns-clause-rest : goal.returns-clause-rest
 returns-clause-rest c = (is_word c).1
+
+pub returns-clause-comment : goal.returns-clause-comment
+returns-clause-comment c =
+    mark_not_comment c.args.text.now c.mark.result c.byte_at-first.result c.byte_at-second.result c.if-second-first.third.0 (rw c.as_bytes-bytes.ensures.value at c.byte_at-first.ensures) c.mark.ensures.word (is_word c).0
+
+pub returns-then-is_name_start-clause-comment : goal.returns-then-is_name_start-clause-comment
+returns-then-is_name_start-clause-comment c = name_not_comment c.args.text.now c.name_from.result (sym (rw (c.byte_at-first.ensures, c.as_bytes-bytes.ensures.value) at c.if-is_name_start.ensures)) c.name_from.ensures.word

@@ -5,13 +5,14 @@ use Rattle.starlark_syntax.specs.Inner.LexerStates.{IsAtWord}
 use Rattle.starlark_syntax.specs.declared.lexer_state.FastPath.TheVariants as fast
 use Rattle.starlark_syntax.specs.declared.lexer_state.LexerState.{LexerState}
 use Rattle.starlark_syntax.proofs.FoundWords.{HasPassedSince, at_word, faulty_margin, found_passed, passed_since, pending_newline, plain_newline, still_going, unnamed_here, word_found}
+use Rattle.starlark_syntax.proofs.PlainLexemes.{waits_lexeme}
 use Rattle.starlark_syntax.proofs.LexerReads.{fault_counts, newline_counts, pending_counts}
 use Rattle.starlark_syntax.proofs.lexer_state.LexerState.next_plain.Goals.{in-Newline, in-Pending, in_default-class-via-in-Opener+in_default, in_default-class-via-in_default}
 use Rattle.starlark_syntax.proofs.lexer_state.LexerState.next_plain.Goals as goal
 use Rattle.starlark_reader.specs.Inner.Lookaheads.{is_slow}
 
 pub pass_name-requires : goal.pass_name-requires
-pass_name-requires c = rw c.in-Identifier.is at (at_word c.loop-self.self c.common_word.new.self c.in-Some-common_word.field-0 c.common_word.ensures.text c.loop-self.invariant.lexing (sym c.is_nothing.ensures ∙ c.if-not-is_nothing.false) c.in-Some-common_word.ensures.lookahead c.common_word.ensures.ahead c.in-Some-common_word.ensures.stands)
+pass_name-requires c = rw c.in-Identifier.is at (at_word c.loop-self.self c.common_word.new.self c.in-Some.field-0 c.common_word.ensures.text c.loop-self.invariant.lexing (sym c.is_nothing.ensures ∙ c.if-not-is_nothing.false) c.in-Some.ensures.lookahead c.common_word.ensures.ahead c.in-Some.ensures.stands)
 
 pub returns-in-Identifier : goal.returns-in-Identifier
 returns-in-Identifier c =
@@ -19,7 +20,7 @@ returns-in-Identifier c =
     record { ended = since.ended; passed = since.passed; lexing = since.lexing; after = since.after }
 
 pub pass_symbol-requires : goal.pass_symbol-requires
-pass_symbol-requires c = rw c.in-Fixed.is at (at_word c.loop-self.self c.common_word.new.self c.in-Some-common_word.field-0 c.common_word.ensures.text c.loop-self.invariant.lexing (sym c.is_nothing.ensures ∙ c.if-not-is_nothing.false) c.in-Some-common_word.ensures.lookahead c.common_word.ensures.ahead c.in-Some-common_word.ensures.stands)
+pass_symbol-requires c = rw c.in-Fixed.is at (at_word c.loop-self.self c.common_word.new.self c.in-Some.field-0 c.common_word.ensures.text c.loop-self.invariant.lexing (sym c.is_nothing.ensures ∙ c.if-not-is_nothing.false) c.in-Some.ensures.lookahead c.common_word.ensures.ahead c.in-Some.ensures.stands)
 
 pub returns-in-Fixed : goal.returns-in-Fixed
 returns-in-Fixed c =
@@ -28,15 +29,21 @@ returns-in-Fixed c =
 
 pub look_further-requires : goal.look_further-requires
 look_further-requires c =
-    unnamed_here c.loop-self.self c.common_word.new.self c.common_word.ensures.text c.loop-self.invariant.lexing (sym c.is_nothing.ensures ∙ c.if-not-is_nothing.false) (c.common_word.ensures.peeked c.in_default.is) c.common_word.ensures.ahead c.common_word.ensures.code (c.common_word.ensures.none c.in_default.is) (c.common_word.ensures.rest c.in_default.is)
+    unnamed_here c.loop-self.self c.common_word.new.self c.common_word.ensures.text c.loop-self.invariant.lexing (sym c.is_nothing.ensures ∙ c.if-not-is_nothing.false) (c.common_word.ensures.peeked c.in_default-common_word.is) c.common_word.ensures.ahead c.common_word.ensures.code (c.common_word.ensures.none c.in_default-common_word.is) (c.common_word.ensures.rest c.in_default-common_word.is)
+
+pub returns-in_default-look_further : goal.returns-in_default-look_further
+returns-in_default-look_further c =
+    let passed = waits_lexeme (record c.loop-self.self { reader = c.common_word.new.self }) c.look_further.result c.look_further.new.self c.in_default-look_further.not-Layout c.look_further.ensures in
+    let since = passed_since c.args.self.now c.loop-self.self c.common_word.new.self _ c.look_further.new.self c.loop-self.invariant (still_going c.loop-self.self c.loop-self.invariant.lexing (sym c.is_nothing.ensures ∙ c.if-not-is_nothing.false)) c.common_word.ensures.text passed in
+    rw c.of_waiting-in_default-look_further.ensures (record { ended = since.ended; passed = since.passed; lexing = since.lexing; after = since.after })
 
 pub pass_string-requires : goal.pass_string-requires
 pass_string-requires c =
     let opener = c.in-Opener-Text-default-default in
     let state = record c.loop-self.self { reader = c.common_word.new.self } in
     let kind = rw opener.is at opener.kind-is in
-    subst (λ it. IsAtWord state (record { class = it; len = c.in-Some-common_word.field-0.len })) (opener.is ∙ ap (λ kind. class.Opener kind opener.is_raw opener.quote) kind)
-    (at_word c.loop-self.self c.common_word.new.self c.in-Some-common_word.field-0 c.common_word.ensures.text c.loop-self.invariant.lexing (sym c.is_nothing.ensures ∙ c.if-not-is_nothing.false) c.in-Some-common_word.ensures.lookahead c.common_word.ensures.ahead c.in-Some-common_word.ensures.stands)
+    subst (λ it. IsAtWord state (record { class = it; len = c.in-Some.field-0.len })) (opener.is ∙ ap (λ kind. class.Opener kind opener.is_raw opener.quote) kind)
+    (at_word c.loop-self.self c.common_word.new.self c.in-Some.field-0 c.common_word.ensures.text c.loop-self.invariant.lexing (sym c.is_nothing.ensures ∙ c.if-not-is_nothing.false) c.in-Some.ensures.lookahead c.common_word.ensures.ahead c.in-Some.ensures.stands)
 
 pub returns-in-Opener-Text-default-default : goal.returns-in-Opener-Text-default-default
 returns-in-Opener-Text-default-default c =
@@ -45,18 +52,18 @@ returns-in-Opener-Text-default-default c =
 
 pub loop-self-preserved-in-Passed : goal.loop-self-preserved-in-Passed
 loop-self-preserved-in-Passed c =
-    let at = rw c.in-LineEnd.is at (at_word c.loop-self.self c.common_word.new.self c.in-Some-common_word.field-0 c.common_word.ensures.text c.loop-self.invariant.lexing (sym c.is_nothing.ensures ∙ c.if-not-is_nothing.false) c.in-Some-common_word.ensures.lookahead c.common_word.ensures.ahead c.in-Some-common_word.ensures.stands) in
-    (found_passed c.args.self.now c.loop-self.self c.common_word.new.self c.take_line_end.new.self class.LineEnd c.in-Some-common_word.field-0.len c.loop-self.invariant c.common_word.ensures.text c.take_line_end.ensures.text c.common_word.ensures.onward at (rw c.in-Passed.is at (c.in-Ok.ensures.ahead _ _ at.ahead)) (c.in-Ok.ensures.code c.in-Passed.is) (c.in-Ok.ensures.taken c.in-Passed.is)).0
+    let at = rw c.in-LineEnd.is at (at_word c.loop-self.self c.common_word.new.self c.in-Some.field-0 c.common_word.ensures.text c.loop-self.invariant.lexing (sym c.is_nothing.ensures ∙ c.if-not-is_nothing.false) c.in-Some.ensures.lookahead c.common_word.ensures.ahead c.in-Some.ensures.stands) in
+    (found_passed c.args.self.now c.loop-self.self c.common_word.new.self c.take_line_end.new.self class.LineEnd c.in-Some.field-0.len c.loop-self.invariant c.common_word.ensures.text c.take_line_end.ensures.text c.common_word.ensures.onward at (rw c.in-Passed.is at (c.in-Ok.ensures.ahead _ _ at.ahead)) (c.in-Ok.ensures.code c.in-Passed.is) (c.in-Ok.ensures.taken c.in-Passed.is)).0
 
 pub loop-self-preserved : goal.loop-self-preserved
 loop-self-preserved c =
-    let at = rw c.in-Skipped.is at (at_word c.loop-self.self c.common_word.new.self c.in-Some-common_word.field-0 c.common_word.ensures.text c.loop-self.invariant.lexing (sym c.is_nothing.ensures ∙ c.if-not-is_nothing.false) c.in-Some-common_word.ensures.lookahead c.common_word.ensures.ahead c.in-Some-common_word.ensures.stands) in
-    (found_passed c.args.self.now c.loop-self.self c.common_word.new.self c.pass_gap.new.self class.Skipped c.in-Some-common_word.field-0.len c.loop-self.invariant c.common_word.ensures.text c.pass_gap.ensures.text c.common_word.ensures.onward at (c.pass_gap.ensures.ahead _ _ at.ahead) c.pass_gap.ensures.code c.pass_gap.ensures.taken).0
+    let at = rw c.in-Skipped.is at (at_word c.loop-self.self c.common_word.new.self c.in-Some.field-0 c.common_word.ensures.text c.loop-self.invariant.lexing (sym c.is_nothing.ensures ∙ c.if-not-is_nothing.false) c.in-Some.ensures.lookahead c.common_word.ensures.ahead c.in-Some.ensures.stands) in
+    (found_passed c.args.self.now c.loop-self.self c.common_word.new.self c.pass_gap.new.self class.Skipped c.in-Some.field-0.len c.loop-self.invariant c.common_word.ensures.text c.pass_gap.ensures.text c.common_word.ensures.onward at (c.pass_gap.ensures.ahead _ _ at.ahead) c.pass_gap.ensures.code c.pass_gap.ensures.taken).0
 
 pub returns-in-Fault : goal.returns-in-Fault
 returns-in-Fault c =
-    let at = rw c.in-LineEnd.is at (at_word c.loop-self.self c.common_word.new.self c.in-Some-common_word.field-0 c.common_word.ensures.text c.loop-self.invariant.lexing (sym c.is_nothing.ensures ∙ c.if-not-is_nothing.false) c.in-Some-common_word.ensures.lookahead c.common_word.ensures.ahead c.in-Some-common_word.ensures.stands) in
-    let passed = faulty_margin (record c.loop-self.self { reader = c.common_word.new.self }) c.in-Some-common_word.field-0.len c.take_line_end.new.self c.take_line_end.ensures.text at (c.in-Ok.ensures.reads (fault_counts c.in-Ok.line_end c.in-Fault.is)) (rw c.in-Fault.is at (c.in-Ok.ensures.ahead _ _ at.ahead)) (c.in-Ok.ensures.end c.in-Fault.is) in
+    let at = rw c.in-LineEnd.is at (at_word c.loop-self.self c.common_word.new.self c.in-Some.field-0 c.common_word.ensures.text c.loop-self.invariant.lexing (sym c.is_nothing.ensures ∙ c.if-not-is_nothing.false) c.in-Some.ensures.lookahead c.common_word.ensures.ahead c.in-Some.ensures.stands) in
+    let passed = faulty_margin (record c.loop-self.self { reader = c.common_word.new.self }) c.in-Some.field-0.len c.take_line_end.new.self c.take_line_end.ensures.text at (c.in-Ok.ensures.reads (fault_counts c.in-Ok.line_end c.in-Fault.is)) (rw c.in-Fault.is at (c.in-Ok.ensures.ahead _ _ at.ahead)) (c.in-Ok.ensures.end c.in-Fault.is) in
     let since = passed_since c.args.self.now c.loop-self.self c.common_word.new.self fast.Undecided _ c.loop-self.invariant (still_going c.loop-self.self c.loop-self.invariant.lexing (sym c.is_nothing.ensures ∙ c.if-not-is_nothing.false)) c.common_word.ensures.text passed in
     record { ended = since.ended; passed = since.passed; lexing = since.lexing; after = since.after }
 
@@ -75,10 +82,10 @@ overflow_add-self c =
 pub returns-in-LineEnd : goal.returns-in-LineEnd
 returns-in-LineEnd c =
     let going = still_going c.loop-self.self c.loop-self.invariant.lexing (sym c.is_nothing.ensures ∙ c.if-not-is_nothing.false) in
-    let at = rw c.in-LineEnd.is at (at_word c.loop-self.self c.common_word.new.self c.in-Some-common_word.field-0 c.common_word.ensures.text c.loop-self.invariant.lexing (sym c.is_nothing.ensures ∙ c.if-not-is_nothing.false) c.in-Some-common_word.ensures.lookahead c.common_word.ensures.ahead c.in-Some-common_word.ensures.stands) in
+    let at = rw c.in-LineEnd.is at (at_word c.loop-self.self c.common_word.new.self c.in-Some.field-0 c.common_word.ensures.text c.loop-self.invariant.lexing (sym c.is_nothing.ensures ∙ c.if-not-is_nothing.false) c.in-Some.ensures.lookahead c.common_word.ensures.ahead c.in-Some.ensures.stands) in
     let state = record c.loop-self.self { reader = c.common_word.new.self } in
     let new = c.take_line_end.new.self in
-    let len = c.in-Some-common_word.field-0.len in
+    let len = c.in-Some.field-0.len in
     let since : HasPassedSince c.args.self.now (fast.Passed c.of_kind-newline.result) (record c.match-line_end.self { yielded_count = c.match-line_end.self.yielded_count + 1 }) = elim c.match-line_end.branch [
       | in-Pending w ↦
           let is = w.in-Pending.is in
@@ -93,10 +100,11 @@ returns-in-LineEnd c =
 
 pub returns-in_default-class : goal.returns-in_default-class
 returns-in_default-class c =
-    let at = at_word c.loop-self.self c.common_word.new.self c.in-Some-common_word.field-0 c.common_word.ensures.text c.loop-self.invariant.lexing (sym c.is_nothing.ensures ∙ c.if-not-is_nothing.false) c.in-Some-common_word.ensures.lookahead c.common_word.ensures.ahead c.in-Some-common_word.ensures.stands in
-    let slow : is_slow c.in-Some-common_word.field-0.class ≡ true = elim c.in_default-class.branch [
+    let at = at_word c.loop-self.self c.common_word.new.self c.in-Some.field-0 c.common_word.ensures.text c.loop-self.invariant.lexing (sym c.is_nothing.ensures ∙ c.if-not-is_nothing.false) c.in-Some.ensures.lookahead c.common_word.ensures.ahead c.in-Some.ensures.stands in
+    let comment = c.in-Some.ensures.comment in
+    let slow : is_slow c.in-Some.field-0.class ≡ true = elim c.in_default-class.branch [
       | in_default-class-via-in-Opener+in_default w ↦ search rules
-      | in_default-class-via-in_default w ↦ search rules
+      | in_default-class-via-in_default w ↦ search (rules, comment)
     ] in
-    let since = passed_since c.args.self.now c.loop-self.self c.common_word.new.self fast.Undecided _ c.loop-self.invariant (still_going c.loop-self.self c.loop-self.invariant.lexing (sym c.is_nothing.ensures ∙ c.if-not-is_nothing.false)) c.common_word.ensures.text (word_found (record c.loop-self.self { reader = c.common_word.new.self }) c.in-Some-common_word.field-0 at slow) in
+    let since = passed_since c.args.self.now c.loop-self.self c.common_word.new.self fast.Undecided _ c.loop-self.invariant (still_going c.loop-self.self c.loop-self.invariant.lexing (sym c.is_nothing.ensures ∙ c.if-not-is_nothing.false)) c.common_word.ensures.text (word_found (record c.loop-self.self { reader = c.common_word.new.self }) c.in-Some.field-0 at slow) in
     record { ended = since.ended; passed = since.passed; lexing = since.lexing; after = since.after }

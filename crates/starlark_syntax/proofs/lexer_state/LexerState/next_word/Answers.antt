@@ -7,8 +7,8 @@ use Rattle.starlark_syntax.proofs.LexerReads.{peeked_begun, word_inside}
 use Rattle.starlark_syntax.proofs.LexerStates.{given_same}
 use Rattle.starlark_syntax.proofs.lexer_state.LexerState.next_word.Goals as goal
 
-pub item_of-requires-in-Opener-FString-default-default-clause-found : goal.item_of-requires-in-Opener-FString-default-default-clause-found
-item_of-requires-in-Opener-FString-default-default-clause-found c =
+pub item_of-requires-clause-found : goal.item_of-requires-clause-found
+item_of-requires-clause-found c =
     let state = c.args.self.now in
     let here = word_here state c.args.word c.requires.lexing c.requires.going c.requires.found c.requires.word in
     let inside = word_inside state.reader.text.now state.reader _ _ c.args.word.class c.args.word.len here.0.stage (c.requires.lexing.1 c.requires.going).1 (sym here.0.front) in
