@@ -13,7 +13,7 @@
 -- TakenPieces/MarginCuts: kept cuts: where a margin may be cut, both ways.
 -- TakenPieces/Onward, Here: one piece further: what is left of a text.
 -- TakenPieces/Taken, ChunksTaken, PieceTaken: the reader's state: before and after a piece.
--- TakenPieces/WordSteps: words: a word that is read as a step, and its reads.
+-- TakenPieces/WordSteps, WordsPassed: words: one that is read as a step, and its reads; one that is stepped over.
 -- TakenPieces/NextLexeme: lexemes: what the reader returns.
 -- TakenPieces/SameTexts: calls in a row: what is ahead after one, and after the next.
 -- TakenPieces/PieceReads, ReaderReads: reads: of a piece, after each step, and of the lexer by its lookahead.

@@ -17,3 +17,4 @@ pub mod NextLexeme
 pub mod Repaired
 pub mod SameTexts
 pub mod WordSteps
+pub mod WordsPassed

@@ -1,7 +1,7 @@
 //! The indentation stack.
 
 ghost use Rattle.std.specs.Prelude.{◌≡◌, ◌∷◌, ◌++◌, ◌≤◌, ℕ, List, [], length, take, OnOk};
-ghost use Rattle.starlark_reader.specs.Inner.MarginViews.{IsLeftBy, greatest_of};
+ghost use Rattle.starlark_reader.specs.Inner.MarginViews.{IsClosed, greatest_of};
 
 use std::alloc::{AllocError, Global};
 use std::marker::Model;
@@ -51,7 +51,7 @@ impl IndentStack {
 
     /// The greatest of the first `count` open widths; 0 if `count` is 0.
     #[inline(always)]
-    pub(crate) fn greatest_of(&self, count: usize) -> usize
+    fn greatest_of(&self, count: usize) -> usize
         requires { count ≤ length self.now }
         ensures { result ≡ greatest_of (take count self.now) }
     {
@@ -60,18 +60,6 @@ impl IndentStack {
         } else {
             self.widths[count - 1]
         }
-    }
-
-    /// Number of open indents that a content line of a width leaves open.
-    #[inline(always)]
-    pub(crate) fn left_by(&self, width: usize) -> usize
-        ensures { IsLeftBy self.now width result }
-    {
-        let mut count = self.widths.len();
-        while self.greatest_of(count) > width {
-            count -= 1;
-        }
-        count
     }
 
     /// Opens an indent, whose width must be greater than every open one.
@@ -85,11 +73,21 @@ impl IndentStack {
         Ok(())
     }
 
-    /// Closes all indents but the first `count`.
+    /// Closes the indents of greater widths than `width`, and returns their number. Returns `None`, and
+    /// closes none, if `width` is neither that of an open indent nor 0.
     #[inline(always)]
-    pub(crate) fn keep_first(&mut self, count: usize)
-        ensures { self.new ≡ take count self.old }
+    pub(crate) fn close(&mut self, width: usize) -> Option<usize>
+        ensures { IsClosed width self.old self.new result }
     {
-        self.widths.truncate(count);
+        let mut left = self.widths.len();
+        while self.greatest_of(left) > width {
+            left -= 1;
+        }
+        if self.greatest_of(left) != width {
+            return None;
+        }
+        let closed = self.widths.len() - left;
+        self.widths.truncate(left);
+        Some(closed)
     }
 }

@@ -5,14 +5,12 @@
 //! content of a line: comment-only lines, and then the blanks of the line (`margins`, `widths`).
 #![tactic(auto)]
 
-mod comments;
 mod indent_stack;
-mod lf_search;
 mod literal;
 pub mod lookahead;
 mod margins;
-mod nesting;
-mod pending;
+pub mod nesting;
+pub mod pending;
 pub mod reader;
 mod reading;
 mod widths;

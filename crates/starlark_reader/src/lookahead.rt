@@ -3,8 +3,6 @@
 ghost use Rattle.std.specs.Prelude.{◌≡◌};
 ghost use Rattle.starlark_reader.specs.Inner.Lookaheads.{is_nothing};
 
-use starlark_words::scanner::{Class, Word};
-
 /// What kind of thing lookahead has found.
 #[derive(Clone, Copy)]
 pub enum Found {
@@ -30,33 +28,5 @@ impl Found {
         ensures { result ≡ is_nothing self }
     {
         matches!(self, Found::Nothing)
-    }
-}
-
-/// What lookahead has found at the reader's offset.
-#[derive(Clone, Copy)]
-pub struct Lookahead {
-    pub found: Found,
-    /// The word, or the opener of the literal.
-    pub word: Word,
-    /// Length in bytes of the run.
-    pub run: usize,
-}
-
-impl Lookahead {
-    /// What is found where the next lexeme is read.
-    #[inline(always)]
-    pub fn none() -> Lookahead
-        ensures found { result.found ≡ Found.All }
-        ensures run { result.run ≡ 0 }
-    {
-        Lookahead {
-            found: Found::All,
-            word: Word {
-                class: Class::Skipped,
-                len: 0,
-            },
-            run: 0,
-        }
     }
 }

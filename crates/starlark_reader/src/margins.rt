@@ -1,35 +1,28 @@
 //! Reads the margin at the start of a text.
 
-ghost use Rattle.std.specs.Prelude.{◌≡◌, ◌+◌, ◌*◌, ◌≤◌, ◌<◌, ◌^◌, ◌∷◌, if◌then◌else◌, true, false, IfSome, drop, get_or, length, min, nat_eq, not, take};
+ghost use Rattle.std.specs.Prelude.{◌≡◌, ◌+◌, ◌*◌, ◌≤◌, ◌<◌, ◌^◌, true, false, IfSome, get_or, length, min, nat_eq, take};
 ghost use Rattle.std.specs.List.{prefix_len};
 ghost use Rattle.starlark_reader.specs.Inner.MarginViews.{IsBlanks, IsMargin, spaces_margin};
 ghost use Rattle.starlark_grammar.specs.Margins as grammar;
 ghost use Rattle.starlark_words.specs.Inner.Reads.{AreReads, more_reads};
 
-use crate::lf_search::before_lf_len;
+use starlark_words::lines::front_len;
 use starlark_words::reads::{ReadCounter, uncounted_spaces_len};
 
 /// Bytes of a margin that an unrolled loop reads.
 const UNROLLED: usize = 16;
-
-/// The blanks at the start of a line: spaces, tabs and CR.
-#[derive(Clone, Copy)]
-pub struct Blanks {
-    /// Number of blanks, in bytes.
-    pub len: usize,
-    /// Number of spaces among them.
-    pub width: usize,
-    /// Whether one of them is a tab.
-    pub has_tab: bool,
-}
 
 /// A margin: comment-only lines, and then the blanks of the next line.
 #[derive(Clone, Copy)]
 pub struct Margin {
     /// Length of the comment-only lines, in bytes.
     pub at: usize,
-    /// The blanks of the line after them.
-    pub blanks: Blanks,
+    /// Number of blanks after them, in bytes: spaces, tabs and CR.
+    pub blanks: usize,
+    /// Number of spaces among the blanks.
+    pub width: usize,
+    /// Whether one of them is a tab.
+    pub has_tab: bool,
     /// Whether content follows: neither an LF nor the end of the text.
     pub is_content: bool,
 }
@@ -42,85 +35,37 @@ impl Margin {
     {
         Margin {
             at: 0,
-            blanks: Blanks {
-                len: width,
-                width,
-                has_tab: false,
-            },
+            blanks: width,
+            width,
+            has_tab: false,
             is_content: true,
         }
     }
 }
 
-/// Length of the first line of a text with its LF. `feed` is its length without that.
-pub(crate) fn line_len(text: &[u8], feed: usize) -> usize
-    requires { feed ≡ prefix_len (λ b. not (grammar.is_lf b)) text.now }
-    ensures line { 0 < length text.now → grammar.lines text.now ≡ take result text.now ∷ grammar.lines (drop result text.now) }
-    ensures within { result ≤ length text.now }
-    ensures feed { feed ≤ result }
-    ensures value { result ≡ min (feed + 1) (length text.now) }
-{
-    if feed < text.len() { feed + 1 } else { feed }
-}
-
-/// The blanks at the start of a text that begins with `spaces` spaces and then a tab or a CR.
-#[inline(always)]
-fn blanks_after(text: &[u8], spaces: usize, is_tab: bool) -> Blanks
-    requires spaces { spaces ≤ prefix_len (nat_eq 32) text.now }
-    requires inside { spaces < length text.now }
-    requires next { get_or text.now spaces 0 ≡ (if is_tab then 9 else 13) }
-    ensures value { IsBlanks (take (grammar.blanks_len text.now) text.now) result }
-    ensures within { result.len ≤ length text.now }
-{
-    let mut len = spaces + 1;
-    let mut width = spaces;
-    let mut has_tab = is_tab;
-    while let Some(byte) = text.get(len) {
-        match *byte {
-            b' ' => width += 1,
-            b'\t' => has_tab = true,
-            b'\r' => {}
-            _ => break,
-        }
-        len += 1;
-    }
-    Blanks {
-        len,
-        width,
-        has_tab,
-    }
-}
-
-/// The blanks at the start of a text. The reads aren't counted.
-#[inline(always)]
-fn blanks_in_front(text: &[u8]) -> Blanks
-    ensures value { IsBlanks (take (grammar.blanks_len text.now) text.now) result }
-    ensures within { result.len ≤ length text.now }
-{
-    let spaces = uncounted_spaces_len(text);
-    if spaces < text.len() && (text[spaces] == b'\t' || text[spaces] == b'\r') {
-        return blanks_after(text, spaces, text[spaces] == b'\t');
-    }
-    Blanks {
-        len: spaces,
-        width: spaces,
-        has_tab: false,
-    }
-}
-
-/// The blanks at the start of a text, with their reads counted, and `passed` reads besides.
+/// The blanks at the start of a text, as of a margin without comments that content follows. Counts
+/// their reads, and `passed` reads besides.
 ///
 /// The byte after them counts twice, since the caller reads it again.
 #[inline(always)]
-fn blanks_of(reads: &mut ReadCounter, passed: usize, text: &[u8]) -> Blanks
+fn blanks_of(reads: &mut ReadCounter, passed: usize, text: &[u8]) -> Margin
     requires { passed < 2 ^ 33 }
     ensures value { IsBlanks (take (grammar.blanks_len text.now) text.now) result }
-    ensures within { result.len ≤ length text.now }
-    ensures reads { reads.new ≡ more_reads reads.old (passed + (result.len + 2)) }
+    ensures within { result.blanks ≤ length text.now }
+    ensures reads { reads.new ≡ more_reads reads.old (passed + (result.blanks + 2)) }
 {
-    let blanks = blanks_in_front(text);
-    reads.count_run(passed + blanks.len + 1);
-    blanks
+    let mut margin = Margin::of_spaces(uncounted_spaces_len(text));
+    while let Some(byte) = text.get(margin.blanks) {
+        match *byte {
+            b' ' => margin.width += 1,
+            b'\t' => margin.has_tab = true,
+            b'\r' => {}
+            _ => break,
+        }
+        margin.blanks += 1;
+    }
+    reads.count_run(passed + margin.blanks + 1);
+    margin
 }
 
 /// Whether a text begins with `#`.
@@ -141,37 +86,30 @@ fn is_content(text: &[u8]) -> bool
 #[inline(always)]
 pub fn margin_of(reads: &mut ReadCounter, text: &str) -> Margin
     ensures margin { IsMargin (grammar.margin_of text.now) result }
-    ensures within { result.at + result.blanks.len ≤ length text.now }
-    ensures reads { AreReads (result.at + result.blanks.len) (5 * result.at + result.blanks.len + 2) reads.old reads.new }
+    ensures within { result.at + result.blanks ≤ length text.now }
+    ensures reads { AreReads (result.at + result.blanks) (5 * result.at + result.blanks + 2) reads.old reads.new }
 {
     let bytes = text.as_bytes();
-    let blanks = blanks_of(reads, 0, bytes);
-    let remainder = &bytes[blanks.len..];
-    if !begins_comment(remainder) {
-        return Margin {
-            at: 0,
-            blanks,
-            is_content: is_content(remainder),
-        };
-    }
-    let mut at = blanks.len + line_len(remainder, before_lf_len(reads, 0, remainder));
+    let mut at = 0;
     loop {
         let line = &bytes[at..];
-        // First, since most have no blanks in front (1 % of comments).
-        if begins_comment(line) {
-            at += line_len(line, before_lf_len(reads, 1, line));
+        // First, since most later lines have no blanks in front (1 % of comments).
+        if at > 0 && begins_comment(line) {
+            let feed = front_len(reads, 1, line, b'\n');
+            at += (feed + 1).min(line.len());
             continue;
         }
-        let blanks = blanks_of(reads, 1, line);
-        let remainder = &line[blanks.len..];
+        let margin = blanks_of(reads, at.min(1), line);
+        let remainder = &line[margin.blanks..];
         if !begins_comment(remainder) {
             return Margin {
                 at,
-                blanks,
                 is_content: is_content(remainder),
+                ..margin
             };
         }
-        at += blanks.len + line_len(remainder, before_lf_len(reads, 0, remainder));
+        let feed = front_len(reads, 0, remainder, b'\n');
+        at += margin.blanks + (feed + 1).min(remainder.len());
     }
 }
 
@@ -202,7 +140,7 @@ fn blank_margin(text: &[u8], spaces: usize) -> Option<Margin>
     requires inside { spaces < length text.now }
     requires next { get_or text.now spaces 0 ≡ 13 }
     ensures margin { IfSome result (λ found. IsMargin (grammar.margin_of text.now) found) }
-    ensures plain { IfSome result (λ found. (found.at ≡ 0) × (found.is_content ≡ false) × (found.blanks.len ≤ length text.now)) }
+    ensures plain { IfSome result (λ found. (found.at ≡ 0) × (found.is_content ≡ false) × (found.blanks ≤ length text.now)) }
 {
     let mut len = spaces + 1;
     // The first test is for lines with one CR, which are most (3 % of blank lines). An iterator in
@@ -217,11 +155,9 @@ fn blank_margin(text: &[u8], spaces: usize) -> Option<Margin>
     }
     Some(Margin {
         at: 0,
-        blanks: Blanks {
-            len,
-            width: spaces,
-            has_tab: false,
-        },
+        blanks: len,
+        width: spaces,
+        has_tab: false,
         is_content: false,
     })
 }
@@ -231,9 +167,9 @@ fn blank_margin(text: &[u8], spaces: usize) -> Option<Margin>
 #[inline(always)]
 pub(crate) fn plain_margin(text: &str) -> Option<Margin>
     ensures margin { IfSome result (λ found. IsMargin (grammar.margin_of text.now) found) }
-    ensures within { IfSome result (λ found. found.blanks.len ≤ length text.now) }
+    ensures within { IfSome result (λ found. found.blanks ≤ length text.now) }
     ensures plain { IfSome result (λ found. found.at ≡ 0) }
-    ensures spaces { IfSome result (λ found. found.is_content ≡ true → found ≡ spaces_margin found.blanks.width) }
+    ensures spaces { IfSome result (λ found. found.is_content ≡ true → found ≡ spaces_margin found.width) }
 {
     let bytes = text.as_bytes();
     let spaces = margin_spaces_len(bytes);

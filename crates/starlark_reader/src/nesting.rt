@@ -82,7 +82,7 @@ impl Nesting {
 
     /// The lexer mode.
     #[inline(always)]
-    pub(crate) fn mode(&self) -> LexerMode
+    pub fn mode(&self) -> LexerMode
         ensures { (tokens : List grammar.Token) → Represents tokens self.now → mode_view result ≡ mode_after tokens }
     {
         let Some(innermost) = self.fstrings.last() else {

@@ -1,15 +1,16 @@
 //! Pending lexemes: read already, and made one by one as the lexer yields them.
 
-ghost use Rattle.std.specs.Prelude.{◌≡◌, ◌<◌, ◌≤◌, ◌+◌, ◌*◌, [], nat_lt, true, None, Some, OnErr, OnOk, IfOk, IfSome};
+ghost use Rattle.std.specs.Prelude.{◌≡◌, ◌<◌, ◌≤◌, ◌+◌, ◌*◌, [], drop, length, nat_lt, true, None, Some, OnErr, OnOk, IfOk, IfSome};
 ghost use Rattle.starlark_reader.specs.Inner.Pending.{IsCommentIn, IsFirst, IsFirstAfter, IsFirstPast, IsMark, IsPending, comment_lexeme, lexemes_after, owed, pending_lexemes};
 ghost use Rattle.starlark_reader.specs.Inner.MarginLines.{IsLinePassed, IsPassedLine};
+ghost use Rattle.starlark_grammar.specs.Margins as grammar;
 ghost use Rattle.starlark_grammar.specs.Words.{Text};
 ghost use Rattle.starlark_reader.specs.Inner.PieceViews.{text_end};
 ghost use Rattle.starlark_token.specs.TokenViews.{Whole, token_view};
 ghost use Rattle.starlark_words.specs.Inner.Reads.{more_reads};
 
-use crate::comments::first_comment;
 use starlark_token::tokens::Token;
+use starlark_words::lines::front_len;
 use starlark_words::reads::ReadCounter;
 
 /// The lexemes that are pending after the comments. Offsets count bytes.
@@ -58,6 +59,22 @@ pub(crate) fn text_end(before_expression: bool) -> Token
     } else {
         Token::FStringEnd
     }
+}
+
+/// Number of blanks before the comment of some comment-only lines. The caller has to count their
+/// reads, and that of the `#`.
+// By the `#` alone: that is one comparison a byte, and not three.
+#[inline(always)]
+fn before_comment_len(lines: &[u8]) -> usize
+    requires comment { grammar.begins_comment (drop (grammar.blanks_len lines.now) lines.now) ≡ true }
+    ensures value { result ≡ grammar.blanks_len lines.now }
+    ensures within { result ≤ length lines.now }
+{
+    let mut len = 0;
+    while len < lines.len() && lines[len] != b'#' {
+        len += 1;
+    }
+    len
 }
 
 impl AfterComments {
@@ -128,7 +145,7 @@ impl Pending {
 
     /// Whether no lexeme is pending.
     #[inline(always)]
-    pub(crate) fn is_nothing(&self) -> bool
+    pub fn is_nothing(&self) -> bool
         ensures { result ≡ true → (text : Text) → pending_lexemes text self.now ≡ [] }
     {
         if self.has_comments() {
@@ -142,7 +159,7 @@ impl Pending {
 
     /// Whether comments are pending.
     #[inline(always)]
-    pub(crate) fn has_comments(&self) -> bool
+    pub fn has_comments(&self) -> bool
         ensures { result ≡ nat_lt self.now.from self.now.to }
     {
         self.from < self.to
@@ -150,7 +167,7 @@ impl Pending {
 
     /// Passes the first pending comment. Returns the offsets where it begins and ends.
     #[inline(always)]
-    pub(crate) fn pass_comment(&mut self, reads: &mut ReadCounter, text: &str) -> (usize, usize)
+    pub fn pass_comment(&mut self, reads: &mut ReadCounter, text: &str) -> (usize, usize)
         requires some { self.old.from < self.old.to }
         requires pending { IsPending text.now self.old }
         ensures next { IsFirstPast text.now (comment_lexeme text.now result.0 result.1) self.old self.new }
@@ -159,14 +176,23 @@ impl Pending {
         ensures flat { self.new.is_flat ≡ self.old.is_flat }
         ensures reads { (more_reads reads.old 0 ≤ reads.new) × (reads.new + 5 * owed self.new ≤ reads.old + 5 * owed self.old) }
     {
-        let line = first_comment(reads, text, self.from, self.to);
-        self.from += line.len;
-        (line.begin, line.end)
+        let from = self.from;
+        let lines = &text.as_bytes()[from..self.to];
+        let blanks = before_comment_len(lines);
+        // The blanks, the `#` and the line's last byte are counted with the line.
+        let feed = blanks + front_len(reads, blanks + 2, &lines[blanks..], b'\n');
+        let end = if lines[feed - 1] == b'\r' {
+            feed - 1
+        } else {
+            feed
+        };
+        self.from += (feed + 1).min(lines.len());
+        (from + blanks, from + end)
     }
 
     /// Takes the first pending lexeme where no comments are pending; `None` if there is none.
     #[inline(always)]
-    pub(crate) fn next_mark(&mut self) -> Option<(usize, Token, usize)>
+    pub fn next_mark(&mut self) -> Option<(usize, Token, usize)>
         requires none { self.old.to ≤ self.old.from }
         ensures next { (text : Text) → IsPending text self.old → IsFirst text self.old self.new result }
         ensures lines { (text : Text) → IsLinePassed text self.old self.new result }

@@ -1,67 +1,62 @@
 //! The reader: reads a text piece by piece, and stores what later pieces depend on.
 
-ghost use Rattle.std.specs.Prelude.{◌&&◌, ◌≡◌, ◌≢◌, true, false, ◌<◌, ◌≤◌, ◌+◌, ◌-◌, ◌*◌, ◌^◌, [], ℕ, None, Some, List, Option, codes, drop, length, map, nat_eq, nat_lt, string_bytes, take, OnErr, OnOk, IfErr, IfOk, IfSome};
+ghost use Rattle.std.specs.Prelude.{◌&&◌, ◌≡◌, ◌≢◌, true, false, ◌<◌, ◌≤◌, ◌+◌, ◌-◌, ◌*◌, ◌^◌, [], ℕ, None, Some, List, Option, codes, drop, length, map, nat_eq, nat_lt, take, OnErr, OnOk, IfErr, IfOk, IfSome};
 ghost use Rattle.std.specs.List.{ends_with};
 ghost use Rattle.std.specs.Str.{IsCharBoundary};
 ghost use Rattle.starlark_words.specs.Inner.Reads.{AreReads, more_reads};
 ghost use Rattle.starlark_reader.specs.Inner.StepViews.{IsDigitAt, IsFaultWord, IsStep, text_step};
 ghost use Rattle.starlark_token.specs.Lexemes.{shown_lexeme};
-ghost use Rattle.starlark_words.specs.Inner.LiteralViews.{IsPlainBody, fstring_literal, single_literal};
+ghost use Rattle.starlark_words.specs.Inner.LiteralViews.{IsPlainBody, single_literal};
 ghost use Rattle.starlark_words.specs.Inner.PlainRuns.{IsRun};
-ghost use Rattle.starlark_grammar.specs.Inner.Openings.{opening_view};
 ghost use Rattle.starlark_words.specs.Inner.ScannedWords.{begins_mark, is_common, is_number, peeked_len, word_len};
-ghost use Rattle.starlark_grammar.specs.Margins.{margin_of, open_widths};
+ghost use Rattle.starlark_grammar.specs.Margins.{margin_of};
 ghost use Rattle.starlark_reader.specs.Inner.MarginViews.{IsMargin, spaces_margin};
 ghost use Rattle.starlark_grammar.specs.Pieces as grammar;
 ghost use Rattle.starlark_grammar.specs.declared.class.Class.TheVariants as class;
 ghost use Rattle.starlark_grammar.specs.declared.class.LiteralKind.TheVariants as kind;
-ghost use Rattle.starlark_grammar.specs.declared.class.LiteralKind.TheVariants.{FString as OfFString};
 ghost use Rattle.starlark_reader.specs.Inner.Pending.{IsCommentIn, IsIdle, IsMark, IsPending, comment_lexeme, owed, pending_lexemes};
 ghost use Rattle.starlark_reader.specs.Inner.MarginCuts.{IsCutBefore};
 ghost use Rattle.starlark_reader.specs.Inner.ReadBounds.{HasStarted, HasLooked, HasLookedHere, HasRead, HasReadAt, HasReadLast, IsMarginRead, IsPassed, IsPassedBy, IsTaken};
-ghost use Rattle.starlark_reader.specs.Inner.Reader.{HasSomething, IsText, IsAtLineEnd, IsAtStep, IsLineEndStep, IsSound, KeepsAhead, PassesNext, Takes, TakesNext, has_read_none, is_begin, is_fault, is_onward, IsAhead, IsAheadAfter, IsAheadPast, IsAtCode, IsBangHere, IsInCode, IsInFlatMargin, IsReached, IsStateAfter, IsStateAtFault, IsAtEnd, IsLast, IsPlainTextHere, IsRead, IsReadPast, IsReady, IsSomething, IsTokenOf, IsWordHere, before_margin, before_view, begins_with_tab, chunk_lexemes, fstring_text_lexeme, left_here, left_to_read, name_lexeme, newline_if, newline_of, step_here, text_lexeme};
+ghost use Rattle.starlark_reader.specs.Inner.Reader.{HasSomething, IsText, IsAtLineEnd, IsAtStep, IsLineEndStep, IsSound, KeepsAhead, PassesNext, Takes, TakesNext, has_read_none, is_begin, is_fault, is_onward, IsAhead, IsAheadAfter, IsAtCode, IsBangHere, IsInCode, IsInFlatMargin, IsReached, IsStateAfter, IsStateAtFault, IsAtEnd, IsLast, IsPlainTextHere, IsRead, IsReadPast, IsReady, IsTokenOf, IsWordHere, before_view, chunk_lexemes, fstring_text_lexeme, left_here, left_to_read, name_lexeme, newline_of, step_here, text_lexeme};
 ghost use Rattle.starlark_reader.specs.Inner.PieceViews.{IsLineEnd};
-ghost use Rattle.starlark_reader.specs.Inner.Lookaheads.{HasPeeked, IsFoundAt, IsLooked, IsTextRun};
+ghost use Rattle.starlark_reader.specs.Inner.Lookaheads.{HasPeeked, IsFound, IsTextRun};
 ghost use Rattle.starlark_grammar.specs.Cuts.{is_layout, is_settled};
 ghost use Rattle.starlark_grammar.specs.Found.{passed_count};
 ghost use Rattle.starlark_grammar.specs.RepairLaws.{KeepsLine};
 ghost use Rattle.starlark_grammar.specs.Repairs.{repair_end, repaired};
 ghost use Rattle.starlark_grammar.specs.Reading.{History, outcome};
 ghost use Rattle.starlark_token.specs.TokenViews.{TokenView, token_view};
-ghost use Rattle.starlark_grammar.specs.Tokens as grammar_tokens;
 ghost use Rattle.starlark_grammar.specs.Tokens.{FStringStart, Fault, Spanned};
 ghost use Rattle.starlark_grammar.specs.Depths.{InText, mode_after};
 ghost use Rattle.starlark_grammar.specs.Front.{language_front};
-ghost use Rattle.starlark_reader.specs.Inner.Nesting.{Represents, keeps_nesting};
+ghost use Rattle.starlark_reader.specs.Inner.Nesting.{keeps_nesting};
 ghost use Rattle.starlark_grammar.specs.Words.{Text, begins, is_name_start};
 
 use crate::indent_stack::IndentStack;
 use crate::literal::{
     Chunk, Opening, Step, chunk_from, literal_piece, opening_of, plain_text, quotes_of,
 };
-use crate::lookahead::{Found, Lookahead};
+use crate::lookahead::Found;
 use crate::margins::{Margin, margin_of, plain_margin};
 use crate::nesting::{LexerMode, Nesting};
 use crate::pending::{AfterComments, Pending, text_end};
 use crate::reading::terminals::own_token;
-use crate::reading::words::{digit_token, fault_step, number_token, starts_zero};
-use crate::widths::{keep_margin, keeps_widths, margin_fault, take_margin};
+use crate::reading::words::number_token;
+use crate::widths::{keeps_widths, take_margin};
 use starlark_token::lexeme_error::LexemeError;
+use starlark_token::token_int::TokenInt;
 use starlark_token::tokens::Token;
-use starlark_words::plain_body_len;
 use starlark_words::reads::ReadCounter;
 use starlark_words::scanner::{
     Class, LiteralKind, Quote, Terminal, Word, gap_len, is_bang, unnamed_word, word_after,
 };
+use starlark_words::{Literal, plain_body_len};
 use std::alloc::{AllocError, Global};
 use std::mem;
 
-/// A token, between the offsets where it begins and ends.
-pub type Lexeme = (usize, Token, usize);
-
 /// How far a text is read: not at all, up to an offset, up to its fault, or to its end.
 #[derive(Drop)]
-enum Stage {
+pub enum Stage {
     Begin,
     Onward,
     Fault {
@@ -74,7 +69,7 @@ enum Stage {
 
 /// The kind of the piece right before an offset: a margin, a skipped piece, or another.
 #[derive(Clone, Copy)]
-enum Before {
+pub enum Before {
     Layout,
     Gap,
     Other,
@@ -86,14 +81,14 @@ enum Before {
 // instruction, not four (time -5 % of dense tokens).
 #[derive(Drop)]
 pub struct Reader<'a> {
-    text: &'a str,
-    at: usize,
-    reads: ReadCounter,
+    pub text: &'a str,
+    pub at: usize,
+    pub reads: ReadCounter,
     before: Before,
-    nesting: Nesting,
+    pub nesting: Nesting,
     levels: IndentStack,
-    pending: Pending,
-    stage: Stage,
+    pub pending: Pending,
+    pub stage: Stage,
     alloc: Global,
 }
 
@@ -108,18 +103,6 @@ pub enum LineEnd {
     Newline,
     /// Nothing: the newline doesn't count.
     Passed,
-}
-
-/// The outcome of a newline, by whether the margin after it has no fault.
-#[inline(always)]
-fn before_margin(is_laid: bool) -> LineEnd
-    ensures { result ≡ before_margin is_laid }
-{
-    if is_laid {
-        LineEnd::Pending
-    } else {
-        LineEnd::Fault
-    }
 }
 
 impl<'a> Reader<'a> {
@@ -164,21 +147,6 @@ impl<'a> Reader<'a> {
         }
     }
 
-    /// The text.
-    #[inline(always)]
-    pub fn text(&self) -> &'a str
-        ensures { result.now ≡ self.now.text.now }
-    {
-        self.text
-    }
-
-    /// Number of reads of the text's bytes so far.
-    pub fn reads(&self) -> u64
-        ensures { result ≡ self.now.reads }
-    {
-        self.reads.count()
-    }
-
     /// Stops at a fault. `begin` and `end` are in bytes from the reader's offset on.
     fn refuse(&mut self, begin: usize, fault: LexemeError, end: usize)
         requires begin { self.old.at + begin < 2 ^ 64 }
@@ -194,7 +162,7 @@ impl<'a> Reader<'a> {
 
     /// Advances past a piece of `len` bytes, and records its kind.
     #[inline(always)]
-    fn step_over(&mut self, len: usize, before: Before)
+    pub fn step_over(&mut self, len: usize, before: Before)
         requires fits { self.old.at + len < 2 ^ 64 }
         requires stage { self.old.stage ≡ Stage.Onward }
         ensures { self.new ≡ record self.old { at = self.old.at + len; before = before; stage = Stage.Onward } }
@@ -229,50 +197,51 @@ impl<'a> Reader<'a> {
         ensures reads { OnOk result (HasRead self.old.text.now self.old → HasRead self.old.text.now self.new) }
     {
         let margin = margin_of(&mut self.reads, self.text);
-        if take_margin(&mut self.levels, &mut self.pending, 0, margin)? {
-            self.stage = Stage::Onward;
-            self.step_over(margin.at + margin.blanks.len, Before::Layout);
-        } else {
-            let (fault, end) = margin_fault(0, margin);
-            self.refuse(0, fault, end);
+        match take_margin(&mut self.levels, &mut self.pending, 0, 0, margin)? {
+            Some((fault, end)) => self.refuse(0, fault, end),
+            None => {
+                self.stage = Stage::Onward;
+                self.step_over(margin.at + margin.blanks, Before::Layout);
+            }
         }
         Ok(())
     }
 
-    /// Takes the margin found after a newline of `len` bytes that counts. Returns `false`, and stops
+    /// Takes the margin found after a newline of `len` bytes that counts. Returns the outcome, and stops
     /// at the fault, where the margin has one. Its reads are counted before.
     #[inline(always)]
-    fn lay_margin(&mut self, len: usize, margin: Margin) -> Result<bool, AllocError>
+    fn lay_margin(&mut self, len: usize, margin: Margin) -> Result<LineEnd, AllocError>
         requires line_end { IsAtLineEnd self.old len }
         requires margin { IsMargin (margin_of (drop (self.old.at + len) self.old.text.now)) margin }
-        requires within { self.old.at + len + (margin.at + margin.blanks.len) ≤ length self.old.text.now }
+        requires within { self.old.at + len + (margin.at + margin.blanks) ≤ length self.old.text.now }
         ensures text { self.new.text ≡ self.old.text }
-        ensures read { IfOk result (λ is_laid. Takes self.old (IsLineEndStep self.old len) (newline_if is_laid self.old.at len) self.new) }
-        ensures end { IfOk result (λ is_laid. is_laid ≡ false → IsAtEnd self.old.text.now self.new) }
-        ensures reads { OnOk result ((before : ℕ) → AreReads (margin.at + margin.blanks.len) (5 * margin.at + margin.blanks.len + 2) before self.old.reads → IsLineEnd len (drop self.old.at self.old.text.now) →
+        ensures read { IfOk result (λ line_end. Takes self.old (IsLineEndStep self.old len) (newline_of line_end self.old.at len) self.new) }
+        ensures end { IfOk result (λ line_end. line_end ≡ LineEnd.Fault → IsAtEnd self.old.text.now self.new) }
+        ensures reads { OnOk result ((before : ℕ) → AreReads (margin.at + margin.blanks) (5 * margin.at + margin.blanks + 2) before self.old.reads → IsLineEnd len (drop self.old.at self.old.text.now) →
             IsMarginRead self.old.text.now len (record self.old { reads = before }) self.new self.new.stage) }
+        ensures counts { IfOk result (λ line_end. (line_end ≢ LineEnd.Passed) × (line_end ≢ LineEnd.Newline)) }
     {
-        let begin = self.at + len;
-        if !take_margin(&mut self.levels, &mut self.pending, begin, margin)? {
-            let (fault, end) = margin_fault(len, margin);
+        let fault = take_margin(&mut self.levels, &mut self.pending, self.at, len, margin)?;
+        if let Some((fault, end)) = fault {
             self.pending = Pending::nothing();
             self.refuse(0, fault, end);
-            return Ok(false);
+            return Ok(LineEnd::Fault);
         }
-        self.step_over(len + margin.at + margin.blanks.len, Before::Layout);
-        Ok(true)
+        self.step_over(len + margin.at + margin.blanks, Before::Layout);
+        Ok(LineEnd::Pending)
     }
 
-    /// Reads a newline of `len` bytes that counts, and any margin after it. Returns `false`, and
+    /// Reads a newline of `len` bytes that counts, and any margin after it. Returns the outcome, and
     /// stops at the fault, where the margin has one.
     // A call: so a newline before a plain margin saves no registers (8 % of blank lines).
     #[inline(never)]
-    fn lay_long_margin(&mut self, len: usize) -> Result<bool, AllocError>
+    fn lay_long_margin(&mut self, len: usize) -> Result<LineEnd, AllocError>
         requires { IsAtLineEnd self.old len }
         ensures text { self.new.text ≡ self.old.text }
-        ensures read { IfOk result (λ is_laid. Takes self.old (IsLineEndStep self.old len) (newline_if is_laid self.old.at len) self.new) }
-        ensures end { IfOk result (λ is_laid. is_laid ≡ false → IsAtEnd self.old.text.now self.new) }
+        ensures read { IfOk result (λ line_end. Takes self.old (IsLineEndStep self.old len) (newline_of line_end self.old.at len) self.new) }
+        ensures end { IfOk result (λ line_end. line_end ≡ LineEnd.Fault → IsAtEnd self.old.text.now self.new) }
         ensures reads { OnOk result (IsLineEnd len (drop self.old.at self.old.text.now) → IsMarginRead self.old.text.now len self.old self.new self.new.stage) }
+        ensures counts { IfOk result (λ line_end. (line_end ≢ LineEnd.Passed) × (line_end ≢ LineEnd.Newline)) }
     {
         let begin = self.at + len;
         let margin = margin_of(&mut self.reads, &self.text[begin..]);
@@ -280,16 +249,18 @@ impl<'a> Reader<'a> {
     }
 
     /// Reads a newline of `len` bytes that counts, and the margin of `width` spaces alone after it,
-    /// which content follows. Returns `false`, and stops at the fault, where the margin has one.
+    /// which content follows. Returns the outcome, and stops at the fault, where the margin has one.
+    // Not `lay_long_margin`: the known width is 2 % of deep indentation.
     #[inline(never)]
-    fn change_width(&mut self, len: usize, width: usize) -> Result<bool, AllocError>
+    fn change_width(&mut self, len: usize, width: usize) -> Result<LineEnd, AllocError>
         requires line_end { IsAtLineEnd self.old len }
         requires margin { IsMargin (margin_of (drop (self.old.at + len) self.old.text.now)) (spaces_margin width) }
         requires within { self.old.at + len + width ≤ length self.old.text.now }
         ensures text { self.new.text ≡ self.old.text }
-        ensures read { IfOk result (λ is_laid. Takes self.old (IsLineEndStep self.old len) (newline_if is_laid self.old.at len) self.new) }
-        ensures end { IfOk result (λ is_laid. is_laid ≡ false → IsAtEnd self.old.text.now self.new) }
+        ensures read { IfOk result (λ line_end. Takes self.old (IsLineEndStep self.old len) (newline_of line_end self.old.at len) self.new) }
+        ensures end { IfOk result (λ line_end. line_end ≡ LineEnd.Fault → IsAtEnd self.old.text.now self.new) }
         ensures reads { OnOk result (IsLineEnd len (drop self.old.at self.old.text.now) → IsMarginRead self.old.text.now len self.old self.new self.new.stage) }
+        ensures counts { IfOk result (λ line_end. (line_end ≢ LineEnd.Passed) × (line_end ≢ LineEnd.Newline)) }
     {
         self.reads.count_run(width + 1);
         self.lay_margin(len, Margin::of_spaces(width))
@@ -309,20 +280,21 @@ impl<'a> Reader<'a> {
     {
         let begin = self.at + len;
         let Some(margin) = plain_margin(&self.text[begin..]) else {
-            return Ok(before_margin(self.lay_long_margin(len)?));
+            return self.lay_long_margin(len);
         };
         if !keeps_widths(&self.levels, margin) {
-            return Ok(before_margin(self.change_width(len, margin.blanks.width)?));
+            return self.change_width(len, margin.width);
         }
-        self.reads.count_run(margin.blanks.len + 1);
-        keep_margin(&self.levels, &mut self.pending, begin, margin);
-        self.step_to(begin + margin.blanks.len, Before::Layout);
+        self.reads.count_run(margin.blanks + 1);
+        let is_flat = self.levels.len() == 0;
+        self.pending.wait_for_comments(begin, begin, is_flat);
+        self.step_to(begin + margin.blanks, Before::Layout);
         Ok(LineEnd::Newline)
     }
 
     /// Takes a token of `len` bytes that begins no f-string, and returns it with its span.
     #[inline(always)]
-    fn take_token(&mut self, token: Token, len: usize) -> Lexeme
+    fn take_token(&mut self, token: Token, len: usize) -> (usize, Token, usize)
         requires { IsAtStep self.old (λ history found. IsStep found (Step.Token token len)) }
         ensures text { self.new.text ≡ self.old.text }
         ensures token { result.1 ≡ token }
@@ -339,7 +311,7 @@ impl<'a> Reader<'a> {
 
     /// Advances past an f-string text and what ends it, which becomes pending.
     #[inline(always)]
-    fn pass_chunk(&mut self, chunk: Chunk)
+    pub fn pass_chunk(&mut self, chunk: Chunk)
         requires { (value : Text) × IsAtStep self.old (λ history step. step ≡ text_step value chunk) }
         ensures text { self.new.text ≡ self.old.text }
         ensures read { (value : Text) (history : History) → IsStateAfter self.old.text.now history self.old → step_here self.old.text.now history self.old ≡ text_step value chunk →
@@ -359,7 +331,7 @@ impl<'a> Reader<'a> {
 
     /// Takes what ends an f-string text without a value.
     #[inline(always)]
-    fn take_chunk_end(&mut self, chunk: Chunk) -> Lexeme
+    pub fn take_chunk_end(&mut self, chunk: Chunk) -> (usize, Token, usize)
         requires { IsAtStep self.old (λ history step. step ≡ text_step [] chunk) }
         ensures text { self.new.text ≡ self.old.text }
         ensures read { Takes self.old (λ history step. step ≡ text_step [] chunk) (Some result) self.new }
@@ -374,26 +346,9 @@ impl<'a> Reader<'a> {
         (begin, token, end)
     }
 
-    /// Takes an f-string text with its end, which becomes pending. Where the text has no value, its end
-    /// is returned.
-    #[inline(always)]
-    fn take_chunk(&mut self, value: String, chunk: Chunk) -> Lexeme
-        requires { IsAtStep self.old (λ history step. IsStep step (Step.Text value chunk)) }
-        ensures text { self.new.text ≡ self.old.text }
-        ensures read { Takes self.old (λ history step. IsStep step (Step.Text value chunk)) (Some result) self.new }
-        ensures passed { IsPassedBy (self.old.at + (chunk.len + chunk.stop_len)) self.old self.new × (self.new.stage ≡ Stage.Onward) }
-    {
-        if value.is_empty() {
-            return self.take_chunk_end(chunk);
-        }
-        let begin = self.at;
-        self.pass_chunk(chunk);
-        (begin, Token::FStringText(value), begin + chunk.len)
-    }
-
     /// Takes a step, and returns its first token. Stops at a fault, and returns `None`.
     #[inline(always)]
-    fn take(&mut self, step: Step) -> Option<Lexeme>
+    fn take(&mut self, step: Step) -> Option<(usize, Token, usize)>
         requires { IsAtStep self.old (λ history found. IsStep found step) }
         ensures text { self.new.text ≡ self.old.text }
         ensures read { Takes self.old (λ history found. IsStep found step) result self.new }
@@ -402,19 +357,17 @@ impl<'a> Reader<'a> {
     {
         match step {
             Step::Token { token, len } => Some(self.take_token(token, len)),
-            Step::Text { value, chunk } => Some(self.take_chunk(value, chunk)),
+            Step::Text { value, chunk } if value.is_empty() => Some(self.take_chunk_end(chunk)),
+            Step::Text { value, chunk } => {
+                let begin = self.at;
+                self.pass_chunk(chunk);
+                Some((begin, Token::FStringText(value), begin + chunk.len))
+            }
             Step::Fault { begin, fault, end } => {
                 self.refuse(begin, fault, end);
                 None
             }
         }
-    }
-
-    /// Whether a margin is right before the offset.
-    fn follows_margin(&self) -> bool
-        ensures { result ≡ is_layout (before_view self.now.before) }
-    {
-        matches!(self.before, Before::Layout)
     }
 
     /// Whether the text, which was read to its end, is a clean cut. A read of its last byte is counted.
@@ -424,7 +377,7 @@ impl<'a> Reader<'a> {
         ensures least { self.old.reads < 2 ^ 64 - 1 → self.old.reads ≤ self.new.reads }
         ensures most { self.new.reads ≤ self.old.reads + 1 }
     {
-        let is_settled = self.follows_margin()
+        let is_settled = matches!(self.before, Before::Layout)
             && self.nesting.counts_line_ends()
             && self.levels.len() == 0;
         if !is_settled {
@@ -460,20 +413,7 @@ impl<'a> Reader<'a> {
     pub fn has_read_none(&self) -> bool
         ensures { result ≡ has_read_none self.now }
     {
-        self.at == 0 && !self.follows_margin()
-    }
-
-    /// Whether the offset is right after a margin with no indent open before it, and no lexeme
-    /// after its comments was yielded.
-    fn is_in_flat_margin(&self) -> bool
-        ensures stage { result ≡ true → self.now.stage ≡ Stage.Onward }
-        ensures before { result ≡ true → self.now.before ≡ Before.Layout }
-        ensures flat { result ≡ true → self.now.pending.is_flat ≡ true }
-        ensures holds { IsInFlatMargin self.now self.now.stage → result ≡ true }
-    {
-        matches!(self.stage, Stage::Onward)
-            && matches!(self.before, Before::Layout)
-            && self.pending.is_flat
+        self.at == 0 && !matches!(self.before, Before::Layout)
     }
 
     /// The offset where the text may be cut, if the lexemes yielded so far are those before it. It
@@ -483,8 +423,11 @@ impl<'a> Reader<'a> {
         ensures kept { IfSome result (λ at. (lexemes : List (Spanned TokenView)) (fault : Option (Spanned Fault)) → IsAhead self.now.text.now self.now self.now.stage lexemes fault → IsCutBefore self.now.text.now at (length lexemes)) }
         ensures reached { (at : ℕ) → IsReached self.now at → 0 < at → at < length self.now.text.now → result ≡ Some at }
     {
+        let is_flat = matches!(self.stage, Stage::Onward)
+            && matches!(self.before, Before::Layout)
+            && self.pending.is_flat;
         let at = self.pending.from;
-        if self.is_in_flat_margin() && 0 < at && at < self.text.len() {
+        if is_flat && 0 < at && at < self.text.len() {
             Some(at)
         } else {
             None
@@ -493,7 +436,7 @@ impl<'a> Reader<'a> {
 
     /// Closes a text without fault at its end. Returns a `Newline` of no bytes. A `Dedent` for each
     /// open indent becomes pending.
-    fn close(&mut self) -> Lexeme
+    pub fn close(&mut self) -> (usize, Token, usize)
         ensures text { self.new.text ≡ self.old.text }
         ensures read { (history : History) → IsStateAfter self.old.text.now history self.old → step_here self.old.text.now history self.old ≡ grammar.Ends → IsRead self.old.text.now (left_here self.old.text.now history self.old) (Some result) self.new }
         ensures passed { IsPassedBy self.old.at self.old self.new × (self.new.stage ≡ Stage.Closed) }
@@ -506,21 +449,8 @@ impl<'a> Reader<'a> {
         (self.at, Token::Newline, self.at)
     }
 
-    /// Passes the skipped piece of `len` bytes here.
-    #[inline(always)]
-    pub fn pass_gap(&mut self, len: usize)
-        requires sound { IsSound self.old }
-        requires stands { IsWordHere self.old.text.now self.old (record { class = class.Skipped; len = len }) }
-        ensures text { self.new.text ≡ self.old.text }
-        ensures ahead { TakesNext self.old None self.new }
-        ensures code { IsAtCode self.old.text.now self.new }
-        ensures taken { IsTaken len self.old self.new }
-    {
-        self.step_over(len, Before::Gap);
-    }
-
     /// Stops at the word here, which is a fault: tabs, a reserved word, or a 0 before more digits.
-    fn refuse_word(&mut self, word: Word) -> Result<Option<Lexeme>, AllocError>
+    pub fn refuse_word(&mut self, word: Word) -> Result<Option<(usize, Token, usize)>, AllocError>
         requires sound { IsSound self.old }
         requires stands { IsWordHere self.old.text.now self.old word }
         requires fault { IsFaultWord word.class (take word.len (drop self.old.at self.old.text.now)) }
@@ -531,12 +461,27 @@ impl<'a> Reader<'a> {
         ensures reads { OnOk result ((before : ℕ) → HasReadAt self.old.text.now (record self.old { reads = before }) Stage.Onward → AreReads word.len (5 * word.len + 3) before self.old.reads → HasRead self.old.text.now self.new) }
     {
         let rest = &self.text[self.at..];
-        let step = fault_step(self.alloc, word.class, &rest[..word.len])?;
-        Ok(self.take(step))
+        let text = &rest[..word.len];
+        let (fault, end) = match word.class {
+            Class::Tabs => (LexemeError::InvalidTab, 0),
+            Class::Decimal => {
+                let text = String::from_str(self.alloc, text)?;
+                (LexemeError::StartsZero(text), word.len)
+            }
+            _ => {
+                let text = String::from_str(self.alloc, text)?;
+                (LexemeError::ReservedKeyword(text), word.len)
+            }
+        };
+        Ok(self.take(Step::Fault {
+            begin: 0,
+            fault,
+            end,
+        }))
     }
 
     /// Reads what is here, where no word begins: a bang, or a fault.
-    fn read_wordless(&mut self) -> Result<Option<Lexeme>, AllocError>
+    pub fn read_wordless(&mut self) -> Result<Option<(usize, Token, usize)>, AllocError>
         requires sound { IsSound self.old }
         requires code { IsAtCode self.old.text.now self.old }
         requires some { self.old.at < length self.old.text.now }
@@ -594,73 +539,6 @@ impl<'a> Reader<'a> {
         self.stage = Stage::Onward;
     }
 
-    /// Whether the text has a fault that was reached and isn't taken yet.
-    #[inline(always)]
-    pub fn has_fault(&self) -> bool
-        ensures { result ≡ is_fault self.now.stage }
-    {
-        matches!(self.stage, Stage::Fault { .. })
-    }
-
-    /// Whether no lexeme is pending.
-    #[inline(always)]
-    fn is_idle(&self) -> bool
-        ensures { result ≡ true → (text : Text) → IsPending text self.now.pending → IsIdle text self.now.pending }
-    {
-        self.pending.is_nothing()
-    }
-
-    /// Whether the next lexeme that isn't pending is to be read at the offset.
-    #[inline(always)]
-    pub fn reads_on(&self) -> bool
-        ensures { result ≡ is_onward self.now.stage }
-    {
-        matches!(self.stage, Stage::Onward)
-    }
-
-    /// Whether no piece of the text was read, and no fault was found.
-    #[inline(always)]
-    pub fn is_at_begin(&self) -> bool
-        ensures { result ≡ is_begin self.now.stage }
-    {
-        matches!(self.stage, Stage::Begin)
-    }
-
-    /// Whether the offset is in code or in an f-string expression.
-    #[inline(always)]
-    pub fn is_in_code(&self) -> bool
-        ensures { result ≡ true → IsInCode self.now }
-    {
-        !matches!(self.nesting.mode(), LexerMode::InText(_))
-    }
-
-    /// Whether the next lexeme is to be read at the offset, in code, and none is pending.
-    #[inline(always)]
-    pub fn is_at_code(&self) -> bool
-        ensures { result ≡ true → (text : Text) → IsPending text self.now.pending → IsAtCode text self.now }
-    {
-        self.is_idle() && self.reads_on() && self.is_in_code()
-    }
-
-    /// Passes the spaces at the offset, in code. Returns their number, and counts no reads.
-    #[inline(always)]
-    fn pass_spaces(&mut self) -> usize
-        requires text { IsText self.old.text.now }
-        requires code { IsAtCode self.old.text.now self.old }
-        requires ready { IsReady self.old.text.now self.old Stage.Onward }
-        ensures text { self.new.text ≡ self.old.text }
-        ensures ahead { (lexemes : List (Spanned TokenView)) (fault : Option (Spanned Fault)) → IsAhead self.old.text.now self.old Stage.Onward lexemes fault → IsAhead self.old.text.now self.new Stage.Onward lexemes fault }
-        ensures same { (self.new.nesting ≡ self.old.nesting) × (self.new.pending ≡ self.old.pending) × (self.new.stage ≡ Stage.Onward) × (self.new.reads ≡ self.old.reads) }
-        ensures onward { self.new.at ≡ self.old.at + result }
-        ensures few { result < 2 ^ 32 }
-    {
-        let gap = gap_len(&self.text[self.at..]);
-        if gap > 0 {
-            self.step_over(gap, Before::Gap);
-        }
-        gap
-    }
-
     /// The next word if its first two bytes tell its kind; `None` if something else comes. It is a
     /// name, a symbol, an LF, or a quote. The spaces before it are passed. For offsets
     /// in code.
@@ -680,7 +558,10 @@ impl<'a> Reader<'a> {
         ensures lookahead { IfSome result (λ word. HasLooked word.len ((5 * word.len - 4) + 2) self.old self.new) }
         ensures peeked { result ≡ None → HasLooked (peeked_len (drop self.new.at self.new.text.now)) (peeked_len (drop self.new.at self.new.text.now)) self.old self.new }
     {
-        let gap = self.pass_spaces();
+        let gap = gap_len(&self.text[self.at..]);
+        if gap > 0 {
+            self.step_over(gap, Before::Gap);
+        }
         word_after(&mut self.reads, gap, &self.text[self.at..])
     }
 
@@ -724,14 +605,6 @@ impl<'a> Reader<'a> {
         }
     }
 
-    /// The offset up to which the text is read, in bytes.
-    #[inline(always)]
-    pub fn at(&self) -> usize
-        ensures { result ≡ self.now.at }
-    {
-        self.at
-    }
-
     /// Takes the newline of `len` bytes here, and the margin after it if it counts. Returns the
     /// outcome. Don't use the reader after an `AllocError`.
     #[inline(never)]
@@ -753,33 +626,6 @@ impl<'a> Reader<'a> {
         }
         self.step_over(len, Before::Other);
         Ok(LineEnd::Passed)
-    }
-
-    /// Passes the name of `len` bytes here.
-    #[inline(always)]
-    pub fn pass_name(&mut self, len: usize)
-        requires sound { IsSound self.old }
-        requires stands { IsWordHere self.old.text.now self.old (record { class = class.Identifier; len = len }) }
-        ensures text { self.new.text ≡ self.old.text }
-        ensures ahead { PassesNext self.old (name_lexeme self.old.text.now self.old.at len) self.new }
-        ensures code { IsAtCode self.old.text.now self.new }
-        ensures taken { IsTaken len self.old self.new }
-    {
-        self.step_over(len, Before::Other);
-    }
-
-    /// Passes the comment of `len` bytes here.
-    #[inline(always)]
-    pub fn pass_comment(&mut self, len: usize)
-        requires sound { IsSound self.old }
-        requires stands { IsWordHere self.old.text.now self.old (record { class = class.Comment; len = len }) }
-        ensures text { self.new.text ≡ self.old.text }
-        ensures ahead { PassesNext self.old (comment_lexeme self.old.text.now self.old.at (self.old.at + len)) self.new }
-        ensures value { IsCharBoundary self.old.text.now (self.old.at + 1) }
-        ensures code { IsAtCode self.old.text.now self.new }
-        ensures taken { IsTaken len self.old self.new }
-    {
-        self.step_over(len, Before::Other);
     }
 
     /// Length in bytes of the next literal's body, if it has no escapes and one quote closes it.
@@ -808,22 +654,6 @@ impl<'a> Reader<'a> {
         plain_body_len(&mut self.reads, kind, is_raw, quote, &rest[len..])
     }
 
-    /// Passes the string literal here, whose opener has `len` bytes and whose body has `body` bytes.
-    /// One quote closes it, and it has no escapes.
-    #[inline(always)]
-    pub fn pass_plain_text(&mut self, is_raw: bool, quote: Quote, len: usize, body: usize)
-        requires sound { IsSound self.old }
-        requires stands { IsWordHere self.old.text.now self.old (record { class = class.Opener kind.Text is_raw quote; len = len }) }
-        requires plain { IsPlainBody kind.Text is_raw quote (drop len (drop self.old.at self.old.text.now)) body }
-        ensures text { self.new.text ≡ self.old.text }
-        ensures ahead { PassesNext self.old (text_lexeme self.old.text.now self.old.at len body) self.new }
-        ensures value { IsCharBoundary self.old.text.now (self.old.at + len) × IsCharBoundary self.old.text.now (self.old.at + len + body) }
-        ensures code { IsAtCode self.old.text.now self.new }
-        ensures taken { IsTaken (len + body + 1) self.old self.new }
-    {
-        self.step_over(len + body + 1, Before::Other);
-    }
-
     /// Takes the bytes literal here, whose opener has `len` bytes and whose body has `body` bytes. One
     /// quote closes it, and it has no escapes. Don't use the reader after an `AllocError`.
     #[inline(always)]
@@ -833,7 +663,7 @@ impl<'a> Reader<'a> {
         quote: Quote,
         len: usize,
         body: usize,
-    ) -> Result<Lexeme, AllocError>
+    ) -> Result<(usize, Token, usize), AllocError>
         requires sound { IsSound self.old }
         requires stands { IsWordHere self.old.text.now self.old (record { class = class.Opener kind.Bytes is_raw quote; len = len }) }
         requires plain { IsPlainBody kind.Bytes is_raw quote (drop len (drop self.old.at self.old.text.now)) body }
@@ -858,7 +688,7 @@ impl<'a> Reader<'a> {
         is_raw: bool,
         quote: Quote,
         len: usize,
-    ) -> Result<Lexeme, AllocError>
+    ) -> Result<(usize, Token, usize), AllocError>
         requires sound { IsSound self.old }
         requires stands { IsWordHere self.old.text.now self.old (record { class = class.Opener kind.FString is_raw quote; len = len }) }
         ensures text { self.new.text ≡ self.old.text }
@@ -873,41 +703,6 @@ impl<'a> Reader<'a> {
         self.nesting.begin_fstring(opening)?;
         self.step_over(len, Before::Other);
         Ok((begin, Token::FStringStart(quotes_of(opening)), begin + len))
-    }
-
-    /// Whether comments are pending. They are yielded before all else.
-    #[inline(always)]
-    pub fn has_comments(&self) -> bool
-        ensures { result ≡ nat_lt self.now.pending.from self.now.pending.to }
-    {
-        self.pending.has_comments()
-    }
-
-    /// Passes the first pending comment. Returns the offsets where it begins and ends.
-    #[inline(always)]
-    pub fn pass_pending_comment(&mut self) -> (usize, usize)
-        requires some { self.old.pending.from < self.old.pending.to }
-        requires ready { IsReady self.old.text.now self.old self.old.stage }
-        ensures text { self.new.text ≡ self.old.text }
-        ensures ahead { PassesNext self.old (comment_lexeme self.old.text.now result.0 result.1) self.new }
-        ensures inside { IsCommentIn self.old.text.now result.0 result.1 }
-        ensures reads { HasReadAt self.old.text.now self.old self.old.stage → HasRead self.old.text.now self.new }
-    {
-        self.pending.pass_comment(&mut self.reads, self.text)
-    }
-
-    /// Takes the first pending lexeme where no comments are pending; `None` if there is none.
-    #[inline(always)]
-    pub fn next_mark(&mut self) -> Option<Lexeme>
-        requires none { self.old.pending.to ≤ self.old.pending.from }
-        ensures text { self.new.text ≡ self.old.text }
-        ensures ahead { (text : Text) (lexemes : List (Spanned TokenView)) (fault : Option (Spanned Fault)) → IsAhead text self.old self.old.stage lexemes fault → IsAheadAfter text result self.new lexemes fault }
-        ensures stays { result ≡ None → self.new ≡ self.old }
-        ensures idle { result ≡ None → (text : Text) → IsPending text self.old.pending → IsIdle text self.old.pending }
-        ensures mark { IfSome result (λ lexeme. IsMark (token_view lexeme.1)) }
-        ensures reads { (text : Text) → HasReadAt text self.old self.old.stage → HasRead text self.new }
-    {
-        self.pending.next_mark()
     }
 
     /// The f-string text that comes next, if it has no escapes. Else the error is the
@@ -933,38 +728,9 @@ impl<'a> Reader<'a> {
         Some(plain_text(&mut self.reads, opening, &self.text[self.at..]))
     }
 
-    /// Passes the f-string text here, which has no escapes and isn't empty. What ends it becomes
-    /// pending.
-    #[inline(always)]
-    pub fn pass_text(&mut self, found: Chunk)
-        requires sound { IsSound self.old }
-        requires stands { IsPlainTextHere self.old.text.now self.old found }
-        requires some { 0 < found.len }
-        ensures text { self.new.text ≡ self.old.text }
-        ensures ahead { PassesNext self.old (fstring_text_lexeme self.old.text.now self.old.at found.len) self.new }
-        ensures edges { IsCharBoundary self.old.text.now self.old.at × IsCharBoundary self.old.text.now (self.old.at + found.len) }
-        ensures passed { IsPassedBy (self.old.at + (found.len + found.stop_len)) self.old self.new × (self.new.stage ≡ Stage.Onward) }
-    {
-        self.pass_chunk(found);
-    }
-
-    /// Passes the f-string text here, which is empty, and takes what ends it.
-    #[inline(always)]
-    pub fn pass_text_end(&mut self, found: Chunk) -> Lexeme
-        requires sound { IsSound self.old }
-        requires stands { IsPlainTextHere self.old.text.now self.old found }
-        requires none { found.len ≡ 0 }
-        ensures text { self.new.text ≡ self.old.text }
-        ensures ahead { TakesNext self.old (Some result) self.new }
-        ensures mark { IsMark (token_view result.1) }
-        ensures passed { IsPassedBy (self.old.at + (found.len + found.stop_len)) self.old self.new × (self.new.stage ≡ Stage.Onward) }
-    {
-        self.take_chunk_end(found)
-    }
-
     /// Takes the keyword or symbol of `len` bytes here.
     #[inline(always)]
-    pub fn take_terminal(&mut self, terminal: Terminal, len: usize) -> Lexeme
+    pub fn take_terminal(&mut self, terminal: Terminal, len: usize) -> (usize, Token, usize)
         requires sound { IsSound self.old }
         requires stands { IsWordHere self.old.text.now self.old (record { class = class.Fixed terminal; len = len }) }
         ensures text { self.new.text ≡ self.old.text }
@@ -1005,7 +771,7 @@ impl<'a> Reader<'a> {
 
     /// Takes the integer of one digit here, whose value is `digit`.
     #[inline(always)]
-    pub fn take_digit(&mut self, digit: u8) -> Lexeme
+    pub fn take_digit(&mut self, digit: u8) -> (usize, Token, usize)
         requires sound { IsSound self.old }
         requires stands { IsWordHere self.old.text.now self.old (record { class = class.Decimal; len = 1 }) }
         requires digit { IsDigitAt digit (drop self.old.at self.old.text.now) }
@@ -1014,7 +780,7 @@ impl<'a> Reader<'a> {
         ensures code { IsAtCode self.new.text.now self.new }
         ensures taken { IsTaken 1 self.old self.new }
     {
-        self.take_token(digit_token(digit), 1)
+        self.take_token(Token::Int(TokenInt::I32(i32::from(digit))), 1)
     }
 
     /// Whether the word here is a number, and not a 0 before more digits.
@@ -1029,7 +795,7 @@ impl<'a> Reader<'a> {
         match word.class {
             Class::Decimal => {
                 let rest = &self.text.as_bytes()[self.at..];
-                !starts_zero(&rest[..word.len])
+                !matches!(&rest[..word.len], [b'0', _, ..])
             }
             Class::Hexadecimal | Class::Octal | Class::Binary | Class::Float => true,
             _ => false,
@@ -1039,7 +805,7 @@ impl<'a> Reader<'a> {
     /// Takes the number here, which isn't a 0 before more digits. Don't use the reader after an
     /// `AllocError`.
     #[inline(always)]
-    pub fn take_number(&mut self, word: Word) -> Result<Lexeme, AllocError>
+    pub fn take_number(&mut self, word: Word) -> Result<(usize, Token, usize), AllocError>
         requires sound { IsSound self.old }
         requires stands { IsWordHere self.old.text.now self.old word }
         requires class { is_number word.class ≡ true }
@@ -1057,9 +823,13 @@ impl<'a> Reader<'a> {
 
     /// Takes the string or bytes literal whose opener is here, or stops at its fault. The `run` bytes after
     /// the opener are known.
-    fn read_literal(&mut self, opener: Word, run: usize) -> Result<Option<Lexeme>, AllocError>
+    pub fn read_literal(
+        &mut self,
+        opener: Word,
+        run: usize,
+    ) -> Result<Option<(usize, Token, usize)>, AllocError>
         requires sound { IsSound self.old }
-        requires found { IsFoundAt self.old.text.now self.old (record { found = Found.Literal; word = opener; run = run }) }
+        requires found { IsFound self.old.text.now self.old opener run Found.Literal }
         ensures text { self.new.text ≡ self.old.text }
         ensures ahead { IfOk result (λ given. TakesNext self.old given self.new) }
         ensures end { IfOk result (λ given. given ≡ None → IsAtEnd self.old.text.now self.new) }
@@ -1076,23 +846,24 @@ impl<'a> Reader<'a> {
         };
         let mode = self.nesting.mode();
         let rest = &self.text[self.at..];
+        let remainder = &rest[opener.len..];
+        let opening = opening_of(&mut self.reads, is_raw, quote, remainder);
+        let quotes = if opening.is_triple { 2 } else { 0 };
         let step = literal_piece(
             &mut self.reads,
             self.alloc,
             mode,
-            kind,
-            is_raw,
-            quote,
-            opener.len,
+            Literal { kind, opening },
+            opener.len + quotes,
             run,
-            &rest[opener.len..],
+            &remainder[quotes..],
         )?;
         Ok(self.take(step))
     }
 
     /// Takes the f-string text here up to its first stop, or stops at its fault. Its first `run` bytes are
     /// known.
-    fn read_text(&mut self, run: usize) -> Result<Option<Lexeme>, AllocError>
+    pub fn read_text(&mut self, run: usize) -> Result<Option<(usize, Token, usize)>, AllocError>
         requires sound { IsSound self.old }
         requires here { IsTextRun self.old.text.now run self.old }
         requires peeked { HasPeeked self.old.text.now run (8 * run + 4) self.old }
@@ -1108,27 +879,5 @@ impl<'a> Reader<'a> {
         let rest = &self.text[self.at..];
         let step = chunk_from(&mut self.reads, self.alloc, opening, run, rest)?;
         Ok(self.take(step))
-    }
-
-    /// Reads what lookahead has found. Returns its lexeme; `None` where it is a fault, or the text is at
-    /// its end. Don't use the reader after an `AllocError`.
-    pub fn read(&mut self, lookahead: Lookahead) -> Result<Option<Lexeme>, AllocError>
-        requires sound { IsSound self.old }
-        requires found { IsFoundAt self.old.text.now self.old lookahead }
-        requires looked { IsLooked self.old.text.now self.old lookahead.word lookahead.found }
-        ensures text { self.new.text ≡ self.old.text }
-        ensures ahead { IfOk result (λ given. TakesNext self.old given self.new) }
-        ensures end { IfOk result (λ given. given ≡ None → IsAtEnd self.old.text.now self.new) }
-        ensures memory { OnErr result (HasSomething self.old) }
-        ensures reads { OnOk result (HasRead self.old.text.now self.new) }
-    {
-        match lookahead.found {
-            Found::Word => self.refuse_word(lookahead.word),
-            Found::Wordless if self.at == self.text.len() => Ok(Some(self.close())),
-            Found::Wordless => self.read_wordless(),
-            Found::Literal => self.read_literal(lookahead.word, lookahead.run),
-            Found::Text => self.read_text(lookahead.run),
-            Found::Nothing | Found::All => Ok(None),
-        }
     }
 }

@@ -1,5 +1,5 @@
 -- Where a lexer may cut its text.
-use Rattle.std.proofs.Common.{◌≡◌, ◌<◌, ◌+◌, ◌∙◌, ℕ, Bool, false, true, ap, refl, sym, subst, length, map, take, arith, IfSome, None, Some, Ok, rules}
+use Rattle.std.proofs.Common.{◌≡◌, ◌<◌, ◌+◌, ◌∙◌, ℕ, Bool, List, false, true, ap, refl, sym, subst, length, map, take, arith, IfSome, None, Some, Ok, rules}
 use Rattle.std.proofs.lemmas.Bool.{and_parts, lt-ltb, ltb-true}
 use Rattle.std.proofs.lemmas.List.{length-drop, length-map}
 use Rattle.std.specs.Prelude.{◌&&◌, ◌||◌, if◌then◌else◌, nat_lt, not, OnOk, Option, Result}
@@ -10,7 +10,7 @@ use Rattle.starlark_grammar.specs.Reading.{outcome}
 use Rattle.starlark_grammar.specs.Tokens.{Fault, Spanned}
 use Rattle.starlark_grammar.specs.Words.{Text}
 use Rattle.starlark_reader.specs.Inner.MarginCuts.{IsCutBefore}
-use Rattle.starlark_reader.specs.Inner.Reader.{IsAheadPast, IsReached}
+use Rattle.starlark_reader.specs.Inner.Reader.{IsAhead, IsAheadPast, IsReached}
 use Rattle.starlark_reader.specs.declared.reader.Before.{Before}
 use Rattle.starlark_reader.specs.declared.reader.Before.TheVariants as before
 use Rattle.starlark_reader.specs.declared.reader.Reader.{Reader}
@@ -26,6 +26,13 @@ use Rattle.starlark_text.specs.declared.or_memory.OrMemory.{OrMemory}
 use Rattle.starlark_token.specs.Lexemes.{lexeme_view, shown_lexeme}
 use Rattle.starlark_token.specs.TokenViews.{TokenView}
 use Rattle.starlark_token.specs.declared.tokens.Token.{Token}
+
+-- an offset that the reader says is a cut, before what is left
+pub cut_kept : (state : LexerState) (found : Option ℕ) → IsLexing state → state.has_ended ≡ false
+    → IfSome found (λ at. (lexemes : List (Spanned TokenView)) (fault : Option (Spanned Fault)) → IsAhead state.reader.text.now state.reader state.reader.stage lexemes fault → IsCutBefore state.reader.text.now at (length lexemes))
+    → IfSome found (λ at. IsCutBefore state.reader.text.now at (length (left_in state)))
+cut_kept state None lexing going kept = kept
+cut_kept state (Some at) lexing going kept = kept _ _ (lexing.1 going).1
 
 pub cut_after : (state : LexerState) (found : Option ℕ) → IsLexing state → state.has_ended ≡ false → IfSome found (λ at. IsCutBefore state.reader.text.now at (length (left_in state)))
     → IfSome found (IsCutAfter state.reader.text.now state.yielded_count)

@@ -13,13 +13,12 @@ use Rattle.starlark_token.specs.TokenViews.{TokenView}
 use Rattle.starlark_words.specs.Inner.LiteralViews.{single_literal}
 use Rattle.starlark_words.specs.Inner.PlainRuns.{IsRun}
 use Rattle.starlark_words.specs.declared.scanner.word.Word.{Word}
-use Rattle.starlark_reader.specs.Inner.Lookaheads.{HasPeeked, IsFound, IsFoundAt, IsOpened, IsTextRun, is_nothing, is_opener, is_slow, most_peeked}
+use Rattle.starlark_reader.specs.Inner.Lookaheads.{HasPeeked, IsFound, IsOpened, IsTextRun, is_nothing, is_opener, is_slow, most_peeked}
 use Rattle.starlark_reader.specs.Inner.Pending.{IsPending, owed}
 use Rattle.starlark_reader.specs.Inner.Reader.{IsAhead, IsAtCode, IsAtEnd, IsInCode, IsOver, IsWordHere}
 use Rattle.starlark_reader.specs.Inner.ReadBounds.{HasLooked, HasLookedHere, HasRead, HasReadAt, HasStarted, IsPassedBy}
 use Rattle.starlark_reader.specs.declared.lookahead.Found.{Found}
 use Rattle.starlark_reader.specs.declared.lookahead.Found.TheVariants as found
-use Rattle.starlark_reader.specs.declared.lookahead.Lookahead.{Lookahead}
 use Rattle.starlark_reader.specs.declared.reader.LineEnd.{LineEnd}
 use Rattle.starlark_reader.specs.declared.reader.LineEnd.TheVariants as line_end
 use Rattle.starlark_reader.specs.declared.reader.Reader.{Reader}
@@ -93,24 +92,24 @@ opened_inside (class.Opener kind is_raw quote) rest run is = is.1.boundary.0
 opened_inside it rest run is = absurd is
 
 -- all reads are few
-pub found_few : (text : Text) (reader : Reader) (it : Lookahead) (lexemes : List (Spanned TokenView)) (fault : Option (Spanned Fault)) → IsAhead text reader reader.stage lexemes fault → IsFoundAt text reader it
+pub found_few : (text : Text) (reader : Reader) (word : Word) (run : ℕ) (it : Found) (lexemes : List (Spanned TokenView)) (fault : Option (Spanned Fault)) → IsAhead text reader reader.stage lexemes fault → IsFound text reader word run it
     → (HasRead text reader → reader.reads ≤ 16 * (length text + 1)) → reader.reads ≤ 16 * (length text + 1)
-found_few text reader it lexemes fault ahead is whole = go it.found is
+found_few text reader word run it lexemes fault ahead is whole = go it is
   where
-    go : (now : Found) → IsFound text reader it.word it.run now → reader.reads ≤ 16 * (length text + 1)
+    go : (now : Found) → IsFound text reader word run now → reader.reads ≤ 16 * (length text + 1)
     go found.Nothing is = whole is.1
     go found.Word is =
-        let inside = word_inside text reader lexemes fault it.word.class it.word.len is.0.stage ahead (sym is.0.front) in
-        omega (arith, inside.1, (most_few it.word).1, peeked_few text it.word.len (most_peeked it.word) reader is.2)
+        let inside = word_inside text reader lexemes fault word.class word.len is.0.stage ahead (sym is.0.front) in
+        omega (arith, inside.1, (most_few word).1, peeked_few text word.len (most_peeked word) reader is.2)
     go found.Wordless is =
         let inside = (left_onward text reader lexemes fault is.0.stage ahead).is_left.1.inside in
         omega (arith, inside, peeked_few text 0 3 reader is.2)
     go found.Literal is =
-        let inside = word_inside text reader lexemes fault it.word.class it.word.len is.0.stage ahead (sym is.0.front) in
-        let run = opened_inside it.word.class (drop it.word.len (drop reader.at text)) it.run is.1 in
-        omega (arith, inside.1, run, length-drop it.word.len (drop reader.at text), length-drop reader.at text, peeked_few text (it.word.len + it.run) (5 * it.word.len + 8 * it.run + 3) reader is.2)
+        let inside = word_inside text reader lexemes fault word.class word.len is.0.stage ahead (sym is.0.front) in
+        let known = opened_inside word.class (drop word.len (drop reader.at text)) run is.1 in
+        omega (arith, inside.1, known, length-drop word.len (drop reader.at text), length-drop reader.at text, peeked_few text (word.len + run) (5 * word.len + 8 * run + 3) reader is.2)
     go found.Text is =
-        omega (arith, (left_onward text reader lexemes fault is.0.stage ahead).is_left.1.inside, is.0.run.boundary.0, length-drop reader.at text, peeked_few text it.run (8 * it.run + 4) reader is.1)
+        omega (arith, (left_onward text reader lexemes fault is.0.stage ahead).is_left.1.inside, is.0.run.boundary.0, length-drop reader.at text, peeked_few text run (8 * run + 4) reader is.1)
     go found.All is = whole is
 
 -- the opener of a literal that isn't plain, and the run after it
@@ -120,10 +119,10 @@ pub opened_found : (old new : Reader) (it : LiteralKind) (is_raw : Bool) (quote 
 opened_found old new it is_raw quote len run other same peeked here known = search (rules, peeked_more)
 
 -- at the end of a text nothing is found
-pub end_read : (text : Text) (reader : Reader) (it : Lookahead) → IsAtEnd text reader → IsFoundAt text reader it → HasRead text reader
-end_read text reader it end is = go it.found is
+pub end_read : (text : Text) (reader : Reader) (word : Word) (run : ℕ) (it : Found) → IsAtEnd text reader → IsFound text reader word run it → HasRead text reader
+end_read text reader word run it end is = go it is
   where
-    go : (now : Found) → IsFound text reader it.word it.run now → HasRead text reader
+    go : (now : Found) → IsFound text reader word run now → HasRead text reader
     go found.Nothing is = is.1
     go found.All is = is
     go now is = absurd (subst IsOver is.0.stage end.1)
@@ -143,8 +142,8 @@ slow_word word = go word.class
     go it common gap comment = (refl, omega arith)
 
 -- where the reader gives the lexeme
-pub all_read : (text : Text) (reader : Reader) (it : Lookahead) → it.found ≡ found.All → IsFoundAt text reader it → HasRead text reader
-all_read text reader it all is = subst (IsFound text reader it.word it.run) all is
+pub all_read : (text : Text) (reader : Reader) (word : Word) (run : ℕ) (it : Found) → it ≡ found.All → IsFound text reader word run it → HasRead text reader
+all_read text reader word run it all is = subst (IsFound text reader word run) all is
 
 pub goes_on : (it : Found) (has_ended : Bool) → has_ended ≡ false → GoesOn it has_ended
 goes_on found.All has_ended e = tt
@@ -155,22 +154,22 @@ module _ (text : Text) (reader over : Reader) where
   over_word : (word : Word) → IsWordHere text reader word → IsWordHere text (record reader { text = over.text }) word
   over_word word here = record { stage = here.stage; idle = here.idle; code = here.code; front = here.front; bang = here.bang }
 
-  pub over_found : (it : Lookahead) → IsFoundAt text reader it → IsFoundAt text (record reader { text = over.text }) it
-  over_found it is = go it.found is
+  pub over_found : (word : Word) (run : ℕ) (it : Found) → IsFound text reader word run it → IsFound text (record reader { text = over.text }) word run it
+  over_found word run it is = go it is
     where
-      go : (now : Found) → IsFound text reader it.word it.run now → IsFound text (record reader { text = over.text }) it.word it.run now
+      go : (now : Found) → IsFound text reader word run now → IsFound text (record reader { text = over.text }) word run now
       go found.Nothing is = (over_code text reader over is.0, over_reads text reader over reader.stage is.1)
-      go found.Word is = (over_word it.word is.0, is.1, is.2)
+      go found.Word is = (over_word word is.0, is.1, is.2)
       go found.Wordless is = (over_code text reader over is.0, is.1, is.2)
-      go found.Literal is = (over_word it.word is.0, is.1, is.2)
+      go found.Literal is = (over_word word is.0, is.1, is.2)
       go found.Text is = (record { opening = is.0.opening; stage = is.0.stage; idle = is.0.idle; inside = is.0.inside; run = is.0.run }, is.1)
       go found.All is = over_reads text reader over reader.stage is
 
 -- what each test tells
-pub nothing_found : (text : Text) (reader : Reader) (has_ended : Bool) (it : Lookahead) → is_nothing it.found ≡ true → GoesOn it.found has_ended → (has_ended ≡ false → IsFoundAt text reader it) → (has_ended ≡ false) × IsAtCode text reader × HasRead text reader
-nothing_found text reader has_ended it = go it.found
+pub nothing_found : (text : Text) (reader : Reader) (has_ended : Bool) (word : Word) (run : ℕ) (it : Found) → is_nothing it ≡ true → GoesOn it has_ended → (has_ended ≡ false → IsFound text reader word run it) → (has_ended ≡ false) × IsAtCode text reader × HasRead text reader
+nothing_found text reader has_ended word run it = go it
   where
-    go : (now : Found) → is_nothing now ≡ true → GoesOn now has_ended → (has_ended ≡ false → IsFound text reader it.word it.run now) → (has_ended ≡ false) × IsAtCode text reader × HasRead text reader
+    go : (now : Found) → is_nothing now ≡ true → GoesOn now has_ended → (has_ended ≡ false → IsFound text reader word run now) → (has_ended ≡ false) × IsAtCode text reader × HasRead text reader
     go found.Nothing quick goes is = (goes, (is goes).0, (is goes).1)
     go now quick goes is = cc
 
@@ -178,8 +177,8 @@ pub nothing_is : (it : Found) → is_nothing it ≡ true → it ≡ found.Nothin
 nothing_is found.Nothing nothing = refl
 nothing_is it nothing = cc
 
-pub nothing_kept : (text : Text) (reader : Reader) (it : Lookahead) → it.found ≡ found.Nothing → IsAtCode text reader → HasRead text reader → IsFoundAt text reader it
-nothing_kept text reader it nothing code has = subst (IsFound text reader it.word it.run) (sym nothing) (code, has)
+pub nothing_kept : (text : Text) (reader : Reader) (word : Word) (run : ℕ) (it : Found) → it ≡ found.Nothing → IsAtCode text reader → HasRead text reader → IsFound text reader word run it
+nothing_kept text reader word run it nothing code has = subst (IsFound text reader word run) (sym nothing) (code, has)
 
 -- what is found out after a lexeme
 pub found_out : (text : Text) (reader : Reader) (word : Word) (run : ℕ) (it : Found) → IsFoundOut reader it → IsPending text reader.pending → HasRead text reader → IsFound text reader word run it
@@ -203,10 +202,10 @@ pub fault_counts : (it : LineEnd) → it ≡ line_end.Fault → it ≡ line_end.
 fault_counts it fault passed = cc
 
 -- more reads of other bytes, where they are within the bound
-pub counted_found : (text : Text) (counts : Bool) (len : ℕ) (old new : Reader) (it : Lookahead) → new ≡ record old { reads = new.reads } → (counts ≡ false → new ≡ old) → (counts ≡ true → old.reads + len < new.reads) → (counts ≡ true → new.reads + 5 * owed new.pending < 10 * new.at)
-    → (HasRead text old → HasRead text new) → IsFoundAt text old it → IsFoundAt text new it
-counted_found text false len old new it same none counted few more is = subst (λ (reader : Reader). IsFoundAt text reader it) (sym (none refl)) is
-counted_found text true len old new it same none counted few more is = go it.found is
+pub counted_found : (text : Text) (counts : Bool) (len : ℕ) (old new : Reader) (word : Word) (run : ℕ) (it : Found) → new ≡ record old { reads = new.reads } → (counts ≡ false → new ≡ old) → (counts ≡ true → old.reads + len < new.reads) → (counts ≡ true → new.reads + 5 * owed new.pending < 10 * new.at)
+    → (HasRead text old → HasRead text new) → IsFound text old word run it → IsFound text new word run it
+counted_found text false len old new word run it same none counted few more is = subst (λ (reader : Reader). IsFound text reader word run it) (sym (none refl)) is
+counted_found text true len old new word run it same none counted few more is = go it is
   where
     at : new.at ≡ old.at
     at = ap (λ (reader : Reader). reader.at) same
@@ -214,8 +213,8 @@ counted_found text true len old new it same none counted few more is = go it.fou
     code : IsAtCode text old → IsAtCode text new
     code here = subst (IsAtCode text) (sym same) (record { stage = here.stage; idle = here.idle; code = here.code })
 
-    word : IsWordHere text old it.word → IsWordHere text new it.word
-    word here = subst (λ (reader : Reader). IsWordHere text reader it.word) (sym same) (record { stage = here.stage; idle = here.idle; code = here.code; front = here.front; bang = here.bang })
+    stands : IsWordHere text old word → IsWordHere text new word
+    stands here = subst (λ (reader : Reader). IsWordHere text reader word) (sym same) (record { stage = here.stage; idle = here.idle; code = here.code; front = here.front; bang = here.bang })
 
     peeked : (least most : ℕ) → HasPeeked text least most old → HasPeeked text least most new
     peeked least most was =
@@ -224,10 +223,10 @@ counted_found text true len old new it same none counted few more is = go it.fou
     rest : drop old.at text ≡ drop new.at text
     rest = ap (λ n. drop n text) (sym at)
 
-    go : (now : Found) → IsFound text old it.word it.run now → IsFound text new it.word it.run now
+    go : (now : Found) → IsFound text old word run now → IsFound text new word run now
     go found.Nothing is = (code is.0, more is.1)
-    go found.Word is = (word is.0, is.1, peeked it.word.len (most_peeked it.word) is.2)
+    go found.Word is = (stands is.0, is.1, peeked word.len (most_peeked word) is.2)
     go found.Wordless is = (code is.0, rw rest at is.1, peeked 0 3 is.2)
-    go found.Literal is = (word is.0, rw rest at is.1, peeked (it.word.len + it.run) (5 * it.word.len + 8 * it.run + 3) is.2)
-    go found.Text is = (subst (λ (reader : Reader). IsTextRun text it.run reader) (sym same) (record { opening = is.0.opening; stage = is.0.stage; idle = is.0.idle; inside = is.0.inside; run = is.0.run }), peeked it.run (8 * it.run + 4) is.1)
+    go found.Literal is = (stands is.0, rw rest at is.1, peeked (word.len + run) (5 * word.len + 8 * run + 3) is.2)
+    go found.Text is = (subst (λ (reader : Reader). IsTextRun text run reader) (sym same) (record { opening = is.0.opening; stage = is.0.stage; idle = is.0.idle; inside = is.0.inside; run = is.0.run }), peeked run (8 * run + 4) is.1)
     go found.All is = more is

@@ -134,7 +134,7 @@ read_at text reader left stage is has = omega (arith, has.1)
 pub lexing_read_in : (text : Text) (state : LexerState) → IsLexingIn text state → state.has_ended ≡ false → state.reader.reads ≤ most_reads text
 lexing_read_in text state lexing going =
     let ahead = (lexing.1 going).1 in
-    found_few text state.reader state.lookahead _ _ ahead (lexing.3 going) (read_at text state.reader ahead.left state.reader.stage ahead.is_left)
+    found_few text state.reader state.word state.run state.found _ _ ahead (lexing.3 going) (read_at text state.reader ahead.left state.reader.stage ahead.is_left)
 
 pub lexing_read : (state : LexerState) → IsLexing state → state.has_ended ≡ false → state.reader.reads ≤ most_reads state.reader.text.now
 lexing_read state lexing going = lexing_read_in state.reader.text.now state lexing going
@@ -157,7 +157,7 @@ at_end state lexing going end none = by state.reader.stage refl end.1 (sym (ap (
     by (stages.Fault begin fault last) e over h = cc
     by stages.Closed e over h =
         let last = nothing_next state.reader.text.now state.reader state.reader (left_in state) (outcome state.reader.text.now).fault (record { at = refl; nesting = refl; levels = refl; before = refl }) end.0 refl e e (lexing.1 going).1 in
-        (last.0, last.1, omega (arith, (subst (HasReadAt state.reader.text.now state.reader) e (end_read state.reader.text.now state.reader state.lookahead end (lexing.3 going))).0, lexing.0.fits))
+        (last.0, last.1, omega (arith, (subst (HasReadAt state.reader.text.now state.reader) e (end_read state.reader.text.now state.reader state.word state.run state.found end (lexing.3 going))).0, lexing.0.fits))
     by now e over h = absurd over
 
 -- So nothing more is answered.

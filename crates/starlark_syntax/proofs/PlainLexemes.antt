@@ -2,6 +2,7 @@
 use Rattle.std.proofs.Common.{◌≡◌, ◌≢◌, ◌≤◌, ◌<◌, ◌+◌, ◌-◌, ◌^◌, ◌∷◌, ◌||◌, Bool, true, false, ℕ, List, [], Option, Some, None, Ok, Err, ap, arith, drop, length, refl, subst, sym, take, ◌∙◌}
 use Rattle.std.specs.Prelude.{◌&&◌, not, Result}
 use Rattle.std.specs.Option.{is_some}
+use Rattle.std.specs.declared.alloc.AllocError.{AllocError}
 use Rattle.std.specs.Str.{IsCharBoundary, IsUtf8}
 use Rattle.starlark_base.specs.Diagnostics.{Diagnosed}
 use Rattle.starlark_base.specs.Sources.{SourceFile}
@@ -18,8 +19,6 @@ use Rattle.starlark_syntax.specs.Inner.LexerStates.{HasAnswered, HasPassed, HasP
 use Rattle.starlark_syntax.specs.Lexer.{LexerView, most_reads}
 use Rattle.starlark_syntax.specs.PlainLexemes.{IsPlainIn, plain_token, plain_value, plain_view, token_of}
 use Rattle.starlark_syntax.specs.declared.error.kinds.ErrorKind.{ErrorKind}
-use Rattle.starlark_syntax.specs.declared.lexer_state.FastPath.{FastPath}
-use Rattle.starlark_syntax.specs.declared.lexer_state.FastPath.TheVariants as fast
 use Rattle.starlark_syntax.proofs.LexerItems.{given_between, lexeme_item}
 use Rattle.starlark_syntax.proofs.LexerStates.{IsSameText, answers_within, lexing_read}
 use Rattle.starlark_syntax.specs.declared.lexer_state.LexerState.{LexerState}
@@ -72,7 +71,7 @@ pub past_something : (text : Text) (lexeme : Spanned TokenView) (reader : Reader
 past_something text lexeme reader lexemes fault past none whole = let both : lexeme ∷ past.0 ≡ [] = sym past.1 ∙ none in cc
 
 -- what is made of a plain lexeme is an answer
-pub taken_answer : (old mid : LexerState) (plain : PlainLexeme) (answer : Option (Result (ℕ × Token × ℕ) (OrMemory (Diagnosed ErrorKind)))) (new : LexerState) → HasPassed old (fast.Passed plain) mid → mid.reader.text.now ≡ old.reader.text.now → HasTaken mid plain answer new → HasAnswered old answer new
+pub taken_answer : (old mid : LexerState) (plain : PlainLexeme) (answer : Option (Result (ℕ × Token × ℕ) (OrMemory (Diagnosed ErrorKind)))) (new : LexerState) → HasPassed old (Ok (Some plain)) mid → mid.reader.text.now ≡ old.reader.text.now → HasTaken mid plain answer new → HasAnswered old answer new
 taken_answer old mid plain None new passed text taken = absurd taken
 taken_answer old mid plain (Some (Ok lexeme)) new passed text taken =
     subst (λ (state : LexerState). HasAnswered old (Some (Ok lexeme)) state) (sym taken.1)
@@ -87,11 +86,10 @@ taken_lexing mid plain (Some (Err (Error exception))) new lexing taken = absurd 
 taken_lexing mid plain (Some (Err Memory)) new lexing taken = subst IsLexing (sym taken) (lexing.0, (λ on. cc), tt, (λ on. cc))
 
 -- what the fast path tells of a state, it tells of one with the same text and number of items
-pub passed_same : (first now : LexerState) (found : FastPath) (new : LexerState) → IsSameText first now → HasPassed now found new → HasPassed first found new
-passed_same first now (fast.Passed plain) new same is = rw (same.0, same.1) at is
-passed_same first now (fast.Symbol terminal lexeme) new same is = rw (same.0, same.1) at is
-passed_same first now fast.Undecided new same is = is
-passed_same first now fast.OutOfMemory new same is = rw (same.0, same.1) at is
+pub passed_same : (first now : LexerState) (found : Result (Option PlainLexeme) AllocError) (new : LexerState) → IsSameText first now → HasPassed now found new → HasPassed first found new
+passed_same first now (Ok (Some plain)) new same is = rw (same.0, same.1) at is
+passed_same first now (Ok None) new same is = is
+passed_same first now (Err error) new same is = rw (same.0, same.1) at is
 
 -- a name was passed, where the text and the number of items are those before
 pub name_passed : (first state : LexerState) (mid new : Reader) (len : ℕ) → IsSameText first state → length state.reader.text.now < 2 ^ 32 → mid.stage ≡ stages.Onward → new.stage ≡ stages.Onward → IsAhead state.reader.text.now mid mid.stage (left_in state) (outcome state.reader.text.now).fault
@@ -137,8 +135,8 @@ symbol_shown text lexeme plain token places =
     ∙ ap (λ n. record { begin = plain.begin; node = Whole (plain_token text plain); end = n }) (sym (ap (λ (p : PlainLexeme). p.end) places))
 
 -- a lexeme without a value was passed
-mark_told : (state : LexerState) (it : PlainKind) (lexeme : ℕ × Token × ℕ) (new : LexerState) → length state.reader.text.now < 2 ^ 32 → state.yielded_count ≤ length (outcome state.reader.text.now).lexemes → IsUtf8 state.reader.text.now
-    → ((value : Text) → token_view lexeme.1 ≡ Whole (token_of it value)) → HasAnswered state (Some (Ok lexeme)) new → HasPassed state (fast.Passed (plain_mark it lexeme.0 lexeme.2)) new
+pub mark_told : (state : LexerState) (it : PlainKind) (lexeme : ℕ × Token × ℕ) (new : LexerState) → length state.reader.text.now < 2 ^ 32 → state.yielded_count ≤ length (outcome state.reader.text.now).lexemes → IsUtf8 state.reader.text.now
+    → ((value : Text) → token_view lexeme.1 ≡ Whole (token_of it value)) → HasAnswered state (Some (Ok lexeme)) new → HasPassed state (Ok (Some (plain_mark it lexeme.0 lexeme.2))) new
 mark_told state it lexeme new short few utf8 token is =
     let plain = plain_mark it lexeme.0 lexeme.2 in (
       symbol_inside state lexeme new plain short few utf8 is refl,
@@ -198,7 +196,7 @@ some_going state found new some ended = by state.has_ended refl
     by false e = e
 
 -- an ended state passes nothing
-pub passed_going : (old : LexerState) (found : FastPath) (new : LexerState) → (found ≡ fast.Undecided → ⊥) → (old.has_ended ≡ true → (found ≡ fast.Undecided) × (new ≡ old)) → old.has_ended ≡ false
+pub passed_going : (old : LexerState) (found : Result (Option PlainLexeme) AllocError) (new : LexerState) → (found ≡ (Ok None) → ⊥) → (old.has_ended ≡ true → (found ≡ (Ok None)) × (new ≡ old)) → old.has_ended ≡ false
 passed_going old found new other ended = by old.has_ended refl
   where
     by : (b : Bool) → old.has_ended ≡ b → old.has_ended ≡ false

@@ -297,7 +297,24 @@ module _ (old : RecoveryState) (is : IsRecovering old) (state : LexerState) (raw
   at_fault = record old { state = state }
 
   pub stopped_here : IsStopped at_fault found.0
-  stopped_here = search (rules, take_all, none_dropped)
+  stopped_here =
+      let onward = is.onward going in
+      let later : (onward.to ≤ found.0.begin) × (onward.to < length (part_of old)) = subst (λ (f : Option (Spanned Fault)). IfSome f (λ fault. (onward.to ≤ fault.begin) × (onward.to < length (part_of old)))) found.2.has onward.fault in
+      record {
+        is_part = search rules;
+        here = found.2;
+        ended = search rules;
+        to = onward.to;
+        mended = search rules;
+        after = later.0;
+        less = later.1;
+        comment = search (rules, take_all, none_dropped);
+        reads = search rules;
+        paid = found.3;
+        within = search rules;
+        begins = search rules;
+        ends = search rules;
+      }
 
   fault_left : left_of old ≡ Refused (moved old.begin found.0) ∷ map (moved_item old.begin) (items_after (part_of old) found.0)
   fault_left = left_goes old going ∙ ap (map (moved_item old.begin)) (items_refused (part_of old) old.state.yielded_count found.0 found.1 found.2.has)

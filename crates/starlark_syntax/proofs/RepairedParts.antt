@@ -175,5 +175,5 @@ passed_few text fault keeps = search (rules, repairs_keep, length-append, semico
 -- what the reader has ahead is what the lexer has left
 pub lexing_repaired : (text : Text) (fault : Spanned Fault) (old : LexerState) (reader : Reader) (count : ℕ) (here : IsAtFault text fault old) → KeepsLine text fault → IsUtf8 (repaired text fault) → count ≡ passed_count text fault
     → IsAhead (repaired text fault) reader reader.stage (map shown_lexeme (drop (passed_count text fault) (outcome (repaired text fault)).lexemes)) (outcome (repaired text fault)).fault
-    → HasRead (repaired text fault) reader → IsLexingIn (repaired text fault) (record old { yielded_count = count; has_ended = false; lookahead = record old.lookahead { found = found.All }; reader = reader })
+    → HasRead (repaired text fault) reader → IsLexingIn (repaired text fault) (record old { yielded_count = count; has_ended = false; found = found.All; reader = reader })
 lexing_repaired text fault old reader count here keeps utf8 is ahead read = search (rules, drop-map, repaired_len, passed_few)

@@ -95,8 +95,8 @@ blanks_in_line (b ∷ bs) = by (is_blank b) refl (blanks_in_line bs)
     by false is more = omega arith
 
 -- the next line begins after the blanks of a margin's last line
-pub margin_blanks : (text rest : Text) (begin : ℕ) (found : Margin) → rest ≡ drop begin text → begin + (found.at + found.blanks.len) ≤ length text → IsMargin (margin_of rest) found
-    → begin + found.at + found.blanks.len ≤ next_line text (begin + found.at)
+pub margin_blanks : (text rest : Text) (begin : ℕ) (found : Margin) → rest ≡ drop begin text → begin + (found.at + found.blanks) ≤ length text → IsMargin (margin_of rest) found
+    → begin + found.at + found.blanks ≤ next_line text (begin + found.at)
 unfolding margin_of next_line
 margin_blanks text rest begin found is inside margin = search (rules, drop-sum, length-take, blanks_in_line)
 

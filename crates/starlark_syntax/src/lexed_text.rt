@@ -98,7 +98,7 @@ impl<'a> LexedText<'a> {
         ensures most_reads { IfOk result (λ lexed. lexed.reads ≤ most_reads state.old.reader.text.now) }
         ensures least_reads { IfOk result (λ lexed. lexed.fault ≡ None → length state.old.reader.text.now ≤ lexed.reads) }
     {
-        let text = state.reader.text();
+        let text = state.reader.text;
         let part = read_part(alloc, state, Known::none())?;
         Ok(LexedText {
             text,

@@ -8,7 +8,7 @@ ghost use Rattle.starlark_syntax.specs.PlainLexemes.{IsPlainIn, passed_by, plain
 ghost use Rattle.starlark_token.specs.TextItems.{Given, items};
 
 use crate::eval_exception::EvalException;
-use crate::lexer_state::{FastPath, LexerState};
+use crate::lexer_state::LexerState;
 use crate::plain_lexeme::PlainLexeme;
 use starlark_base::codemap::{CodeMap, OrMemory, SourceTooLong};
 use starlark_base::dialect::Dialect;
@@ -119,14 +119,11 @@ impl<'a> Lexer<'a> {
         ensures reads { IfSome result (λ plain. self.new.reads ≤ most_reads self.old.text) }
     {
         match self.state.next_plain() {
-            FastPath::Passed(plain) => Some(plain),
-            FastPath::Symbol(terminal, lexeme) => Some(PlainLexeme::of_symbol(terminal, lexeme)),
-            FastPath::OutOfMemory => {
-                self.has_run_out = true;
-                None
-            }
-            FastPath::Undecided => None,
+            Ok(Some(plain)) => return Some(plain),
+            Ok(None) => {}
+            Err(_) => self.has_run_out = true,
         }
+        None
     }
 
     /// Offset in bytes where the text may be cut, if the lexemes yielded so far are those before it.
@@ -144,7 +141,7 @@ impl<'a> Lexer<'a> {
         if self.state.has_ended {
             return None;
         }
-        self.state.cut()
+        self.state.reader.cut()
     }
 
     /// Number of reads of bytes so far.
@@ -157,7 +154,7 @@ impl<'a> Lexer<'a> {
     pub fn reads(&self) -> u64
         ensures { result ≡ self.now.reads }
     {
-        self.state.reader.reads()
+        self.state.reader.reads.count()
     }
 }
 

@@ -1,7 +1,7 @@
 //! Lexes a text lexeme by lexeme. The fast path decides by the first bytes of a lexeme; what these
 //! don't determine comes from the reader.
 
-ghost use Rattle.std.specs.Prelude.{◌≡◌, ◌≢◌, ◌<◌, ◌≤◌, ◌+◌, ◌-◌, ◌^◌, ◌&&◌, ◌||◌, ℕ, None, Some, codes, length, nat_eq, true, false, IfSome, IsSome, OnOk};
+ghost use Rattle.std.specs.Prelude.{◌≡◌, ◌≢◌, ◌<◌, ◌≤◌, ◌+◌, ◌-◌, ◌^◌, ◌&&◌, ◌||◌, ℕ, None, Ok, Some, codes, length, nat_eq, true, false, IfSome, IsSome, OnOk};
 ghost use Rattle.std.specs.List.{ends_with};
 ghost use Rattle.std.specs.Option.{is_some};
 ghost use Rattle.std.specs.Str.{IsCharBoundary, IsUtf8};
@@ -14,7 +14,7 @@ ghost use Rattle.starlark_grammar.specs.Words.{Text};
 ghost use Rattle.starlark_grammar.specs.Reading.{History};
 ghost use Rattle.starlark_reader.specs.Inner.MarginCuts.{IsCutBefore};
 ghost use Rattle.starlark_reader.specs.Inner.Reader.{IsAtCode, IsAtEnd, IsReached, IsStateAfter, has_read_none};
-ghost use Rattle.starlark_syntax.specs.Inner.LexerStates.{HasAnswered, HasFound, HasGivenNext, HasGoneOn, HasLooked, HasPassed, HasPassedNext, HasPassedWaiting, HasTaken, HasTakenLast, HasThrown, IsAtFault, IsAtOpener, IsAtWord, IsBegun, IsUnnamed, IsLexing, IsLexingIn, IsOfMark, IsTakenNext, has_fault, is_out_of_memory, left_in, passed_as, passed_count, plain_string, taken_count, thrown_count, view_of};
+ghost use Rattle.starlark_syntax.specs.Inner.LexerStates.{HasAnswered, HasFound, HasGivenNext, HasGoneOn, HasLooked, HasPassed, HasPassedNext, HasPassedWaiting, HasTaken, HasTakenLast, HasThrown, IsAtFault, IsAtOpener, IsAtWord, IsBegun, IsReadNext, IsUnnamed, IsLexing, IsLexingIn, IsOfMark, IsTakenNext, has_fault, is_out_of_memory, left_in, passed_as, passed_count, plain_string, taken_count, thrown_count, view_of};
 ghost use Rattle.starlark_syntax.specs.Lexer.{is_ended_by, most_reads, yielded_by};
 ghost use Rattle.starlark_syntax.specs.Inner.RawItems.{OffsetsHold};
 ghost use Rattle.starlark_syntax.specs.PlainLexemes.{IsPlainIn};
@@ -23,7 +23,7 @@ ghost use Rattle.starlark_reader.specs.Inner.Pending.{IsIdle, IsMark, IsPending}
 ghost use Rattle.starlark_reader.specs.Inner.ReadBounds.{HasRead};
 ghost use Rattle.starlark_token.specs.TokenViews.{token_view};
 ghost use Rattle.starlark_syntax.specs.Inner.Looked.{IsFoundInCode, IsFoundOut};
-ghost use Rattle.starlark_reader.specs.Inner.Lookaheads.{IsFound, IsFoundAt, IsLooked};
+ghost use Rattle.starlark_reader.specs.Inner.Lookaheads.{IsFound};
 ghost use Rattle.starlark_reader.specs.declared.reader.Stage.TheVariants as Stage;
 ghost use Rattle.starlark_grammar.specs.declared.class.LiteralKind.TheVariants as kind;
 
@@ -32,8 +32,9 @@ use crate::fault_exception::exception;
 use crate::lexemes::Lexeme;
 use crate::plain_lexeme::{PlainKind, PlainLexeme, token_of};
 use starlark_base::codemap::{CodeMap, OrMemory};
-use starlark_reader::lookahead::{Found, Lookahead};
-use starlark_reader::reader::{LineEnd, Reader};
+use starlark_reader::lookahead::Found;
+use starlark_reader::nesting::LexerMode;
+use starlark_reader::reader::{Before, LineEnd, Reader, Stage};
 use starlark_token::lexeme_error::LexemeError;
 use starlark_token::tokens::Token;
 use starlark_words::scanner::{Class, LiteralKind, Quote, Terminal, Word};
@@ -52,39 +53,17 @@ pub(crate) type Item = Result<(usize, Token, usize), OrMemory<(usize, LexemeErro
 pub struct LexerState<'a> {
     /// Number of lexemes, and faults, that were yielded so far.
     pub(crate) yielded_count: usize,
-    lookahead: Lookahead,
+    found: Found,
+    /// The word that was found, or the opener of the literal.
+    word: Word,
+    /// Length in bytes of the run that was found.
+    run: usize,
     /// Whether an error has ended the lexer.
     pub(crate) has_ended: bool,
     pub(crate) reader: Reader<'a>,
     passed_begin: usize,
     passed_end: usize,
     alloc: Global,
-}
-
-/// Lookahead state after a keyword or symbol: only the bracket depth can have changed it.
-#[inline(always)]
-fn looked_in_code(reader: &Reader<'_>) -> Found
-    ensures { IsFoundInCode reader.now result }
-{
-    if reader.is_in_code() {
-        Found::Nothing
-    } else {
-        Found::All
-    }
-}
-
-/// The outcome of the fast path.
-#[derive(Drop)]
-pub enum FastPath {
-    /// A lexeme that is neither keyword nor symbol, which it passed.
-    Passed(PlainLexeme),
-    /// A keyword or symbol, which it passed.
-    // With its token: a second `match` on the terminal costs 1 % of a mix.
-    Symbol(Terminal, (usize, Token, usize)),
-    /// Out of memory, which ends the lexer.
-    OutOfMemory,
-    /// The slow path decides, unless the lexer has ended.
-    Undecided,
 }
 
 /// What kind of lexeme was passed without lookahead in code.
@@ -120,68 +99,53 @@ impl Waiting {
             _ => Waiting::FStringEnd,
         }
     }
-}
 
-impl FastPath {
-    /// What was passed without lookahead in code, between two offsets.
+    /// The lexeme that was passed, between two offsets, if it is one.
     #[inline]
-    fn of_waiting(waiting: Waiting, begin: usize, end: usize) -> FastPath
-        requires { waiting ≡ Waiting.Comment → begin < end }
-        ensures { result ≡ passed_as waiting begin end }
+    fn lexeme(self, begin: usize, end: usize) -> Result<Option<PlainLexeme>, AllocError>
+        requires { self ≡ Waiting.Comment → begin < end }
+        ensures { result ≡ passed_as self begin end }
     {
-        let kind = match waiting {
-            Waiting::Nothing | Waiting::Layout => return FastPath::Undecided,
-            Waiting::OutOfMemory => return FastPath::OutOfMemory,
+        let kind = match self {
+            Waiting::Nothing | Waiting::Layout => return Ok(None),
+            Waiting::OutOfMemory => return Err(AllocError),
             Waiting::FStringText => {
-                return FastPath::Passed(PlainLexeme {
-                    kind: PlainKind::FStringText,
-                    begin,
-                    end,
-                    value_begin: begin,
-                    value_end: end,
-                });
+                let text = PlainLexeme::new(PlainKind::FStringText, begin, end, begin);
+                return Ok(Some(text));
             }
             Waiting::Comment => {
-                return FastPath::Passed(PlainLexeme {
-                    kind: PlainKind::Comment,
-                    begin,
-                    end,
-                    value_begin: begin + 1,
-                    value_end: end,
-                });
+                let comment = PlainLexeme::new(PlainKind::Comment, begin, end, begin + 1);
+                return Ok(Some(comment));
             }
             Waiting::Indent => PlainKind::Indent,
             Waiting::Dedent => PlainKind::Dedent,
             Waiting::FStringExprStart => PlainKind::FStringExprStart,
             Waiting::FStringEnd => PlainKind::FStringEnd,
         };
-        FastPath::Passed(PlainLexeme::of_kind(kind, begin, end))
+        Ok(Some(PlainLexeme::new(kind, begin, end, end)))
     }
 }
 
-/// Lookahead state after any lexeme.
+/// What lookahead has found after a keyword or symbol: only the bracket depth can have changed it.
 #[inline(always)]
-fn looked_after(reader: &Reader<'_>) -> Found
+fn found_in_code(reader: &Reader<'_>) -> Found
+    ensures { IsFoundInCode reader.now result }
+{
+    match reader.nesting.mode() {
+        LexerMode::InText(_) => Found::All,
+        _ => Found::Nothing,
+    }
+}
+
+/// What lookahead has found after any lexeme.
+#[inline(always)]
+fn found_after(reader: &Reader<'_>) -> Found
     ensures { IsFoundOut reader.now result }
 {
-    if reader.is_at_code() {
-        Found::Nothing
+    if reader.pending.is_nothing() && matches!(reader.stage, Stage::Onward) {
+        found_in_code(reader)
     } else {
         Found::All
-    }
-}
-
-/// Lookahead state after the first margin. At the text's end no word begins.
-fn looked_after_margin(reader: &Reader<'_>) -> Found
-    ensures { IsPending reader.now.text.now reader.now.pending → HasRead reader.now.text.now reader.now → (word : Word) (run : ℕ) → IsFound reader.now.text.now reader.now word run result }
-{
-    if !reader.is_at_code() {
-        return Found::All;
-    }
-    if reader.at() == reader.text().len() {
-        Found::Wordless
-    } else {
-        Found::Nothing
     }
 }
 
@@ -197,7 +161,12 @@ impl<'a> LexerState<'a> {
             reader: Reader::new(alloc, text),
             yielded_count: 0,
             has_ended: false,
-            lookahead: Lookahead::none(),
+            found: Found::All,
+            word: Word {
+                class: Class::Skipped,
+                len: 0,
+            },
+            run: 0,
             passed_begin: 0,
             passed_end: 0,
         }
@@ -212,36 +181,38 @@ impl<'a> LexerState<'a> {
         found: Found,
     ) -> Option<Lexeme>
         requires taken { IsTakenNext self.old taken }
-        requires found { OnOk taken (IsFoundAt self.old.reader.text.now self.old.reader (record self.old.lookahead { found = found })) }
+        requires found { OnOk taken (IsFound self.old.reader.text.now self.old.reader self.old.word self.old.run found) }
         ensures { HasGivenNext self.old result self.new }
     {
         match taken {
             Ok(lexeme) => {
                 self.yielded_count += 1;
-                self.lookahead.found = found;
+                self.found = found;
                 Some(Ok(lexeme))
             }
             Err(_) => {
                 self.has_ended = true;
-                self.lookahead.found = Found::All;
+                self.found = Found::All;
                 Some(Err(OrMemory::Memory))
             }
         }
     }
 
-    /// Next lexeme: the reader's, which begins with what lookahead has found.
+    /// The item of what the reader read here: a lexeme, or nothing at a fault and at the text's end. Out
+    /// of memory ends the lexer.
     #[inline(always)]
-    fn next_of_reader(&mut self) -> Option<Lexeme>
-        requires lexing { IsLexing self.old }
-        requires going { self.old.has_ended ≡ false }
-        requires looked { IsLooked self.old.reader.text.now self.old.reader self.old.lookahead.word self.old.lookahead.found }
+    fn item_read(
+        &mut self,
+        read: Result<Option<(usize, Token, usize)>, AllocError>,
+    ) -> Option<Lexeme>
+        requires { IsReadNext self.old read }
         ensures { HasGivenNext self.old result self.new }
     {
-        let Some(taken) = self.reader.read(self.lookahead).transpose() else {
-            self.lookahead.found = Found::All;
+        let Some(taken) = read.transpose() else {
+            self.found = Found::All;
             return None;
         };
-        let found = looked_after(&self.reader);
+        let found = found_after(&self.reader);
         self.item_of(taken, found)
     }
 
@@ -250,8 +221,8 @@ impl<'a> LexerState<'a> {
     fn next_bytes(&mut self, is_raw: bool, quote: Quote, len: usize) -> Option<Lexeme>
         requires lexing { IsLexing self.old }
         requires going { self.old.has_ended ≡ false }
-        requires found { self.old.lookahead.found ≡ Found.Word }
-        requires word { self.old.lookahead.word ≡ record { class = Class.Opener kind.Bytes is_raw quote; len = len } }
+        requires found { self.old.found ≡ Found.Word }
+        requires word { self.old.word ≡ record { class = Class.Opener kind.Bytes is_raw quote; len = len } }
         ensures { HasGivenNext self.old result self.new }
     {
         match self
@@ -263,9 +234,8 @@ impl<'a> LexerState<'a> {
                 self.item_of(taken, Found::Nothing)
             }
             Err(run) => {
-                self.lookahead.found = Found::Literal;
-                self.lookahead.run = run;
-                self.next_of_reader()
+                let read = self.reader.read_literal(self.word, run);
+                self.item_read(read)
             }
         }
     }
@@ -275,8 +245,8 @@ impl<'a> LexerState<'a> {
     fn next_word(&mut self, word: Word) -> Option<Lexeme>
         requires lexing { IsLexing self.old }
         requires going { self.old.has_ended ≡ false }
-        requires found { self.old.lookahead.found ≡ Found.Word }
-        requires word { self.old.lookahead.word ≡ word }
+        requires found { self.old.found ≡ Found.Word }
+        requires word { self.old.word ≡ word }
         ensures { HasGivenNext self.old result self.new }
     {
         match word.class {
@@ -302,7 +272,8 @@ impl<'a> LexerState<'a> {
                     let taken = self.reader.take_number(word);
                     return self.item_of(taken, Found::Nothing);
                 }
-                self.next_of_reader()
+                let read = self.reader.refuse_word(word);
+                self.item_read(read)
             }
         }
     }
@@ -316,10 +287,17 @@ impl<'a> LexerState<'a> {
         requires looked { HasLooked self.old }
         ensures { HasGivenNext self.old result self.new }
     {
-        match self.lookahead.found {
-            Found::Word => self.next_word(self.lookahead.word),
-            _ => self.next_of_reader(),
-        }
+        let read = match self.found {
+            Found::Word => return self.next_word(self.word),
+            Found::Wordless if self.reader.at == self.reader.text.len() => {
+                Ok(Some(self.reader.close()))
+            }
+            Found::Wordless => self.reader.read_wordless(),
+            Found::Literal => self.reader.read_literal(self.word, self.run),
+            Found::Text => self.reader.read_text(self.run),
+            Found::Nothing | Found::All => Ok(None),
+        };
+        self.item_read(read)
     }
 
     /// Passes the first pending comment.
@@ -327,15 +305,16 @@ impl<'a> LexerState<'a> {
     fn pass_pending_comment(&mut self) -> Waiting
         requires lexing { IsLexing self.old }
         requires going { self.old.has_ended ≡ false }
-        requires all { self.old.lookahead.found ≡ Found.All }
+        requires all { self.old.found ≡ Found.All }
         requires some { self.old.reader.pending.from < self.old.reader.pending.to }
         ensures { HasPassedWaiting self.old result self.new }
     {
-        let (begin, end) = self.reader.pass_pending_comment();
+        let reader = &mut self.reader;
+        let (begin, end) = reader.pending.pass_comment(&mut reader.reads, reader.text);
         self.yielded_count += 1;
         self.passed_begin = begin;
         self.passed_end = end;
-        self.lookahead.found = looked_after(&self.reader);
+        self.found = found_after(&self.reader);
         Waiting::Comment
     }
 
@@ -344,19 +323,19 @@ impl<'a> LexerState<'a> {
     fn pass_mark(&mut self) -> Waiting
         requires lexing { IsLexing self.old }
         requires going { self.old.has_ended ≡ false }
-        requires all { self.old.lookahead.found ≡ Found.All }
+        requires all { self.old.found ≡ Found.All }
         requires none { self.old.reader.pending.to ≤ self.old.reader.pending.from }
         ensures passed { result ≢ Waiting.Nothing → HasPassedWaiting self.old result self.new }
         ensures stays { result ≡ Waiting.Nothing → self.new ≡ self.old }
         ensures idle { result ≡ Waiting.Nothing → IsIdle self.old.reader.text.now self.old.reader.pending }
     {
-        let Some((begin, token, end)) = self.reader.next_mark() else {
+        let Some((begin, token, end)) = self.reader.pending.next_mark() else {
             return Waiting::Nothing;
         };
         self.yielded_count += 1;
         self.passed_begin = begin;
         self.passed_end = end;
-        self.lookahead.found = looked_after(&self.reader);
+        self.found = found_after(&self.reader);
         Waiting::of_mark(&token)
     }
 
@@ -366,7 +345,7 @@ impl<'a> LexerState<'a> {
     fn pass_fstring_text(&mut self) -> Waiting
         requires lexing { IsLexing self.old }
         requires going { self.old.has_ended ≡ false }
-        requires all { self.old.lookahead.found ≡ Found.All }
+        requires all { self.old.found ≡ Found.All }
         requires stage { self.old.reader.stage ≡ Stage.Onward }
         requires idle { IsIdle self.old.reader.text.now self.old.reader.pending }
         ensures { HasPassedWaiting self.old result self.new }
@@ -374,45 +353,28 @@ impl<'a> LexerState<'a> {
         let found = match self.reader.plain_text() {
             Some(Ok(found)) => found,
             Some(Err(run)) => {
-                self.lookahead.found = Found::Text;
-                self.lookahead.run = run;
+                self.found = Found::Text;
+                self.run = run;
                 return Waiting::Nothing;
             }
             None => {
-                self.lookahead.found = Found::Nothing;
+                self.found = Found::Nothing;
                 return Waiting::Layout;
             }
         };
         self.yielded_count += 1;
         if found.len == 0 {
-            let (begin, token, end) = self.reader.pass_text_end(found);
+            let (begin, token, end) = self.reader.take_chunk_end(found);
             self.passed_begin = begin;
             self.passed_end = end;
-            self.lookahead.found = looked_after(&self.reader);
+            self.found = found_after(&self.reader);
             return Waiting::of_mark(&token);
         }
-        self.passed_begin = self.reader.at();
+        self.passed_begin = self.reader.at;
         self.passed_end = self.passed_begin + found.len;
-        self.reader.pass_text(found);
-        self.lookahead.found = Found::All;
+        self.reader.pass_chunk(found);
+        self.found = Found::All;
         Waiting::FStringText
-    }
-
-    /// Passes the first margin.
-    fn pass_first_margin(&mut self) -> Waiting
-        requires lexing { IsLexing self.old }
-        requires going { self.old.has_ended ≡ false }
-        requires all { self.old.lookahead.found ≡ Found.All }
-        requires begin { self.old.reader.stage ≡ Stage.Begin }
-        requires idle { IsIdle self.old.reader.text.now self.old.reader.pending }
-        ensures { HasPassedWaiting self.old result self.new }
-    {
-        let Ok(()) = self.reader.read_first_margin() else {
-            self.has_ended = true;
-            return Waiting::OutOfMemory;
-        };
-        self.lookahead.found = looked_after_margin(&self.reader);
-        Waiting::Layout
     }
 
     /// Passes what comes next where lookahead in code is spent: a pending lexeme, the plain text of an
@@ -423,84 +385,96 @@ impl<'a> LexerState<'a> {
     fn pass_waiting(&mut self) -> Waiting
         requires lexing { IsLexing self.old }
         requires going { self.old.has_ended ≡ false }
-        requires looked { self.old.lookahead.found ≢ Found.Nothing }
+        requires looked { self.old.found ≢ Found.Nothing }
         ensures { HasPassedWaiting self.old result self.new }
     {
-        if !matches!(self.lookahead.found, Found::All) {
+        if !matches!(self.found, Found::All) {
             return Waiting::Nothing;
         }
-        if self.reader.has_comments() {
+        if self.reader.pending.has_comments() {
             return self.pass_pending_comment();
         }
         match self.pass_mark() {
             Waiting::Nothing => {}
             mark => return mark,
         }
-        if self.reader.reads_on() {
-            return self.pass_fstring_text();
+        match self.reader.stage {
+            Stage::Begin => {}
+            Stage::Onward => return self.pass_fstring_text(),
+            _ => return Waiting::Nothing,
         }
-        if self.reader.is_at_begin() {
-            return self.pass_first_margin();
-        }
-        Waiting::Nothing
+        let Ok(()) = self.reader.read_first_margin() else {
+            self.has_ended = true;
+            return Waiting::OutOfMemory;
+        };
+        self.found = match found_after(&self.reader) {
+            // No word begins at the text's end.
+            Found::Nothing if self.reader.at == self.reader.text.len() => Found::Wordless,
+            found => found,
+        };
+        Waiting::Layout
     }
 
     /// Passes the name of `len` bytes here.
     // Always, as `pass_symbol` and `pass_string`: as plain `inline` these are calls (39 % of a mix).
     #[inline(always)]
-    fn pass_name(&mut self, len: usize) -> FastPath
+    fn pass_name(&mut self, len: usize) -> Result<Option<PlainLexeme>, AllocError>
         requires { IsAtWord self.old (record { class = Class.Identifier; len = len }) }
         ensures { HasPassedNext self.old result self.new }
     {
-        let begin = self.reader.at();
+        let begin = self.reader.at;
         self.yielded_count += 1;
-        self.reader.pass_name(len);
-        let end = self.reader.at();
-        FastPath::Passed(PlainLexeme {
-            kind: PlainKind::Identifier,
-            begin,
-            end,
-            value_begin: begin,
-            value_end: end,
-        })
+        self.reader.step_over(len, Before::Other);
+        let end = self.reader.at;
+        let name = PlainLexeme::new(PlainKind::Identifier, begin, end, begin);
+        Ok(Some(name))
     }
 
     /// Passes the keyword or symbol of `len` bytes here.
     #[inline(always)]
-    fn pass_symbol(&mut self, terminal: Terminal, len: usize) -> FastPath
+    fn pass_symbol(
+        &mut self,
+        terminal: Terminal,
+        len: usize,
+    ) -> Result<Option<PlainLexeme>, AllocError>
         requires { IsAtWord self.old (record { class = Class.Fixed terminal; len = len }) }
         ensures { HasPassedNext self.old result self.new }
     {
         self.yielded_count += 1;
         let lexeme = self.reader.take_terminal(terminal, len);
-        self.lookahead.found = looked_in_code(&self.reader);
-        FastPath::Symbol(terminal, lexeme)
+        self.found = found_in_code(&self.reader);
+        Ok(Some(PlainLexeme::of_symbol(terminal, lexeme)))
     }
 
     /// Passes the string literal whose opener of `len` bytes is here, if it has no escapes and one
     /// quote closes it.
     // Always: as a call it costs 3 % of BUILD files.
     #[inline(always)]
-    fn pass_string(&mut self, is_raw: bool, quote: Quote, len: usize) -> FastPath
+    fn pass_string(
+        &mut self,
+        is_raw: bool,
+        quote: Quote,
+        len: usize,
+    ) -> Result<Option<PlainLexeme>, AllocError>
         requires { IsAtOpener self.old is_raw quote len }
         ensures { HasPassedNext self.old result self.new }
     {
-        let begin = self.reader.at();
+        let begin = self.reader.at;
         match self
             .reader
             .plain_body_len(LiteralKind::Text, is_raw, quote, len)
         {
             Ok(body) => {
-                self.reader.pass_plain_text(is_raw, quote, len, body);
+                self.reader.step_over(len + body + 1, Before::Other);
                 self.yielded_count += 1;
-                let end = self.reader.at();
-                FastPath::Passed(PlainLexeme {
+                let end = self.reader.at;
+                Ok(Some(PlainLexeme {
                     kind: PlainKind::String,
                     begin,
                     end,
                     value_begin: begin + len,
                     value_end: end - 1,
-                })
+                }))
             }
             Err(run) => {
                 let class = Class::Opener {
@@ -508,12 +482,10 @@ impl<'a> LexerState<'a> {
                     is_raw,
                     quote,
                 };
-                self.lookahead = Lookahead {
-                    found: Found::Literal,
-                    word: Word { class, len },
-                    run,
-                };
-                FastPath::Undecided
+                self.found = Found::Literal;
+                self.word = Word { class, len };
+                self.run = run;
+                Ok(None)
             }
         }
     }
@@ -527,24 +499,24 @@ impl<'a> LexerState<'a> {
         ensures { HasPassedWaiting self.old result self.new }
     {
         let Some(word) = self.reader.unnamed_word() else {
-            self.lookahead.found = Found::Wordless;
+            self.found = Found::Wordless;
             return Waiting::Nothing;
         };
         match word.class {
             Class::Skipped => {
-                self.reader.pass_gap(word.len);
+                self.reader.step_over(word.len, Before::Gap);
                 Waiting::Layout
             }
             Class::Comment => {
                 self.yielded_count += 1;
-                self.passed_begin = self.reader.at();
-                self.reader.pass_comment(word.len);
-                self.passed_end = self.reader.at();
+                self.passed_begin = self.reader.at;
+                self.reader.step_over(word.len, Before::Other);
+                self.passed_end = self.reader.at;
                 Waiting::Comment
             }
             _ => {
-                self.lookahead.found = Found::Word;
-                self.lookahead.word = word;
+                self.found = Found::Word;
+                self.word = word;
                 Waiting::Nothing
             }
         }
@@ -554,70 +526,63 @@ impl<'a> LexerState<'a> {
     /// comment, a string literal without escapes, a pending lexeme, or a text of an f-string without
     /// escapes.
     #[inline(always)]
-    pub(crate) fn next_plain(&mut self) -> FastPath
+    pub(crate) fn next_plain(&mut self) -> Result<Option<PlainLexeme>, AllocError>
         requires { IsLexing self.old }
-        ensures ended { self.old.has_ended ≡ true → (result ≡ FastPath.Undecided) × (self.new ≡ self.old) }
+        ensures ended { self.old.has_ended ≡ true → (result ≡ Ok None) × (self.new ≡ self.old) }
         ensures passed { self.old.has_ended ≡ false → HasPassed self.old result self.new }
         ensures lexing { IsLexing self.new }
         ensures after { view_of self.new ≡ record (view_of self.old) { yielded_count = self.old.yielded_count + passed_count result; has_ended = self.old.has_ended || is_out_of_memory result; reads = self.new.reader.reads } }
     {
         loop {
-            if !self.lookahead.found.is_nothing() {
+            if !self.found.is_nothing() {
                 if self.has_ended {
-                    return FastPath::Undecided;
+                    return Ok(None);
                 }
                 match self.pass_waiting() {
                     Waiting::Layout => continue,
-                    waiting => return FastPath::of_waiting(
-                        waiting,
-                        self.passed_begin,
-                        self.passed_end,
-                    ),
+                    waiting => return waiting.lexeme(self.passed_begin, self.passed_end),
                 }
             }
             let Some(Word { class, len }) = self.reader.common_word() else {
                 match self.look_further() {
                     Waiting::Layout => continue,
-                    waiting => return FastPath::of_waiting(
-                        waiting,
-                        self.passed_begin,
-                        self.passed_end,
-                    ),
+                    waiting => return waiting.lexeme(self.passed_begin, self.passed_end),
                 }
             };
             match class {
                 Class::Identifier => return self.pass_name(len),
                 Class::Fixed(terminal) => return self.pass_symbol(terminal, len),
                 Class::LineEnd => {
-                    let begin = self.reader.at();
+                    let begin = self.reader.at;
                     let Ok(line_end) = self.reader.take_line_end(len) else {
                         self.has_ended = true;
-                        self.lookahead.found = Found::All;
-                        return FastPath::OutOfMemory;
+                        self.found = Found::All;
+                        return Err(AllocError);
                     };
                     match line_end {
                         LineEnd::Passed => continue,
                         LineEnd::Fault => {
-                            self.lookahead.found = Found::All;
-                            return FastPath::Undecided;
+                            self.found = Found::All;
+                            return Ok(None);
                         }
-                        LineEnd::Pending => self.lookahead.found = Found::All,
+                        LineEnd::Pending => self.found = Found::All,
                         LineEnd::Newline => {}
                     }
                     self.yielded_count += 1;
-                    let newline = PlainLexeme::of_kind(PlainKind::Newline, begin, begin + len);
-                    return FastPath::Passed(newline);
+                    let end = begin + len;
+                    let newline = PlainLexeme::new(PlainKind::Newline, begin, end, end);
+                    return Ok(Some(newline));
                 }
                 Class::Opener {
                     kind: LiteralKind::Text,
                     is_raw,
                     quote,
                 } => return self.pass_string(is_raw, quote, len),
-                Class::Skipped => self.reader.pass_gap(len),
+                Class::Skipped => self.reader.step_over(len, Before::Gap),
                 _ => {
-                    self.lookahead.found = Found::Word;
-                    self.lookahead.word = Word { class, len };
-                    return FastPath::Undecided;
+                    self.found = Found::Word;
+                    self.word = Word { class, len };
+                    return Ok(None);
                 }
             }
         }
@@ -630,12 +595,12 @@ impl<'a> LexerState<'a> {
         requires counted { 0 < self.old.yielded_count }
         ensures { HasTaken self.old plain result self.new }
     {
-        match token_of(plain, self.alloc, self.reader.text()) {
+        match token_of(plain, self.alloc, self.reader.text) {
             Ok(token) => Some(Ok((plain.begin, token, plain.end))),
             Err(_) => {
                 self.yielded_count -= 1;
                 self.has_ended = true;
-                self.lookahead.found = Found::All;
+                self.found = Found::All;
                 Some(Err(OrMemory::Memory))
             }
         }
@@ -669,10 +634,9 @@ impl<'a> LexerState<'a> {
         ensures after { view_of self.new ≡ record (view_of self.old) { yielded_count = self.old.yielded_count + yielded_by result; has_ended = self.old.has_ended || is_ended_by result; reads = self.new.reader.reads } }
     {
         match self.next_plain() {
-            FastPath::Passed(plain) => self.take(plain),
-            FastPath::Symbol(_, lexeme) => Some(Ok(lexeme)),
-            FastPath::OutOfMemory => Some(Err(OrMemory::Memory)),
-            FastPath::Undecided => self.next_slowly(),
+            Ok(Some(plain)) => self.take(plain),
+            Ok(None) => self.next_slowly(),
+            Err(_) => Some(Err(OrMemory::Memory)),
         }
     }
 
@@ -703,7 +667,9 @@ impl<'a> LexerState<'a> {
     {
         LexerState {
             yielded_count: self.yielded_count,
-            lookahead: self.lookahead,
+            found: self.found,
+            word: self.word,
+            run: self.run,
             has_ended: self.has_ended,
             reader: self.reader.over(text),
             passed_begin: self.passed_begin,
@@ -725,7 +691,7 @@ impl<'a> LexerState<'a> {
     {
         self.yielded_count = self.yielded_count - 1 + (end - begin);
         self.has_ended = false;
-        self.lookahead.found = Found::All;
+        self.found = Found::All;
         self.reader.go_on(begin, end);
     }
 
@@ -734,7 +700,7 @@ impl<'a> LexerState<'a> {
     pub(crate) fn has_fault(&self) -> bool
         ensures { result ≡ has_fault self.now }
     {
-        !self.has_ended && self.reader.has_fault()
+        !self.has_ended && matches!(self.reader.stage, Stage::Fault { .. })
     }
 
     /// The fault after the last lexeme, between two offsets, if one is left. It ends the lexer.
@@ -750,7 +716,7 @@ impl<'a> LexerState<'a> {
         if self.has_ended {
             return None;
         }
-        self.lookahead.found = Found::All;
+        self.found = Found::All;
         let fault = self.reader.take_fault()?;
         self.yielded_count += 1;
         self.has_ended = true;
@@ -779,18 +745,6 @@ impl<'a> LexerState<'a> {
                 OrMemory::Memory
             }
         }
-    }
-
-    /// The offset before the text's end where it can be cut, if the lexemes yielded so far are those
-    /// before one. Each such offset is returned after the last lexeme before it.
-    #[inline(always)]
-    pub(crate) fn cut(&self) -> Option<usize>
-        requires lexing { IsLexing self.now }
-        requires going { self.now.has_ended ≡ false }
-        ensures kept { IfSome result (λ at. IsCutBefore self.now.reader.text.now at (length (left_in self.now))) }
-        ensures reached { (at : ℕ) → IsReached self.now.reader at → 0 < at → at < length self.now.reader.text.now → result ≡ Some at }
-    {
-        self.reader.cut()
     }
 
     /// Counts reads of `len` other bytes if those so far leave room for them. Returns whether they do.

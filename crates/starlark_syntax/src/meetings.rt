@@ -91,12 +91,12 @@ pub(crate) fn meeting_at(
     ensures most { IfSome result (λ meeting. state.new.reader.reads ≤ most_reads state.old.reader.text.now) }
 {
     let at = place?;
-    let text = state.reader.text().as_bytes();
+    let text = state.reader.text.as_bytes();
     let left = text.len() - at;
     let begin = known.text.len().checked_sub(left)?;
     let index = known.cuts.binary_search_by_key(&begin, |cut| cut.at).ok()?;
     // Never so, since each byte before the cut was read; the contract of the reads needs it.
-    if state.reader.reads() < at as u64 {
+    if state.reader.reads.count() < at as u64 {
         return None;
     }
     if !state.count_others(left) {

@@ -67,19 +67,19 @@ impl PlainLexeme {
         } else {
             PlainKind::Word(terminal)
         };
-        PlainLexeme::of_kind(kind, begin, end)
+        PlainLexeme::new(kind, begin, end, end)
     }
 
-    /// A lexeme between two offsets, of a kind without a value.
+    /// A lexeme between two offsets, whose value is from `value_begin` on; `end` for a kind without one.
     #[inline]
-    pub(crate) fn of_kind(kind: PlainKind, begin: usize, end: usize) -> PlainLexeme
-        ensures { result ≡ record { kind = kind; begin = begin; end = end; value_begin = end; value_end = end } }
+    pub(crate) fn new(kind: PlainKind, begin: usize, end: usize, value_begin: usize) -> PlainLexeme
+        ensures { result ≡ record { kind = kind; begin = begin; end = end; value_begin = value_begin; value_end = end } }
     {
         PlainLexeme {
             kind,
             begin,
             end,
-            value_begin: end,
+            value_begin,
             value_end: end,
         }
     }

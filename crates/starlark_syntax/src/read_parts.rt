@@ -90,7 +90,7 @@ pub(crate) fn read_part(
     ensures most { IfOk result (λ part. part.reads ≤ most_reads state.old.reader.text.now) }
     ensures least { IfOk result (λ part. part.fault ≡ None → length state.old.reader.text.now ≤ part.reads) }
 {
-    let text = state.reader.text();
+    let text = state.reader.text;
     let mut cuts = Vec::new(alloc);
     let mut lexemes = Vec::new(alloc);
     while let Some(item) = state.next() {
@@ -98,7 +98,7 @@ pub(crate) fn read_part(
             return Err(AllocError);
         };
         lexemes.push(lexeme)?;
-        let place = state.cut();
+        let place = state.reader.cut();
         push_cut(&mut cuts, place, lexemes.len())?;
         if let Some(meeting) = meeting_at(state, place, known) {
             return Ok(ReadPart {
@@ -107,7 +107,7 @@ pub(crate) fn read_part(
                 cuts,
                 is_cut: false,
                 has_tab: false,
-                reads: state.reader.reads(),
+                reads: state.reader.reads.count(),
                 met: Some(meeting),
             });
         }
@@ -119,13 +119,13 @@ pub(crate) fn read_part(
             cuts,
             is_cut: false,
             has_tab: state.reader.has_read_none(),
-            reads: state.reader.reads(),
+            reads: state.reader.reads.count(),
             met: None,
         });
     }
     let is_cut = state.reader.is_clean_cut();
     let cuts = with_end_cut(cuts, text, &lexemes, is_cut)?;
-    let reads = state.reader.reads();
+    let reads = state.reader.reads.count();
     Ok(ReadPart {
         lexemes,
         fault: None,

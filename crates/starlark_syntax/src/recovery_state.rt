@@ -137,7 +137,7 @@ impl<'a> RecoveryState<'a> {
         let Ok(passed) = pass(self.alloc, mended, self.begin, fault, &self.code_map) else {
             return OrMemory::Memory;
         };
-        let reads = self.state.reader.reads().saturating_add(passed.reads);
+        let reads = self.state.reader.reads.count().saturating_add(passed.reads);
         self.earlier_reads = self.earlier_reads.saturating_add(reads);
         self.fault_count += 1;
         self.begin = passed.begin;
@@ -232,6 +232,7 @@ impl<'a> RecoveryState<'a> {
     pub(crate) fn reads(&self) -> u64
         ensures { result ≡ (view_of self.now).reads }
     {
-        self.earlier_reads.saturating_add(self.state.reader.reads())
+        self.earlier_reads
+            .saturating_add(self.state.reader.reads.count())
     }
 }

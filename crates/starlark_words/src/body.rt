@@ -50,30 +50,6 @@ fn append_run(text: &mut String, run: &str, front: &[u8]) -> Result<(), AllocErr
     text.push_str(run)
 }
 
-/// The run of `run` bytes at the front of a text.
-#[inline(always)]
-fn text_of_run(alloc: Global, text: &str, run: usize) -> Result<String, AllocError>
-    requires { IsCharBoundary text.now run }
-    ensures { IfOk result (λ value. string_bytes value ≡ take run text.now) }
-{
-    let mut value = String::new(alloc);
-    if run > 0 {
-        let front = uncounted_front(text[run..].as_bytes(), FRONT_LEN);
-        append_run(&mut value, &text[..run], front)?;
-    }
-    Ok(value)
-}
-
-/// The run of `run` bytes at the front of a text, as bytes.
-fn bytes_of_run(alloc: Global, text: &str, run: usize) -> Result<Vec<u8>, AllocError>
-    requires { IsCharBoundary text.now run }
-    ensures { IfOk result (λ value. value.items ≡ take run text.now) }
-{
-    let mut value = Vec::new(alloc);
-    value.extend_from_slice(text[..run].as_bytes())?;
-    Ok(value)
-}
-
 /// Appends the value of an item to a text. The value must not be a lone byte.
 #[inline(always)]
 fn append_to_text(text: &mut String, value: Value<'_>) -> Result<(), AllocError>
@@ -130,26 +106,30 @@ fn read_text_body(
     ensures more { IfOk result (λ body. run ≤ body.len) }
     ensures reads { IfOk result (λ body. AreReads (body.len - run + least_stop_reads body.stop) (8 * (body.len - run) + stopped_len body.stop + 6) reads.old reads.new) }
 {
-    let mut value = text_of_run(alloc, text, run)?;
+    let mut decoded = String::new(alloc);
+    if run > 0 {
+        let front = uncounted_front(text[run..].as_bytes(), FRONT_LEN);
+        append_run(&mut decoded, &text[..run], front)?;
+    }
     let mut len = run;
     loop {
         let run = first_run(reads, FRONT_LEN, literal, &text[len..]);
         len += run.len();
         let rest = &text[len..];
         let front = uncounted_front(rest.as_bytes(), FRONT_LEN);
-        append_run(&mut value, run, front)?;
+        append_run(&mut decoded, run, front)?;
         if let Some(character) = simple_escape(literal, front) {
-            value.push(character)?;
+            decoded.push(character)?;
             len += 2;
             continue;
         }
         match found_at(reads, literal, front, rest) {
-            Found::Goes(item) => {
-                append_to_text(&mut value, item.value)?;
-                len += item.len;
+            Found::Goes { len: more, value } => {
+                append_to_text(&mut decoded, value)?;
+                len += more;
             }
             Found::Stops(stop) => {
-                let value = LiteralValue::Text(value);
+                let value = LiteralValue::Text(decoded);
                 return Ok(Body { len, value, stop });
             }
         }
@@ -173,21 +153,22 @@ fn read_bytes_body(
     ensures more { IfOk result (λ body. run ≤ body.len) }
     ensures reads { IfOk result (λ body. AreReads (body.len - run + least_stop_reads body.stop) (8 * (body.len - run) + stopped_len body.stop + 6) reads.old reads.new) }
 {
-    let mut value = bytes_of_run(alloc, text, run)?;
+    let mut decoded = Vec::new(alloc);
+    decoded.extend_from_slice(text[..run].as_bytes())?;
     let mut len = run;
     loop {
         let run = first_run(reads, FRONT_LEN, literal, &text[len..]);
-        value.extend_from_slice(run.as_bytes())?;
+        decoded.extend_from_slice(run.as_bytes())?;
         let at = len + run.len();
         let rest = &text[at..];
         let front = uncounted_front(rest.as_bytes(), FRONT_LEN);
         match found_at(reads, literal, front, rest) {
-            Found::Goes(item) => {
-                append_to_bytes(&mut value, item.value)?;
-                len = at + item.len;
+            Found::Goes { len: more, value } => {
+                append_to_bytes(&mut decoded, value)?;
+                len = at + more;
             }
             Found::Stops(stop) => {
-                let value = LiteralValue::Bytes(value);
+                let value = LiteralValue::Bytes(decoded);
                 return Ok(Body {
                     len: at,
                     value,

@@ -11,18 +11,9 @@ ghost use Rattle.starlark_words.specs.Inner.LiteralViews.{IsCharacters, IsText, 
 ghost use Rattle.starlark_words.specs.Inner.Reads.{AreReads, more_reads};
 ghost use Rattle.starlark_grammar.specs.Words.{Text, is_octal_digit};
 
-use super::items::{Found, Item, Literal, Stop, Value, after_first, part};
-use crate::reads::{ReadCounter, uncounted_at};
+use super::items::{Found, Literal, Stop, Value, after_first, part};
+use crate::reads::{ReadCounter, uncounted_front};
 use starlark_grammar::class::LiteralKind;
-
-/// A bad escape of `len` bytes, read as a whole. Its last character has one byte.
-fn ended<'a>(len: usize) -> Found<'a>
-    ensures value { found_view result ≡ grammar.broken len [] }
-    ensures text { IsText result }
-    ensures len { found_len result ≡ len }
-{
-    Found::Stops(Stop::BadEscape { len, last: 1 })
-}
 
 /// A bad escape that is broken off after `good` bytes: the character after them is the last one
 /// read.
@@ -34,23 +25,10 @@ fn broken<'a>(reads: &mut ReadCounter, good: usize, remainder: &str) -> Found<'a
     ensures len { good ≤ found_len result }
 {
     let last = reads.character_len(remainder);
-    if last == 0 {
-        Found::Stops(Stop::BadEscape { len: good, last: 1 })
-    } else {
-        Found::Stops(Stop::BadEscape {
-            len: good + last,
-            last,
-        })
-    }
-}
-
-/// An item of `len` bytes with a value.
-fn item<'a>(len: usize, value: Value<'a>) -> Found<'a>
-    ensures value { found_view result ≡ grammar.goes len (value_view value.entry) }
-    ensures text { IsCharacters value.entry → IsText result }
-    ensures len { found_len result ≡ len }
-{
-    Found::Goes(Item { len, value })
+    Found::Stops(Stop::BadEscape {
+        len: good + last,
+        last: last.max(1),
+    })
 }
 
 /// The escape of `len` bytes for the byte or the character of a number; a bad one if there is none.
@@ -61,15 +39,15 @@ fn numbered<'a>(len: usize, is_byte: bool, number: u32) -> Found<'a>
     ensures len { found_len result ≡ len }
 {
     if is_byte {
-        return match u8::try_from(number) {
-            Ok(value) => item(len, Value::Byte(value)),
-            Err(_) => ended(len),
-        };
+        if let Ok(byte) = u8::try_from(number) {
+            let value = Value::Byte(byte);
+            return Found::Goes { len, value };
+        }
+    } else if let Some(character) = char::from_u32(number) {
+        let value = Value::Character(character);
+        return Found::Goes { len, value };
     }
-    match char::from_u32(number) {
-        Some(value) => item(len, Value::Character(value)),
-        None => ended(len),
-    }
+    Found::Stops(Stop::BadEscape { len, last: 1 })
 }
 
 /// Number of digits of a radix at the start of at most 8 bytes, and their value.
@@ -93,39 +71,6 @@ fn digits(bytes: &[u8], radix: u32) -> (usize, u32)
     (len, number)
 }
 
-/// Number of digits of a radix at the start of a text, at most `wanted`, and their value.
-#[inline(always)]
-fn first_digits(reads: &mut ReadCounter, text: &[u8], radix: u32, wanted: usize) -> (usize, u32)
-    requires low { 2 ≤ radix }
-    requires high { radix ≤ 16 }
-    requires few { wanted ≤ 8 }
-    ensures len { result.0 ≡ prefix_len (λ b. is_digit b radix) (take wanted text.now) }
-    ensures number { result.1 ≡ digits_value radix (take result.0 text.now) }
-    ensures reads { reads.new ≡ more_reads reads.old (result.0 + 1) }
-{
-    let found = digits(&text[..wanted.min(text.len())], radix);
-    reads.count_run(found.0);
-    found
-}
-
-/// Number of hexadecimal digits at the start of a text, at most `wanted`, and their value.
-#[inline(always)]
-fn hexadecimal_digits(reads: &mut ReadCounter, text: &[u8], wanted: usize) -> (usize, u32)
-    requires { wanted ≤ 8 }
-    ensures len { result.0 ≡ prefix_len is_ascii_hexdigit (take wanted text.now) }
-    ensures number { result.1 ≡ digits_value 16 (take result.0 text.now) }
-    ensures reads { reads.new ≡ more_reads reads.old (result.0 + 1) }
-{
-    first_digits(reads, text, 16, wanted)
-}
-
-/// Whether a byte is an octal digit.
-fn is_octal_digit(byte: u8) -> bool
-    ensures { result ≡ is_octal_digit byte }
-{
-    matches!(byte, b'0'..=b'7')
-}
-
 /// The escape of exactly `wanted` hexadecimal digits. `text` begins after its letter `x`, `u` or
 /// `U`.
 fn hexadecimal<'a>(reads: &mut ReadCounter, wanted: usize, is_byte: bool, text: &str) -> Found<'a>
@@ -135,7 +80,8 @@ fn hexadecimal<'a>(reads: &mut ReadCounter, wanted: usize, is_byte: bool, text: 
     ensures text { is_byte ≡ false → IsText result }
     ensures reads { AreReads (found_len result - 2) (found_len result) reads.old reads.new }
 {
-    let (len, number) = hexadecimal_digits(reads, text.as_bytes(), wanted);
+    let (len, number) = digits(uncounted_front(text.as_bytes(), wanted), 16);
+    reads.count_run(len);
     if len != wanted {
         return broken(reads, 2 + len, &text[len..]);
     }
@@ -149,7 +95,8 @@ fn octal<'a>(reads: &mut ReadCounter, is_byte: bool, text: &str) -> Found<'a>
     ensures text { is_byte ≡ false → IsText result }
     ensures reads { AreReads (found_len result - 2) (found_len result) reads.old reads.new }
 {
-    let (len, number) = first_digits(reads, text.as_bytes(), 8, 3);
+    let (len, number) = digits(uncounted_front(text.as_bytes(), 3), 8);
+    reads.count_run(len);
     numbered(1 + len, is_byte, number)
 }
 
@@ -190,22 +137,6 @@ fn simple_value(byte: u8) -> Option<char>
     }
 }
 
-/// The escape of one character `first`. `text` begins with its backslash.
-///
-/// If the character has no meaning there, the value is the backslash and the character, unchanged.
-fn simple<'a>(reads: &mut ReadCounter, first: u8, text: &'a str) -> Found<'a>
-    requires { text.now ≡ 92 ∷ first ∷ drop 2 text.now }
-    ensures value { found_view result ≡ grammar.simple (lookup (nat_eq first) grammar.simple_escapes) (characters.first_character (drop 1 text.now)) }
-    ensures text { IsText result }
-    ensures reads { AreReads (found_len result - 2) (found_len result) reads.old reads.new }
-{
-    if let Some(value) = simple_value(first) {
-        return item(2, Value::Character(value));
-    }
-    let len = 1 + reads.character_len(after_first(text));
-    part(len, &text[..len])
-}
-
 /// The character of the escape of two bytes at the start of the rest of a body, if it is one.
 ///
 /// `front` is the first three bytes of the rest, read already.
@@ -220,13 +151,6 @@ pub(crate) fn simple_escape(literal: Literal, front: &[u8]) -> Option<char>
         return None;
     }
     simple_value(*second)
-}
-
-/// Whether a literal is a bytes literal.
-fn is_of_bytes(kind: LiteralKind) -> bool
-    ensures { result ≡ grammar.is_of_bytes kind }
-{
-    matches!(kind, LiteralKind::Bytes)
 }
 
 /// The escape at the start of a text, which begins with its backslash: an item, or a bad escape.
@@ -245,19 +169,27 @@ pub(crate) fn escape<'a>(
     ensures reads { AreReads (found_len result - 2) (found_len result + 2) reads.old reads.new }
 {
     let remainder = after_first(text);
-    let Some(first) = uncounted_at(front, 1) else {
+    let Some(first) = front.get(1) else {
         return broken(reads, 1, remainder);
     };
-    let is_byte = is_of_bytes(kind);
-    if is_octal_digit(first) {
-        return octal(reads, is_byte, remainder);
-    }
-    match first {
+    let is_byte = kind == LiteralKind::Bytes;
+    match *first {
+        b'0'..=b'7' => octal(reads, is_byte, remainder),
         b'\n' => part(2, ""),
         b'\r' => escaped_newline(reads, after_first(remainder)),
         b'x' => hexadecimal(reads, 2, is_byte, after_first(remainder)),
         b'u' => hexadecimal(reads, 4, false, after_first(remainder)),
         b'U' => hexadecimal(reads, 8, false, after_first(remainder)),
-        _ => simple(reads, first, text),
+        _ => match simple_value(*first) {
+            Some(value) => Found::Goes {
+                len: 2,
+                value: Value::Character(value),
+            },
+            // The backslash and the character after it stay.
+            None => {
+                let len = 1 + reads.character_len(remainder);
+                part(len, &text[..len])
+            }
+        },
     }
 }

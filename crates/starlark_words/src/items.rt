@@ -32,15 +32,6 @@ pub(crate) enum Value<'a> {
     Byte(u8),
 }
 
-/// An item of a body, such as a character or an escape.
-#[derive(Clone, Copy)]
-pub(crate) struct Item<'a> {
-    /// Length of the item in the text, in bytes.
-    pub len: usize,
-    /// The decoded value.
-    pub value: Value<'a>,
-}
-
 /// Why a body stops.
 #[derive(Clone, Copy)]
 pub enum Stop {
@@ -61,8 +52,8 @@ pub enum Stop {
 /// What is next in a body: an item, or its stop.
 #[derive(Clone, Copy)]
 pub(crate) enum Found<'a> {
-    /// The body goes on with an item.
-    Goes(Item<'a>),
+    /// An item of `len` bytes, such as a character or an escape.
+    Goes { len: usize, value: Value<'a> },
     /// The body stops.
     Stops(Stop),
 }
@@ -74,10 +65,10 @@ pub(crate) fn part(len: usize, value: &str) -> Found<'_>
     ensures len { found_len result ≡ len }
     ensures least { least_reads result ≡ len }
 {
-    Found::Goes(Item {
+    Found::Goes {
         len,
         value: Value::Part(value),
-    })
+    }
 }
 
 /// Number of quotes that close a literal: 1 or 3.
@@ -87,13 +78,13 @@ pub fn closing_len(opening: Opening) -> usize
     if opening.is_triple { 3 } else { 1 }
 }
 
-/// Whether a byte is the given quote.
-pub(crate) fn is_quote(quote: Quote, byte: u8) -> bool
-    ensures { result ≡ (byte == grammar.quote_byte quote) }
+/// The byte of a quote.
+pub(crate) fn quote_byte(quote: Quote) -> u8
+    ensures { result ≡ grammar.quote_byte quote }
 {
     match quote {
-        Quote::Single => byte == b'\'',
-        Quote::Double => byte == b'"',
+        Quote::Single => b'\'',
+        Quote::Double => b'"',
     }
 }
 
@@ -102,12 +93,12 @@ pub(crate) fn is_quote(quote: Quote, byte: u8) -> bool
 pub(crate) fn closes(opening: Opening, text: &[u8]) -> bool
     ensures { result ≡ starts_with nat_eq text.now (grammar.closing_quotes (opening_view opening)) }
 {
-    let quote = opening.quote;
+    let quote = quote_byte(opening.quote);
     match text {
         [first, second, third, ..] if opening.is_triple => {
-            is_quote(quote, *first) && is_quote(quote, *second) && is_quote(quote, *third)
+            *first == quote && *second == quote && *third == quote
         }
-        [first, ..] => !opening.is_triple && is_quote(quote, *first),
+        [first, ..] => !opening.is_triple && *first == quote,
         [] => false,
     }
 }
@@ -117,7 +108,7 @@ fn drops_backslash(kind: LiteralKind, quote: Quote, byte: u8) -> bool
     ensures { result ≡ grammar.drops_backslash kind quote byte }
 {
     match kind {
-        LiteralKind::FString => is_quote(quote, byte),
+        LiteralKind::FString => byte == quote_byte(quote),
         _ => byte == b'\'' || byte == b'"',
     }
 }
@@ -174,10 +165,7 @@ fn brace<'a>(reads: &mut ReadCounter, first: u8, text: &'a str) -> Found<'a>
 pub(crate) fn is_brace(kind: LiteralKind, byte: u8) -> bool
     ensures { result ≡ grammar.is_brace kind byte }
 {
-    match kind {
-        LiteralKind::FString => byte == b'{' || byte == b'}',
-        _ => false,
-    }
+    kind == LiteralKind::FString && (byte == b'{' || byte == b'}')
 }
 
 /// Whether a byte is an LF in a literal that can't have one.

@@ -1,7 +1,7 @@
 //! What a text is made of: its words, its numbers, and the bodies of its literals.
 //!
 //! All of it is found from the bytes at one place; nothing is kept between two calls. `reads`
-//! counts the reads of bytes, and `lines`, `names` and `run_lanes` take 16 of them at a time. A
+//! counts the reads of bytes, and `lines`, `names` and `runs` take 16 of them at a time. A
 //! body is read item by item up to its stop: `escapes` decodes escapes; `runs` and `plain` are the
 //! fast path for text that needs no decoding.
 #![tactic(auto)]
@@ -16,7 +16,6 @@ mod names;
 pub mod one_identifier;
 mod plain;
 pub mod reads;
-mod run_lanes;
 mod runs;
 pub mod scanner;
 

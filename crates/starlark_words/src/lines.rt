@@ -67,12 +67,12 @@ fn long_front_len(
     while at + LANES <= text.len() {
         let ends = front_ends(text, at, other);
         if ends != 0 {
-            reads.count_run_and_lanes(passed + at);
+            reads.add(passed + at + LANES);
             return at + ends.trailing_zeros() as usize;
         }
         at += LANES;
     }
-    reads.count_run_and_lanes(passed + at);
+    reads.add(passed + at + LANES);
     let last = text.len() - LANES;
     let ends = front_ends(text, last, other);
     if ends == 0 {

@@ -30,7 +30,7 @@ pub(crate) fn is_name_start(byte: u8) -> bool
 
 /// Whether a byte is a letter, `_` or a digit.
 #[inline(always)]
-fn is_in_name(byte: u8) -> bool
+pub(crate) fn is_in_name(byte: u8) -> bool
     ensures { result ≡ grammar.is_in_name byte }
 {
     IN_NAME[byte as usize] != b'-'
@@ -94,7 +94,7 @@ pub(crate) fn name_len(reads: &mut ReadCounter, passed: usize, text: &[u8]) -> u
     }
     let more = lanes_name_len(&text[ALONE..]);
     if more < LANES {
-        reads.count_run_and_lanes(passed + ALONE);
+        reads.add(passed + ALONE + LANES);
         return ALONE + more;
     }
     let whole = ALONE + LANES + last_name_len(&text[ALONE + LANES..]);

@@ -10,45 +10,19 @@ use crate::reads::ReadCounter;
 use crate::scanner::{Class, Word, first_word};
 use std::alloc::{AllocError, Global};
 
-/// Length of the skipped piece at the front of a text; `None` if there is none.
-fn skipped_len(text: &str) -> Option<usize>
-    ensures value { result ≡ spec.if_skipped (language_front text.now) }
-    ensures cut { IfSome result (λ len. spec.IsCut text.now len) }
-{
-    match first_word(&mut ReadCounter::new(), text) {
-        Some(
-            Word {
-                class: Class::Skipped,
-                len,
-            },
-        ) => Some(len),
-        _ => None,
-    }
-}
-
-/// Length of the identifier at the front of a text; `None` if there is none.
-fn identifier_len(text: &str) -> Option<usize>
-    ensures value { result ≡ spec.if_identifier (language_front text.now) }
-    ensures cut { IfSome result (λ len. spec.IsCut text.now len) }
-{
-    match first_word(&mut ReadCounter::new(), text) {
-        Some(
-            Word {
-                class: Class::Identifier,
-                len,
-            },
-        ) => Some(len),
-        _ => None,
-    }
-}
-
 /// The rest of a text after the skipped pieces at its front.
 fn after_skipped(text: &str) -> &str
     ensures passed { spec.IsAfterSkipped text.now result.now }
     ensures all { spec.if_skipped (language_front result.now) ≡ None }
 {
     let mut rest = text;
-    while let Some(len) = skipped_len(rest) {
+    while let Some(
+        Word {
+            class: Class::Skipped,
+            len,
+        },
+    ) = first_word(&mut ReadCounter::new(), rest)
+    {
         rest = &rest[len..];
     }
     rest
@@ -64,7 +38,13 @@ pub fn lex_exactly_one_identifier(alloc: Global, s: &str) -> Result<Option<Strin
     ensures memory { OnErr result ((name : Text) × spec.IsOneIdentifier s.now name) }
 {
     let rest = after_skipped(s);
-    let Some(len) = identifier_len(rest) else {
+    let Some(
+        Word {
+            class: Class::Identifier,
+            len,
+        },
+    ) = first_word(&mut ReadCounter::new(), rest)
+    else {
         return Ok(None);
     };
     if !after_skipped(&rest[len..]).is_empty() {

@@ -8,7 +8,7 @@ ghost use Rattle.starlark_words.specs.Inner.LiteralViews.{IsPlainBody, IsPlainCh
 ghost use Rattle.starlark_words.specs.Inner.PlainRuns.{IsRun};
 ghost use Rattle.starlark_grammar.specs.Inner.Openings.{opening_view};
 
-use super::items::{Literal, Stop, closes, is_quote};
+use super::items::{Literal, Stop, closes, quote_byte};
 use super::runs::first_run;
 use crate::reads::{ReadCounter, byte_at, uncounted_front};
 use starlark_grammar::class::{LiteralKind, Opening, Quote};
@@ -41,14 +41,14 @@ pub fn plain_body_len(
     let literal = Literal { kind, opening };
     let len = first_run(reads, 0, literal, text).len();
     let bytes = text.as_bytes();
-    if !is_quote(quote, byte_at(bytes, len)) {
+    if byte_at(bytes, len) != quote_byte(quote) {
         return Err(len);
     }
     if len > 0 {
         return Ok(len);
     }
     reads.add(1);
-    if is_quote(quote, byte_at(bytes, 1)) {
+    if byte_at(bytes, 1) == quote_byte(quote) {
         Err(len)
     } else {
         Ok(len)

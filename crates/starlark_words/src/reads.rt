@@ -1,14 +1,12 @@
 //! Reads bytes of a text, and counts the reads.
 
 ghost use Rattle.std.specs.Prelude.{◌≡◌, get_or, ◌≤◌, ◌<◌, ◌+◌, ◌-◌, ◌^◌, ℕ, length, take, nat_eq};
-ghost use Rattle.std.specs.Char.{is_ascii_digit, is_ascii_hexdigit};
+ghost use Rattle.std.specs.Char.{is_digit};
 ghost use Rattle.std.specs.List.{prefix_len, slice_get};
 ghost use Rattle.std.specs.Str.{IsCharBoundary};
 ghost use Rattle.starlark_grammar.specs.FrontCharacter.{first_character};
-ghost use Rattle.starlark_grammar.specs.Words as grammar;
 ghost use Rattle.starlark_words.specs.Inner.Reads.{more_reads};
 
-use crate::lanes::LANES;
 use std::marker::Model;
 
 /// Number of spaces at the start of a text. The caller has to count the reads.
@@ -35,27 +33,6 @@ pub(crate) fn byte_at(text: &[u8], at: usize) -> u8
 {
     match text.get(at) {
         Some(byte) => *byte,
-        None => 0,
-    }
-}
-
-/// The byte at an offset of a text; `None` if the text is no longer than that. The caller has to count
-/// the read.
-#[inline(always)]
-pub(crate) fn uncounted_at(text: &[u8], place: usize) -> Option<u8>
-    ensures { result ≡ slice_get text.now place }
-{
-    text.get(place).copied()
-}
-
-/// Length in bytes of the first character of a text; 0 if the text is empty. Not counted.
-fn first_character_len(text: &str) -> usize
-    ensures character { take result text.now ≡ first_character text.now }
-    ensures whole { result ≡ length (first_character text.now) }
-    ensures boundary { IsCharBoundary text.now result }
-{
-    match text.chars().next() {
-        Some(character) => character.len_utf8(),
         None => 0,
     }
 }
@@ -108,15 +85,6 @@ impl ReadCounter {
         self.add(len + 1);
     }
 
-    /// Counts a run of `len` bytes, each read once, and the 16 bytes of the SIMD step after it.
-    #[inline(always)]
-    pub(crate) fn count_run_and_lanes(&mut self, len: usize)
-        requires { len < 2 ^ 64 - 16 }
-        ensures { self.new ≡ more_reads self.old (len + 16) }
-    {
-        self.add(len + LANES);
-    }
-
     /// The byte at an offset of a text; `None` if the text is no longer than that.
     #[inline(always)]
     pub fn at(&mut self, text: &[u8], place: usize) -> Option<u8>
@@ -134,7 +102,10 @@ impl ReadCounter {
         ensures boundary { IsCharBoundary text.now result }
         ensures reads { self.new ≡ more_reads self.old result }
     {
-        let len = first_character_len(text);
+        let len = match text.chars().next() {
+            Some(character) => character.len_utf8(),
+            None => 0,
+        };
         self.add(len);
         len
     }
@@ -149,98 +120,31 @@ impl ReadCounter {
         &text[..most.min(text.len())]
     }
 
-    /// Number of decimal digits at the start of a text.
+    /// Number of digits of a base at the start of a text.
     #[inline(always)]
-    pub(crate) fn digits_len(&mut self, text: &[u8]) -> usize
-        ensures value { result ≡ prefix_len is_ascii_digit text.now }
-        ensures within { result ≤ length text.now }
-        ensures reads { self.new ≡ more_reads self.old (result + 1) }
-    {
-        let len = text.iter().take_while(|byte| byte.is_ascii_digit()).count();
-        self.add(len + 1);
-        len
-    }
-
-    /// Number of hexadecimal digits at the start of a text.
-    #[inline(always)]
-    pub(crate) fn hexadecimal_len(&mut self, text: &[u8]) -> usize
-        ensures value { result ≡ prefix_len is_ascii_hexdigit text.now }
+    pub(crate) fn digits_len(&mut self, text: &[u8], base: u32) -> usize
+        requires least { 2 ≤ base }
+        requires most { base ≤ 36 }
+        ensures value { result ≡ prefix_len (λ b. is_digit b base) text.now }
         ensures within { result ≤ length text.now }
         ensures reads { self.new ≡ more_reads self.old (result + 1) }
     {
         let len = text
             .iter()
-            .take_while(|byte| byte.is_ascii_hexdigit())
+            .take_while(|byte| char::from(**byte).is_digit(base))
             .count();
         self.add(len + 1);
         len
     }
 
-    /// Number of octal digits at the start of a text.
+    /// Number of times that a byte is repeated at the start of a text.
     #[inline(always)]
-    pub(crate) fn octal_len(&mut self, text: &[u8]) -> usize
-        ensures value { result ≡ prefix_len grammar.is_octal_digit text.now }
+    pub(crate) fn repeats_len(&mut self, text: &[u8], repeated: u8) -> usize
+        ensures value { result ≡ prefix_len (nat_eq repeated) text.now }
         ensures within { result ≤ length text.now }
         ensures reads { self.new ≡ more_reads self.old (result + 1) }
     {
-        let len = text
-            .iter()
-            .take_while(|byte| matches!(byte, b'0'..=b'7'))
-            .count();
-        self.add(len + 1);
-        len
-    }
-
-    /// Number of binary digits at the start of a text.
-    #[inline(always)]
-    pub(crate) fn binary_len(&mut self, text: &[u8]) -> usize
-        ensures value { result ≡ prefix_len grammar.is_binary_digit text.now }
-        ensures within { result ≤ length text.now }
-        ensures reads { self.new ≡ more_reads self.old (result + 1) }
-    {
-        let len = text
-            .iter()
-            .take_while(|byte| matches!(byte, b'0' | b'1'))
-            .count();
-        self.add(len + 1);
-        len
-    }
-
-    /// Number of bytes of a text before its first CR or LF, or all of them.
-    #[inline(always)]
-    pub fn line_len(&mut self, text: &[u8]) -> usize
-        ensures value { result ≡ prefix_len grammar.is_in_line text.now }
-        ensures within { result ≤ length text.now }
-        ensures reads { self.new ≡ more_reads self.old (result + 1) }
-    {
-        let len = text
-            .iter()
-            .take_while(|byte| **byte != b'\r' && **byte != b'\n')
-            .count();
-        self.add(len + 1);
-        len
-    }
-
-    /// Number of spaces at the start of a text.
-    #[inline(always)]
-    pub(crate) fn spaces_len(&mut self, text: &[u8]) -> usize
-        ensures value { result ≡ prefix_len (nat_eq 32) text.now }
-        ensures within { result ≤ length text.now }
-        ensures reads { self.new ≡ more_reads self.old (result + 1) }
-    {
-        let len = uncounted_spaces_len(text);
-        self.add(len + 1);
-        len
-    }
-
-    /// Number of tabs at the start of a text.
-    #[inline(always)]
-    pub(crate) fn tabs_len(&mut self, text: &[u8]) -> usize
-        ensures value { result ≡ prefix_len (nat_eq 9) text.now }
-        ensures within { result ≤ length text.now }
-        ensures reads { self.new ≡ more_reads self.old (result + 1) }
-    {
-        let len = text.iter().take_while(|byte| **byte == b'\t').count();
+        let len = text.iter().take_while(|byte| **byte == repeated).count();
         self.add(len + 1);
         len
     }

@@ -1,6 +1,6 @@
 //! Runs of a literal's body: characters without escapes, which are copied unchanged.
 
-ghost use Rattle.std.specs.Prelude.{◌≡◌, ◌<◌, ◌≤◌, ◌+◌, ◌*◌, ◌^◌, length, take, true, false};
+ghost use Rattle.std.specs.Prelude.{◌≡◌, ◌<◌, ◌≤◌, ◌+◌, ◌*◌, ◌^◌, drop, length, take, true, false};
 ghost use Rattle.std.specs.List.{prefix_len};
 ghost use Rattle.std.specs.Str.{IsCharBoundary};
 ghost use Rattle.starlark_grammar.specs.Items as grammar;
@@ -8,10 +8,11 @@ ghost use Rattle.starlark_words.specs.Inner.LiteralViews.{literal_view};
 ghost use Rattle.starlark_words.specs.Inner.Reads.{AreReads, more_reads};
 ghost use Rattle.starlark_words.specs.Inner.PlainRuns.{is_in_run, is_special};
 
-use super::items::{Literal, ends_line, is_brace, is_quote};
-use super::run_lanes::{Ends, lanes_run_len};
-use crate::lanes::LANES;
+use super::items::{Literal, ends_line, is_brace, quote_byte};
+use crate::lanes::{LANES, lowest_bit};
 use crate::reads::ReadCounter;
+use starlark_grammar::class::LiteralKind;
+use std::simd::prelude::*;
 
 // `.` marks each byte that is in a run of every literal.
 static ORDINARY: [u8; 256] = *b"\
@@ -24,19 +25,11 @@ static ORDINARY: [u8; 256] = *b"\
     ................................\
     ................................";
 
-/// Whether a byte is in a run of every literal.
-#[inline(always)]
-fn is_ordinary(byte: u8) -> bool
-    ensures { result ≡ true → (literal : grammar.Literal) → is_special literal byte ≡ false }
-{
-    ORDINARY[byte as usize] == b'.'
-}
-
 /// Whether a byte ends a run of the literal: quote, backslash, CR, and perhaps LF or a brace.
 fn is_special(literal: Literal, byte: u8) -> bool
     ensures { result ≡ is_special (literal_view literal) byte }
 {
-    is_quote(literal.opening.quote, byte)
+    byte == quote_byte(literal.opening.quote)
         || byte == b'\\'
         || byte == b'\r'
         || ends_line(literal.opening, byte)
@@ -48,7 +41,7 @@ fn is_special(literal: Literal, byte: u8) -> bool
 fn is_in_run(literal: Literal, byte: u8) -> bool
     ensures { result ≡ is_in_run (literal_view literal) byte }
 {
-    is_ordinary(byte) || !is_special(literal, byte)
+    ORDINARY[byte as usize] == b'.' || !is_special(literal, byte)
 }
 
 /// Bytes of a run that are read one by one before its first SIMD step.
@@ -70,37 +63,55 @@ fn short_run_len(literal: Literal, bytes: &[u8]) -> usize
     len
 }
 
+/// Length of the run at the start of the 16 bytes from `at` on; 16 if it fills them. The caller has
+/// to count the reads.
+///
+/// Where an LF or a brace doesn't end a run, it is looked for as the quote: six comparisons serve all
+/// literals.
+#[inline(always)]
+fn lanes_run_len(literal: Literal, bytes: &[u8], at: usize) -> usize
+    requires { at + 16 ≤ length bytes.now }
+    ensures value { result ≡ prefix_len (is_in_run (literal_view literal)) (take 16 (drop at bytes.now)) }
+{
+    let quote = quote_byte(literal.opening.quote);
+    let feed = if literal.opening.is_triple {
+        quote
+    } else {
+        b'\n'
+    };
+    let (opening_brace, closing_brace) = match literal.kind {
+        LiteralKind::FString => (b'{', b'}'),
+        _ => (quote, quote),
+    };
+    let lanes = u8x16::from_slice(&bytes[at..]);
+    let ends = lanes.simd_eq(u8x16::splat(quote))
+        | lanes.simd_eq(u8x16::splat(feed))
+        | lanes.simd_eq(u8x16::splat(opening_brace))
+        | lanes.simd_eq(u8x16::splat(closing_brace))
+        | lanes.simd_eq(u8x16::splat(b'\\'))
+        | lanes.simd_eq(u8x16::splat(b'\r'));
+    lowest_bit(ends.to_bitmask())
+}
+
 /// Length of the run at the start of some bytes, by SIMD with a scalar tail.
 #[inline(never)]
 fn long_run_len(reads: &mut ReadCounter, literal: Literal, bytes: &[u8]) -> usize
     ensures value { result ≡ prefix_len (is_in_run (literal_view literal)) bytes.now }
     ensures within { result ≤ length bytes.now }
     ensures reads { AreReads (result + 1) (result + 16) reads.old reads.new }
+    ensures few { length bytes.now < 16 → reads.new ≡ more_reads reads.old (result + 1) }
 {
-    let ends = Ends::of(literal);
     let mut at = 0;
     while at + LANES <= bytes.len() {
-        let len = lanes_run_len(ends, bytes, at);
+        let len = lanes_run_len(literal, bytes, at);
         if len < LANES {
-            reads.count_run_and_lanes(at);
+            reads.add(at + LANES);
             return at + len;
         }
         at += LANES;
     }
     let len = at + short_run_len(literal, &bytes[at..]);
     reads.count_run(len);
-    len
-}
-
-/// Length of the run at the start of fewer than 16 bytes, which only the end of a text has.
-#[inline(never)]
-fn last_run_len(reads: &mut ReadCounter, passed: usize, literal: Literal, bytes: &[u8]) -> usize
-    requires { passed < 2 ^ 33 }
-    ensures value { result ≡ prefix_len (is_in_run (literal_view literal)) bytes.now }
-    ensures reads { reads.new ≡ more_reads reads.old (passed + (result + 1)) }
-{
-    let len = short_run_len(literal, bytes);
-    reads.count_run(passed + len);
     len
 }
 
@@ -113,14 +124,15 @@ fn run_len(reads: &mut ReadCounter, passed: usize, literal: Literal, bytes: &[u8
     ensures reads { AreReads (passed + (result + 1)) (passed + (6 * result + 1)) reads.old reads.new }
 {
     if bytes.len() < LANES {
-        return last_run_len(reads, passed, literal, bytes);
+        reads.add(passed);
+        return long_run_len(reads, literal, bytes);
     }
     let front = short_run_len(literal, &bytes[..ALONE]);
     if front < ALONE {
         reads.count_run(passed + front);
         return front;
     }
-    let len = lanes_run_len(Ends::of(literal), bytes, 0);
+    let len = lanes_run_len(literal, bytes, 0);
     reads.add(passed + ALONE + LANES);
     if len < LANES {
         return len;

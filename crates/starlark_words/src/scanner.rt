@@ -121,21 +121,13 @@ pub fn unnamed_word(reads: &mut ReadCounter, text: &str) -> Option<Word>
     if begins_number(bytes) {
         return Some(numbers::number_from(reads, bytes));
     }
-    match first {
-        b' ' => Some(Word {
-            class: Class::Skipped,
-            len: reads.spaces_len(bytes),
-        }),
-        b'\t' => Some(Word {
-            class: Class::Tabs,
-            len: reads.tabs_len(bytes),
-        }),
-        b'#' => Some(Word {
-            class: Class::Comment,
-            len: 1 + front_len(reads, 0, &bytes[1..], b'\r'),
-        }),
-        _ => marks::mark(first, second, byte_at(bytes, 2)),
-    }
+    let (class, len) = match first {
+        b' ' => (Class::Skipped, reads.repeats_len(bytes, b' ')),
+        b'\t' => (Class::Tabs, reads.repeats_len(bytes, b'\t')),
+        b'#' => (Class::Comment, 1 + front_len(reads, 0, &bytes[1..], b'\r')),
+        _ => return marks::mark(first, second, byte_at(bytes, 2)),
+    };
+    Some(Word { class, len })
 }
 
 /// The longest word at the front of a text; `None` if there is none.

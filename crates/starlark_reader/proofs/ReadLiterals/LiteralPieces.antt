@@ -12,10 +12,11 @@ use Rattle.starlark_grammar.specs.declared.class.Quote.TheVariants.{Single as Si
 use Rattle.starlark_grammar.specs.declared.class.LiteralKind.{LiteralKind as Kind}
 use Rattle.starlark_grammar.specs.declared.class.LiteralKind.TheVariants.{Text as OfText, Bytes as OfBytes, FString as OfFString}
 use Rattle.starlark_grammar.specs.Tokens.{String, Bytes, Opening, EmptyEscapeSequence, InvalidEscapeSequence, UnfinishedStringLiteral}
-use Rattle.starlark_grammar.specs.Items.{Literal, Found, Goes, Stops, Closing, Line, BadEscape, body_at, body_from, body_len, body_onward, closing_quotes, found_at, is_of_bytes, quote_byte}
+use Rattle.starlark_grammar.specs.Items.{Literal, Found, Goes, Stops, Closing, Line, BadEscape, body_at, body_from, body_len, body_onward, body_value, closing_quotes, found_at, is_of_bytes, quote_byte}
 use Rattle.starlark_grammar.specs.Depths.{Mode, InText, AtTop, Deeper}
 use Rattle.starlark_grammar.specs.Pieces as pieces
 use Rattle.starlark_grammar.specs.Pieces.{fault, literal_token, escape_fault}
+use Rattle.starlark_reader.specs.Inner.Nesting.{is_fstring_start}
 use Rattle.starlark_grammar.proofs.Choices.{by_test, either}
 use Rattle.starlark_grammar.proofs.Lists.{drop-sum}
 use Rattle.starlark_grammar.proofs.Literals.Bodies.{body_fits}
@@ -77,6 +78,15 @@ pub bad_literal : (mode : Mode) (literal : Literal) (begin len read last : ℕ) 
     → pieces.literal mode literal.kind literal.opening begin text ≡ escape_fault (begin + len) (drop 1 (take read (drop len text)))
 bad_literal mode literal begin len read last text same bad = rw (bad, same) refl
 
+-- a literal that its quotes close
+pub closing_literal : (mode : Mode) (literal : Literal) (begin len : ℕ) (text value : Text) → len ≡ body_len (body_at literal text) → value ≡ body_value (body_at literal text) → (body_at literal text).stop ≡ Closing
+    → pieces.literal mode literal.kind literal.opening begin text ≡ pieces.token (begin + len + length (closing_quotes literal.opening)) (literal_token literal.kind value)
+closing_literal mode literal begin len text value same denoted closing = rw (closing, same, denoted) refl
+
+pub literal_own : (kind : Kind) (value : Text) → is_fstring_start (literal_token kind value) ≡ false
+literal_own OfBytes value = refl
+literal_own kind value = refl
+
 -- A literal that an LF ends
 
 -- it has one line
@@ -137,20 +147,15 @@ pub triple_edge : (text : Text) (quote : Quote) → IsUtf8 text → starts_with 
 triple_edge text SingleQuote utf8 h = after_plain text (39 ∷ 39 ∷ []) (drop 2 text) utf8 (starts_split text (39 ∷ 39 ∷ []) h) refl
 triple_edge text DoubleQuote utf8 h = after_plain text (34 ∷ 34 ∷ []) (drop 2 text) utf8 (starts_split text (34 ∷ 34 ∷ []) h) refl
 
+-- a literal begins after its opener and the quotes that follow
+pub opener_literal : (mode : Mode) (kind : Kind) (opening : Opening) (len quotes : ℕ) (remainder rest : Text) → kind ≢ OfFString → quotes ≡ pieces.more_quotes opening → rest ≡ drop quotes remainder → pieces.opener mode kind opening len remainder ≡ pieces.literal mode kind opening (len + quotes) rest
+opener_literal mode OfText opening len quotes remainder rest other more e = rw (e, more) refl
+opener_literal mode OfBytes opening len quotes remainder rest other more e = rw (e, more) refl
+opener_literal mode OfFString opening len quotes remainder rest other more e = absurd (other refl)
+
 -- a literal without two more quotes begins right after its opener
 pub opener_plain : (mode : Mode) (kind : Kind) (opening : Opening) (len : ℕ) (remainder : Text) → kind ≢ OfFString → opening.is_triple ≡ false → pieces.opener mode kind opening len remainder ≡ pieces.literal mode kind opening len remainder
-opener_plain mode kind opening len remainder other single = by_kind kind other
-  where
-    none_more : pieces.more_quotes opening ≡ 0
-    none_more = rw single refl
-
-    same : len + 0 ≡ len
-    same = omega arith
-
-    right_after : (kind : Kind) → pieces.literal mode kind opening (len + pieces.more_quotes opening) (drop (pieces.more_quotes opening) remainder) ≡ pieces.literal mode kind opening len remainder
-    right_after kind = ap (λ n. pieces.literal mode kind opening (len + n) (drop n remainder)) none_more ∙ ap (λ n. pieces.literal mode kind opening n remainder) same
-
-    by_kind : (kind : Kind) → kind ≢ OfFString → pieces.opener mode kind opening len remainder ≡ pieces.literal mode kind opening len remainder
-    by_kind OfText other = right_after OfText
-    by_kind OfBytes other = right_after OfBytes
-    by_kind OfFString other = absurd (other refl)
+opener_plain mode kind opening len remainder other single =
+    let none : 0 ≡ pieces.more_quotes opening = rw single refl in
+    let same : len + 0 ≡ len = omega arith in
+    opener_literal mode kind opening len 0 remainder remainder other none refl ∙ ap (λ n. pieces.literal mode kind opening n remainder) same

@@ -23,11 +23,11 @@ moved_dedents n (suc count) at = ap (λ lexemes. record { begin = n + at; node =
 
 -- Lexemes after a margin's comments
 
-pub one_indented : (begin : ℕ) (levels : List ℕ) (margin : Measured) (seen : Margin) → IsMargin seen margin → margin.is_content ≡ true → (nat_lt 0 margin.blanks.width && is_widest margin.blanks.width levels) ≡ true
-    → record { begin = begin + margin.at; node = Indent; end = begin + margin.at + margin.blanks.len } ∷ [] ≡ map (moved begin) (margin_indentation levels seen)
+pub one_indented : (begin : ℕ) (levels : List ℕ) (margin : Measured) (seen : Margin) → IsMargin seen margin → margin.is_content ≡ true → (nat_lt 0 margin.width && is_widest margin.width levels) ≡ true
+    → record { begin = begin + margin.at; node = Indent; end = begin + margin.at + margin.blanks } ∷ [] ≡ map (moved begin) (margin_indentation levels seen)
 one_indented begin levels margin seen same h widest = search (rules, indented)
 
-pub some_dedented : (begin count : ℕ) (levels : List ℕ) (margin : Measured) (seen : Margin) → IsMargin seen margin → margin.is_content ≡ true → (nat_lt 0 margin.blanks.width && is_widest margin.blanks.width levels) ≡ false → count ≡ count_by (nat_lt margin.blanks.width) levels
+pub some_dedented : (begin count : ℕ) (levels : List ℕ) (margin : Measured) (seen : Margin) → IsMargin seen margin → margin.is_content ≡ true → (nat_lt 0 margin.width && is_widest margin.width levels) ≡ false → count ≡ count_by (nat_lt margin.width) levels
     → replicate count (record { begin = begin + margin.at; node = Dedent; end = begin + margin.at }) ≡ map (moved begin) (margin_indentation levels seen)
 some_dedented begin count levels margin seen same h other counted =
     rw (sym same.is_content ∙ h, dedented levels seen (rw same.blanks.width at other), moved_dedents, same.at, counted ∙ ap (λ w. count_by (nat_lt w) levels) same.blanks.width) refl

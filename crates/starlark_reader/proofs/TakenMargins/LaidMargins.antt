@@ -24,20 +24,20 @@ module _ (len : ℕ) (before : List Lexeme) (levels : List ℕ) (seen : Margin) 
   unfolding margin_step
   decided_blank h = let none = sym same.is_content ∙ h in rw none refl
 
-  pub decided_tab : margin.is_content ≡ true → margin.blanks.has_tab ≡ true → margin_step len before levels seen ≡ fault 0 InvalidTab 0
+  pub decided_tab : margin.is_content ≡ true → margin.has_tab ≡ true → margin_step len before levels seen ≡ fault 0 InvalidTab 0
   unfolding margin_step
   decided_tab h k = let some = sym same.is_content ∙ h in let tab = sym same.blanks.has_tab ∙ k in rw (some, tab) refl
 
-  pub decided_fits : margin.is_content ≡ true → margin.blanks.has_tab ≡ false → fits margin.blanks.width levels ≡ true → margin_step len before levels seen ≡ Stands (margin_piece len before levels seen)
+  pub decided_fits : margin.is_content ≡ true → margin.has_tab ≡ false → fits margin.width levels ≡ true → margin_step len before levels seen ≡ Stands (margin_piece len before levels seen)
   unfolding margin_step
   decided_fits h k l = let some = sym same.is_content ∙ h in let tab = sym same.blanks.has_tab ∙ k in let fitting = sym (ap (λ w. fits w levels) same.blanks.width) ∙ l in rw (some, tab, fitting) refl
 
-  pub decided_misfit : margin.is_content ≡ true → margin.blanks.has_tab ≡ false → fits margin.blanks.width levels ≡ false → margin_step len before levels seen ≡ fault 0 Indentation (len + margin.at + margin.blanks.len)
+  pub decided_misfit : margin.is_content ≡ true → margin.has_tab ≡ false → fits margin.width levels ≡ false → margin_step len before levels seen ≡ fault 0 Indentation (len + margin.at + margin.blanks)
   unfolding margin_step
   decided_misfit h k l = search rules
 
 -- a tab before content
-pub left_tab : (levels : List ℕ) (seen : Margin) (margin : Measured) → IsMargin seen margin → margin.is_content ≡ true → margin.blanks.has_tab ≡ true → (remainder : AfterComments) → IsLeftOut seen levels levels remainder remainder
+pub left_tab : (levels : List ℕ) (seen : Margin) (margin : Measured) → IsMargin seen margin → margin.is_content ≡ true → margin.has_tab ≡ true → (remainder : AfterComments) → IsLeftOut seen levels levels remainder remainder
 left_tab levels seen margin same some is_tab remainder =
     record {
       stands = λ len before. decided_tab len before levels seen margin same some is_tab ∙ rw (sym same.blanks.has_tab ∙ is_tab) refl;
@@ -98,7 +98,7 @@ unfolding open_widths
 none_open levels e = e
 
 module _ (text : Text) (levels now : List ℕ) (margin : Measured) (pending : Pending) (utf8 : IsUtf8 text) (same : IsMargin (margin_of text) margin) (of : IsOfMargin 0 margin.at levels pending) where
-  pub first_taken : levels ≡ [] → IsLaidOut 0 (margin_of text) [] levels now pending.remainder → IsTaken text 0 (first_margin text) [] [] now pending (margin.at + margin.blanks.len)
+  pub first_taken : levels ≡ [] → IsLaidOut 0 (margin_of text) [] levels now pending.remainder → IsTaken text 0 (first_margin text) [] [] now pending (margin.at + margin.blanks)
   first_taken none laid =
       let both = waits text 0 pending margin utf8 (IsCharBoundary-start text utf8) same levels of levels laid.those_after in
       record {
@@ -129,7 +129,7 @@ newline len = record { begin = 0; node = Newline; end = len }
 
 module _ (text : Text) (at len : ℕ) (levels now widths : List ℕ) (margin : Measured) (pending : Pending) (open_now : levels ≡ open_widths widths) (same : IsMargin (margin_of (drop (at + len) text)) margin) where
   pub end_taken : IsUtf8 text → IsCharBoundary text (at + len) → IsOfMargin (at + len) margin.at levels pending → IsLaidOut (at + len) (margin_of (drop (at + len) text)) widths levels now pending.remainder
-      → IsTaken text at (line_end len (open_widths widths) (drop (at + len) text)) (record { begin = at; node = Newline; end = at + len } ∷ []) widths now pending (len + margin.at + margin.blanks.len)
+      → IsTaken text at (line_end len (open_widths widths) (drop (at + len) text)) (record { begin = at; node = Newline; end = at + len } ∷ []) widths now pending (len + margin.at + margin.blanks)
   end_taken utf8 here of laid =
       let start : at + 0 ≡ at = omega arith in
       let both = waits text (at + len) pending margin utf8 here same levels of levels laid.those_after in

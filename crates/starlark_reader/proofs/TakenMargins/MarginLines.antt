@@ -1,8 +1,9 @@
 -- Margins, line by line.
 use Rattle.std.proofs.Common.{◌≡◌, ℕ, zero, suc, ◌+◌, ◌-◌, ◌≤◌, ◌<◌, Bool, true, false, cond, not, List, [], ◌∷◌, ◌++◌, length, take, drop, refl, ap, ◌∙◌, sym, subst, arith, one-add, zero-add, get_or, rules}
-use Rattle.std.specs.Prelude.{if◌then◌else◌, take_while}
+use Rattle.std.specs.Prelude.{◌==◌, ◌&&◌, if◌then◌else◌, min, nat_lt, take_while}
+use Rattle.starlark_words.specs.Inner.LineFronts.{is_in_front}
 use Rattle.std.specs.List.{prefix_len, onto_first, AllByRecursion}
-use Rattle.std.proofs.lemmas.Bool.{false≢true}
+use Rattle.std.proofs.lemmas.Bool.{false≢true, ltb-false, ltb-true}
 use Rattle.std.proofs.lemmas.Bool.Decides.{nat_tests}
 use Rattle.std.proofs.lemmas.List.{drop_all, length-drop, length-take-le, take_all}
 use Rattle.std.proofs.lemmas.List.Folds.{length-prefix_len}
@@ -10,11 +11,11 @@ use Rattle.std.proofs.lemmas.List.Sums.{sum_by-cons, prefix_len-le-length, prefi
 use Rattle.starlark_grammar.specs.Words.{Text}
 use Rattle.starlark_grammar.specs.Margins.{is_blank, is_lf, blanks_len, lines, begins_comment, is_comment_only, comment_lines, is_content, margin_of}
 use Rattle.starlark_reader.specs.Inner.MarginViews.{IsBlanks, IsMargin}
-use Rattle.starlark_reader.specs.declared.margins.Blanks.{Blanks}
+use Rattle.starlark_reader.specs.declared.margins.Margin.{Margin}
 use Rattle.starlark_grammar.proofs.Lists.{drop-sum}
 use Rattle.starlark_grammar.proofs.Order.OrderedLexemes.{Split, first_line, lines_sum}
 use Rattle.starlark_reader.specs.Inner.Pending.{IsComments}
-use Rattle.starlark_reader.proofs.TakenMargins.Blanks.{at_front}
+use Rattle.starlark_reader.proofs.TakenMargins.Blanks.{at_front, blanks_margin}
 
 abbrev pub is_other : ℕ → Bool
 is_other b = not (is_lf b)
@@ -148,6 +149,28 @@ unfolding lines
 line_whole [] len e some h = absurd (omega (arith, some))
 line_whole (b ∷ bs) len e some h = rw (take_all len (b ∷ bs) h, drop_all len (b ∷ bs) h) (line_to_end b bs (omega (arith, h, e)))
 
+-- the length of the first line, by that of the line without its LF
+pub line_cut : (text : Text) (feed n : ℕ) → feed ≡ prefix_len is_other text → n ≡ min (feed + 1) (length text) → (0 < length text → lines text ≡ take n text ∷ lines (drop n text)) × (n ≤ length text)
+line_cut text feed n e cut = (go (nat_lt feed (length text)) refl, omega (arith, cut))
+  where
+    go : (less : Bool) → nat_lt feed (length text) ≡ less → 0 < length text → lines text ≡ take n text ∷ lines (drop n text)
+    go true h some =
+        let shorter : feed < length text = ltb-true feed (length text) h in
+        let is : n ≡ suc (prefix_len is_other text) = omega (arith, cut, shorter, e) in
+        rw is (line_to_feed text (omega (arith, e, shorter)))
+    go false h some =
+        let longer : length text ≤ feed = ltb-false feed (length text) h in
+        let is : n ≡ feed = omega (arith, cut, longer, e, prefix_len-le-length is_other text) in
+        line_whole text n (is ∙ e) some (omega (arith, is, longer))
+
+-- the bytes before the first LF
+pub feed_value : (text : Text) → prefix_len (is_in_front 10) text ≡ prefix_len is_other text
+feed_value text i = prefix_len (λ b. same (b == 10) i) text
+  where
+    same : (x : Bool) → (not x && not x) ≡ not x
+    same true = refl
+    same false = refl
+
 -- One pass over a margin
 
 -- the first `at` bytes of a text are comment-only lines
@@ -158,16 +181,18 @@ pub record ArePassed (text : Text) (at : ℕ) : Type 0 where
 pub none_passed : (text : Text) → ArePassed text 0
 none_passed text = record { inside = omega arith; total = zero-add _ }
 
-pub one_passed : (text line remainder : Text) (at n : ℕ) (blanks : Blanks) → ArePassed text at → line ≡ drop at text → IsBlanks (take (blanks_len line) line) blanks → remainder ≡ drop blanks.len line → begins_comment remainder ≡ true
-    → (0 < length remainder → lines remainder ≡ take n remainder ∷ lines (drop n remainder)) → n ≤ length remainder → (at < at + (blanks.len + n)) × ArePassed text (at + (blanks.len + n))
-one_passed text line remainder at n blanks passed e same f h split inside =
-    let len : blanks.len ≡ blanks_len line = same.len ∙ length-prefix_len is_blank line in
+pub one_passed : (text line remainder : Text) (at feed n : ℕ) (found : Margin) → ArePassed text at → line ≡ drop at text → IsBlanks (take (blanks_len line) line) found → remainder ≡ drop found.blanks line → begins_comment remainder ≡ true
+    → feed ≡ prefix_len (is_in_front 10) remainder → n ≡ min (feed + 1) (length remainder) → (at < at + (found.blanks + n)) × ArePassed text (at + (found.blanks + n))
+one_passed text line remainder at feed n found passed e same f h is cut =
+    let split = (line_cut remainder feed n (is ∙ feed_value remainder) cut).0 in
+    let inside = (line_cut remainder feed n (is ∙ feed_value remainder) cut).1 in
+    let len : found.blanks ≡ blanks_len line = same.len ∙ length-prefix_len is_blank line in
     let there : remainder ≡ drop (blanks_len line) line = f ∙ ap (λ i. drop i line) len in
     let first = first_comment line n (subst (λ (t : Text). begins_comment t ≡ true) there h) (subst (λ (t : Text). 0 < length t → lines t ≡ take n t ∷ lines (drop n t)) there split) (subst (λ (t : Text). n ≤ length t) there inside) in
     let sum : lines_sum (comment_lines line) ≡ length (take (blanks_len line + n) line) + lines_sum (comment_lines (drop (blanks_len line + n) line)) =
     ap lines_sum first.0 ∙ sum_by-cons (λ (line : Text). length line) (take (blanks_len line + n) line) (comment_lines (drop (blanks_len line + n) line)) in
-    let rest : drop (at + (blanks.len + n)) text ≡ drop (blanks_len line + n) line = drop-sum at (blanks.len + n) text ∙ ap (λ (t : Text). drop (blanks.len + n) t) (sym e) ∙ ap (λ i. drop (i + n) line) len in
-    let after_sum : lines_sum (comment_lines (drop (at + (blanks.len + n)) text)) ≡ lines_sum (comment_lines (drop (blanks_len line + n) line)) = ap (λ (t : Text). lines_sum (comment_lines t)) rest in (
+    let rest : drop (at + (found.blanks + n)) text ≡ drop (blanks_len line + n) line = drop-sum at (found.blanks + n) text ∙ ap (λ (t : Text). drop (found.blanks + n) t) (sym e) ∙ ap (λ i. drop (i + n) line) len in
+    let after_sum : lines_sum (comment_lines (drop (at + (found.blanks + n)) text)) ≡ lines_sum (comment_lines (drop (blanks_len line + n) line)) = ap (λ (t : Text). lines_sum (comment_lines t)) rest in (
       omega (arith, first.1, len),
       record {
         inside = omega (arith, first.2, len, ap (λ (t : Text). length t) e ∙ length-drop at text, passed.inside);
@@ -176,24 +201,26 @@ one_passed text line remainder at n blanks passed e same f h split inside =
     )
 
 -- a comment-only line that has no blanks in front
-pub front_passed : (text line : Text) (at n : ℕ) → ArePassed text at → line ≡ drop at text → begins_comment line ≡ true
-    → (0 < length line → lines line ≡ take n line ∷ lines (drop n line)) → n ≤ length line → (at < at + n) × ArePassed text (at + n)
-front_passed text line at n passed e h split inside = rw zero-add at (one_passed text line line at n none passed e (no_blanks line h) refl h split inside)
+pub front_passed : (text line : Text) (at feed n : ℕ) → ArePassed text at → line ≡ drop at text → begins_comment line ≡ true
+    → feed ≡ prefix_len (is_in_front 10) line → n ≡ min (feed + 1) (length line) → (at < at + n) × ArePassed text (at + n)
+front_passed text line at feed n passed e h is cut = rw zero-add at (one_passed text line line at feed n none passed e (no_blanks line h) refl h is cut)
   where
-    none : Blanks
-    none = record { len = 0; width = 0; has_tab = false }
+    none : Margin
+    none = blanks_margin 0 0 false
 
     no_blank : (b : ℕ) → begins_comment (b ∷ []) ≡ true → is_blank b ≡ false
     no_blank b k = grind (arith, nat_tests)
 
-    no_blanks : (line : Text) → begins_comment line ≡ true → IsBlanks (take (blanks_len line) line) (record { len = 0; width = 0; has_tab = false })
+    no_blanks : (line : Text) → begins_comment line ≡ true → IsBlanks (take (blanks_len line) line) (blanks_margin 0 0 false)
     no_blanks [] k = absurd (false≢true k)
     no_blanks (b ∷ bs) k = let other : is_blank b ≡ false = no_blank b k in rw other (record { len = refl; width = refl; has_tab = refl })
 
-pub last_passed : (text line remainder : Text) (at : ℕ) (found : Blanks) (content : Bool) → ArePassed text at → line ≡ drop at text → IsBlanks (take (blanks_len line) line) found → remainder ≡ drop found.len line → begins_comment remainder ≡ false → content ≡ is_content remainder
-    → IsMargin (margin_of text) (record { at = at; blanks = found; is_content = content })
+pub last_passed : (text line remainder : Text) (at : ℕ) (found : Margin) (content : Bool) → ArePassed text at → line ≡ drop at text → IsBlanks (take (blanks_len line) line) found → remainder ≡ drop found.blanks line → begins_comment remainder ≡ false → content ≡ is_content remainder
+    → IsMargin (margin_of text) (record found { at = at; is_content = content })
 unfolding margin_of
-last_passed text line remainder at found content passed e same f h is = search (rules, length-prefix_len, no_comment, lines_sum)
+last_passed text line remainder at found content passed e same f h is =
+    let blanks : IsBlanks (take (blanks_len line) line) (record found { at = at; is_content = content }) = record { len = same.len; width = same.width; has_tab = same.has_tab } in
+    search (rules, blanks, length-prefix_len, no_comment, lines_sum)
 
 -- a comment has a byte before its line's LF
 pub comment_some : (text : Text) → begins_comment text ≡ true → 0 < prefix_len is_other text

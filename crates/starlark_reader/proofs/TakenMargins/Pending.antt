@@ -4,7 +4,7 @@ use Rattle.std.specs.Prelude.{◌==◌, if◌then◌else◌, take_while}
 use Rattle.std.specs.List.{prefix_len, onto_first, AllByRecursion}
 use Rattle.std.specs.Str.{IsUtf8, IsCharBoundary}
 use Rattle.std.proofs.lemmas.Bool.{eqb-true}
-use Rattle.std.proofs.lemmas.List.{drop-take, get_or-drop, get_or-take, length-take-le, take-take, length-drop}
+use Rattle.std.proofs.lemmas.List.{get_or-take, drop-take, get_or-drop, get_or-take, length-take-le, take-take, length-drop}
 use Rattle.std.proofs.lemmas.List.Sums.{prefix_len-le-length, sum_by-cons}
 use Rattle.std.proofs.lemmas.Str.{IsCharBoundary-after_ascii, IsUtf8-drop}
 use Rattle.starlark_grammar.specs.Words.{Text}
@@ -39,10 +39,12 @@ returned (b ∷ c ∷ t) =
     go true = refl
     go false = refl
 
-pub part_end : (line front : Text) (len : ℕ) (test : Bool) → len ≡ prefix_len is_other line → front ≡ take len line → (get_or front (length front - 1) 0 == 13) ≡ test → cond test (len - 1) len ≡ length (comment_part line)
-part_end line front len test e f h =
-    let whole : length front ≡ len = ap (λ (t : Text). length t) f ∙ length-take-le len line (omega (arith, e, prefix_len-le-length is_other line)) in
-    sym (ap (λ (t : Text). length (without_return t)) (sym (f ∙ ap (λ n. take n line) e)) ∙ returned front ∙ ap (λ b. cond b (length front - 1) (length front)) h ∙ ap (λ n. cond test (n - 1) n) whole)
+pub part_end : (line : Text) (len : ℕ) (test : Bool) → len ≡ prefix_len is_other line → 0 < len → (get_or line (len - 1) 0 == 13) ≡ test → cond test (len - 1) len ≡ length (comment_part line)
+part_end line len test e some h =
+    let front = take len line in
+    let whole : length front ≡ len = length-take-le len line (omega (arith, e, prefix_len-le-length is_other line)) in
+    let last : (get_or front (length front - 1) 0 == 13) ≡ test = ap (λ n. get_or front (n - 1) 0 == 13) whole ∙ ap (λ b. b == 13) (get_or-take len line (len - 1) 0 (omega (arith, some))) ∙ h in
+    sym (ap (λ (t : Text). length (without_return t)) (sym (ap (λ n. take n line) e)) ∙ returned front ∙ ap (λ b. cond b (length front - 1) (length front)) last ∙ ap (λ n. cond test (n - 1) n) whole)
 
 -- The value of a comment
 

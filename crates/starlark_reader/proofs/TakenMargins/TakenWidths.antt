@@ -136,11 +136,11 @@ greatest_leaves widths = leaves_all (open_widths widths) (rises (open_widths wid
 
 -- a margin that keeps the open widths is taken, and has no lexeme after its comments
 module _ (levels widths : List ℕ) (margin : Measured) (seen : Margin) (same : IsMargin seen margin) (open_now : levels ≡ open_widths widths) (keeps : keeps_widths margin levels ≡ true) where
-  leaves : margin.is_content ≡ true → (margin.blanks.has_tab ≡ false) × LeavesWidths levels margin.blanks.width
+  leaves : margin.is_content ≡ true → (margin.has_tab ≡ false) × LeavesWidths levels margin.width
   leaves some =
-      let two = and_parts (not margin.blanks.has_tab) (margin.blanks.width == greatest_of levels) (rw some at keeps) in
-      let is_width : margin.blanks.width ≡ greatest_of levels = eqb-true margin.blanks.width (greatest_of levels) two.1 in
-      (not-true margin.blanks.has_tab two.0, subst (LeavesWidths levels) (sym is_width) (subst (λ ls. LeavesWidths ls (greatest_of ls)) (sym open_now) (greatest_leaves widths)))
+      let two = and_parts (not margin.has_tab) (margin.width == greatest_of levels) (rw some at keeps) in
+      let is_width : margin.width ≡ greatest_of levels = eqb-true margin.width (greatest_of levels) two.1 in
+      (not-true margin.has_tab two.0, subst (LeavesWidths levels) (sym is_width) (subst (λ ls. LeavesWidths ls (greatest_of ls)) (sym open_now) (greatest_leaves widths)))
 
   pub is_kept : (begin : ℕ) (remainder : AfterComments) → lexemes_after remainder ≡ [] → IsLaidOut begin seen widths levels levels remainder
   is_kept begin remainder idle = go margin.is_content refl
@@ -307,8 +307,8 @@ misfits widths width count left few other =
 
 -- Margins before content, without a tab
 
-module _ (begin : ℕ) (widths levels : List ℕ) (margin : Measured) (seen : Margin) (open_now : levels ≡ open_widths widths) (same : IsMargin seen margin) (some : margin.is_content ≡ true) (untabbed : margin.blanks.has_tab ≡ false) where
-  laid_out : (new : List ℕ) (remainder : AfterComments) → fits margin.blanks.width levels ≡ true → lexemes_after remainder ≡ map (moved begin) (margin_indentation levels seen) → filter (λ w. nat_lt w margin.blanks.width) levels ++ newest margin.blanks.width ≡ new → IsLaidOut begin seen widths levels new remainder
+module _ (begin : ℕ) (widths levels : List ℕ) (margin : Measured) (seen : Margin) (open_now : levels ≡ open_widths widths) (same : IsMargin seen margin) (some : margin.is_content ≡ true) (untabbed : margin.has_tab ≡ false) where
+  laid_out : (new : List ℕ) (remainder : AfterComments) → fits margin.width levels ≡ true → lexemes_after remainder ≡ map (moved begin) (margin_indentation levels seen) → filter (λ w. nat_lt w margin.width) levels ++ newest margin.width ≡ new → IsLaidOut begin seen widths levels new remainder
   laid_out new remainder fitting gives pushed =
       let pushed_seen : filter (λ w. nat_lt w (width_of seen)) levels ++ newest (width_of seen) ≡ new = rw same.blanks.width at pushed in
       record {
@@ -317,16 +317,16 @@ module _ (begin : ℕ) (widths levels : List ℕ) (margin : Measured) (seen : Ma
         open_now = sym pushed_seen ∙ ap (λ ls. filter (λ w. nat_lt w (width_of seen)) ls ++ newest (width_of seen)) open_now ∙ sym (open-push widths (width_of seen)) ∙ rw (sym same.is_content ∙ some) refl;
       }
 
-  pub is_opened : greatest_of levels < margin.blanks.width → IsLaidOut begin seen widths levels (levels ++ margin.blanks.width ∷ []) (remainder.Indent (begin + margin.at) (begin + margin.at + margin.blanks.len))
+  pub is_opened : greatest_of levels < margin.width → IsLaidOut begin seen widths levels (levels ++ margin.width ∷ []) (remainder.Indent (begin + margin.at) (begin + margin.at + margin.blanks))
   is_opened h =
-      let opens = subst (λ ls. OpensWidth ls margin.blanks.width) (sym open_now) (opens_width widths margin.blanks.width (subst (λ ls. greatest_of ls < margin.blanks.width) open_now h)) in
+      let opens = subst (λ ls. OpensWidth ls margin.width) (sym open_now) (opens_width widths margin.width (subst (λ ls. greatest_of ls < margin.width) open_now h)) in
       laid_out _ _ opens.fitting (one_indented begin levels margin seen same some opens.is_indent) opens.pushed
 
-  pub is_closed : (count : ℕ) → IsLeftBy levels margin.blanks.width count → greatest_of (take count levels) ≡ margin.blanks.width → IsLaidOut begin seen widths levels (take count levels) (remainder.Dedents (begin + margin.at) (length levels - count))
+  pub is_closed : (count : ℕ) → IsLeftBy levels margin.width count → greatest_of (take count levels) ≡ margin.width → IsLaidOut begin seen widths levels (take count levels) (remainder.Dedents (begin + margin.at) (length levels - count))
   is_closed count left is =
-      let closes = subst (λ ls. ClosesWidths ls margin.blanks.width count) (sym open_now)
-      (closes_widths widths margin.blanks.width count (subst (λ ls. IsLeftBy ls margin.blanks.width count) open_now left) (subst (λ ls. greatest_of (take count ls) ≡ margin.blanks.width) open_now is)) in
+      let closes = subst (λ ls. ClosesWidths ls margin.width count) (sym open_now)
+      (closes_widths widths margin.width count (subst (λ ls. IsLeftBy ls margin.width count) open_now left) (subst (λ ls. greatest_of (take count ls) ≡ margin.width) open_now is)) in
       laid_out _ _ closes.fitting (some_dedented begin (length levels - count) levels margin seen same some closes.is_no_indent closes.dedents) closes.pushed
 
-  pub is_misfit : (count : ℕ) (remainder : AfterComments) → IsLeftBy levels margin.blanks.width count → margin.blanks.width ≤ greatest_of levels → (greatest_of (take count levels) ≡ margin.blanks.width → ⊥) → IsLeftOut seen levels levels remainder remainder
+  pub is_misfit : (count : ℕ) (remainder : AfterComments) → IsLeftBy levels margin.width count → margin.width ≤ greatest_of levels → (greatest_of (take count levels) ≡ margin.width → ⊥) → IsLeftOut seen levels levels remainder remainder
   is_misfit count remainder left few other = search (rules, misfits, decided_misfit)

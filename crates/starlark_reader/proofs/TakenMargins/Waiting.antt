@@ -6,17 +6,16 @@ use Rattle.starlark_grammar.specs.Tokens.{Lexeme, Spanned}
 use Rattle.starlark_token.specs.TokenViews.{TokenView}
 use Rattle.starlark_token.specs.Lexemes.{lexeme_view, shown_lexeme}
 use Rattle.starlark_reader.specs.Inner.Pending.{IsFirst, IsFirstAfter, IsFirstComment, IsFirstPast, IsIdle, IsPending, comment_lexeme, lexemes_after, pending_lexemes}
-use Rattle.starlark_reader.specs.declared.comments.CommentLine.{CommentLine}
 use Rattle.starlark_reader.specs.declared.pending.AfterComments.{AfterComments}
 use Rattle.starlark_reader.specs.declared.pending.Pending.{Pending}
 use Rattle.starlark_token.specs.declared.tokens.Token.{Token}
 use Rattle.starlark_reader.proofs.TakenMargins.Pending.{no_comments, no_lines_between}
 
 -- the first comment
-pub comment_first : (text : Text) (old : Pending) (found : CommentLine) → IsFirstComment text old.from old.to found
-    → IsFirstPast text (comment_lexeme text found.begin found.end) old (record { from = old.from + found.len; to = old.to; remainder = old.remainder; is_flat = old.is_flat })
+pub comment_first : (text : Text) (old : Pending) (begin end len : ℕ) → IsFirstComment text old.from old.to begin end len
+    → IsFirstPast text (comment_lexeme text begin end) old (record { from = old.from + len; to = old.to; remainder = old.remainder; is_flat = old.is_flat })
 unfolding pending_lexemes
-comment_first text old found is = search rules
+comment_first text old begin end len is = search rules
 
 -- if no comments are pending, the first lexeme is the one after them
 pub after_first : (text : Text) (old : Pending) (new : AfterComments) (flat : Bool) (found : Option (ℕ × Token × ℕ)) → IsPending text old → old.to ≤ old.from → IsFirstAfter old.remainder new found → (found ≡ None → flat ≡ old.is_flat)

@@ -118,15 +118,15 @@ some_blank (b ∷ bs) tab = omega arith
 
 -- lexing begins again after a margin that is a fault; the search for that is within the bound
 record MarginSearch (text : Text) (begin len : ℕ) (margin : Margin) (fault : Spanned Fault) : Type 0 where
-  pub after : begin + len + (margin.at + margin.blanks.len) ≤ restart text fault
-  pub reads : 5 * margin.at + margin.blanks.len + 2 + search_reads text fault + 5 * len ≤ 10 * (restart text fault - begin) + 5
+  pub after : begin + len + (margin.at + margin.blanks) ≤ restart text fault
+  pub reads : 5 * margin.at + margin.blanks + 2 + search_reads text fault + 5 * len ≤ 10 * (restart text fault - begin) + 5
   pub keeps_none : may_keep fault.node ≡ true → is_margin_tab text fault ≡ true
 
 never_kept : may_keep Indentation ≡ true → ⊥
 unfolding may_keep
 never_kept keeps = cc
 
-margin_search : (text : Text) (begin len end : ℕ) (margin : Margin) (fault : LexemeError) → IsMarginAt text begin len → begin + len + (margin.at + margin.blanks.len) ≤ length text
+margin_search : (text : Text) (begin len end : ℕ) (margin : Margin) (fault : LexemeError) → IsMarginAt text begin len → begin + len + (margin.at + margin.blanks) ≤ length text
     → IsMargin (margin_of (drop (begin + len) text)) margin → IsFaultFound (margin_fault len (margin_of (drop (begin + len) text))) (fault, end)
     → AtFault begin fault (begin + end) (MarginSearch text begin len margin)
 margin_search text begin len end margin fault there inside is found = λ node view.
@@ -135,7 +135,7 @@ margin_search text begin len end margin fault there inside is found = λ node vi
     seen : grammar.Margin
     seen = margin_of (drop (begin + len) text)
 
-    whole : margin.at + margin.blanks.len ≡ margin_len seen
+    whole : margin.at + margin.blanks ≡ margin_len seen
     whole = omega (arith, is.at, is.blanks.len)
 
     by : (node : Fault) → node ≡ found.0 → (tab : Bool) → has_tab seen ≡ tab → (if tab then pieces.fault 0 InvalidTab 0 else pieces.fault 0 Indentation (len + margin_len seen)) ≡ pieces.fault 0 found.0 end
@@ -145,19 +145,19 @@ margin_search text begin len end margin fault there inside is found = λ node vi
         let tab : node ≡ InvalidTab = same ∙ sym (ap fails_with fails) in
         let line = next_line_later text (begin + len + seen.at) (margin_line text (begin + line_end_len (drop begin text))) (last_there text begin len there) in
         let in_margin = tab_there text begin len (begin + end) node there tab in
-        let least : begin + len + (margin.at + margin.blanks.len) ≤ restart text spanned = omega (arith, whole, last_line text (begin + len) (omega (arith, whole, inside)), line, restart_margin text spanned in_margin) in
+        let least : begin + len + (margin.at + margin.blanks) ≤ restart text spanned = omega (arith, whole, last_line text (begin + len) (omega (arith, whole, inside)), line, restart_margin text spanned in_margin) in
         record { after = least; reads = omega (arith, least, some_blank seen.blanks e, is.blanks.len, tab_search text spanned (ap is_tab tab)); keeps_none = λ keeps. in_margin }
     by node same false e fails =
         let spanned : Spanned Fault = record { begin = begin; node = node; end = begin + end } in
         let other : node ≡ Indentation = same ∙ sym (ap fails_with fails) in
         let last : end ≡ len + margin_len seen = sym (ap fails_to fails) in
-        let least : begin + len + (margin.at + margin.blanks.len) ≤ restart text spanned = omega (arith, last, whole, restart_end text spanned (omega (arith, last, whole, inside))) in
+        let least : begin + len + (margin.at + margin.blanks) ≤ restart text spanned = omega (arith, last, whole, restart_end text spanned (omega (arith, last, whole, inside))) in
         record { after = least; reads = omega (arith, least, last, whole, stopped_end text spanned, other_search text spanned (ap is_tab other)); keeps_none = λ keeps. absurd (never_kept (sym (ap may_keep other) ∙ keeps)) }
 
 -- the reads at the fault of a margin after a newline
-pub refused_reads : (text : Text) (len end : ℕ) (margin : Margin) (fault : LexemeError) (old new : Reader) → IsLineEnd len (drop old.at text) → old.at + len + (margin.at + margin.blanks.len) ≤ length text
+pub refused_reads : (text : Text) (len end : ℕ) (margin : Margin) (fault : LexemeError) (old new : Reader) → IsLineEnd len (drop old.at text) → old.at + len + (margin.at + margin.blanks) ≤ length text
     → IsMargin (margin_of (drop (old.at + len) text)) margin → IsFaultFound (margin_fault len (margin_of (drop (old.at + len) text))) (fault, end) → new.stage ≡ stages.Fault (old.at + 0) fault (old.at + end)
-    → AreReads 0 (5 * margin.at + margin.blanks.len + 2) old.reads new.reads → owed new.pending ≡ 0 → IsMarginRead text len old new new.stage
+    → AreReads 0 (5 * margin.at + margin.blanks + 2) old.reads new.reads → owed new.pending ≡ 0 → IsMarginRead text len old new new.stage
 refused_reads text len end margin fault old new there inside is found stops read none =
     let here : old.at + 0 ≡ old.at = omega arith in
     subst (IsMarginRead text len old new) (sym (stops ∙ ap (λ at. stages.Fault at fault (old.at + end)) here)) (
@@ -169,9 +169,9 @@ refused_reads text len end margin fault old new there inside is found stops read
     )
 
 -- the reads at the fault of a text's first margin
-pub first_refused_reads : (text : Text) (end : ℕ) (margin : Margin) (fault : LexemeError) (old new : Reader) → margin.at + margin.blanks.len ≤ length text
+pub first_refused_reads : (text : Text) (end : ℕ) (margin : Margin) (fault : LexemeError) (old new : Reader) → margin.at + margin.blanks ≤ length text
     → IsMargin (margin_of text) margin → IsFaultFound (margin_fault 0 (margin_of text)) (fault, end) → new.stage ≡ stages.Fault (old.at + 0) fault (old.at + end)
-    → new.reads ≤ old.reads + (5 * margin.at + margin.blanks.len + 2) → owed new.pending ≤ margin.at → HasReadAt text old stages.Begin → HasRead text new
+    → new.reads ≤ old.reads + (5 * margin.at + margin.blanks + 2) → owed new.pending ≤ margin.at → HasReadAt text old stages.Begin → HasRead text new
 first_refused_reads text end margin fault old new inside is found stops read owes has =
     let begin : old.at + 0 ≡ 0 = omega (arith, has.0) in
     let last : old.at + end ≡ 0 + end = omega (arith, has.0) in

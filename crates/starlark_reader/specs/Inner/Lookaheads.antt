@@ -1,5 +1,5 @@
 -- What lookahead has found, and the reads that it took.
-use Rattle.std.specs.Prelude.{◌≡◌, ◌≢◌, ◌+◌, ◌-◌, ◌*◌, Bool, false, true, ℕ, List, None, drop, take, if◌then◌else◌, ⊤}
+use Rattle.std.specs.Prelude.{◌≡◌, ◌≢◌, ◌+◌, ◌-◌, ◌*◌, Bool, false, true, ℕ, List, None, drop, if◌then◌else◌}
 use Rattle.starlark_grammar.specs.Depths.{InText, mode_after}
 use Rattle.starlark_grammar.specs.Front.{language_front}
 use Rattle.starlark_grammar.specs.Tokens.{Token}
@@ -16,12 +16,10 @@ use Rattle.starlark_words.specs.Inner.Reads.{AreReads}
 use Rattle.starlark_words.specs.declared.scanner.word.Word.{Word}
 use Rattle.starlark_reader.specs.Inner.Nesting.{Represents}
 use Rattle.starlark_reader.specs.Inner.Pending.{IsIdle}
-use Rattle.starlark_reader.specs.Inner.Reader.{IsAtCode, IsAtEnd, IsWordHere}
+use Rattle.starlark_reader.specs.Inner.Reader.{IsAtCode, IsWordHere}
 use Rattle.starlark_reader.specs.Inner.ReadBounds.{HasRead, HasReadAt}
-use Rattle.starlark_reader.specs.Inner.StepViews.{IsFaultWord}
 use Rattle.starlark_reader.specs.declared.lookahead.Found.{Found}
 use Rattle.starlark_reader.specs.declared.lookahead.Found.TheVariants as found
-use Rattle.starlark_reader.specs.declared.lookahead.Lookahead.{Lookahead}
 use Rattle.starlark_reader.specs.declared.reader.Reader.{Reader}
 use Rattle.starlark_reader.specs.declared.reader.Stage.TheVariants as stage
 
@@ -69,16 +67,6 @@ IsFound text reader word run found.Literal = IsWordHere text reader word × IsOp
 IsFound text reader word run found.Text = IsTextRun text run reader × HasPeeked text run (8 * run + 4) reader
 IsFound text reader word run found.All = HasRead text reader
 
-abbrev pub IsFoundAt : Text → Reader → Lookahead → Type 0
-IsFoundAt text reader lookahead = IsFound text reader lookahead.word lookahead.run lookahead.found
-
 abbrev pub is_nothing : Found → Bool
 is_nothing found.Nothing = true
 is_nothing it = false
-
--- The reader looked at what comes next, if something does; a word there is a fault.
-abbrev pub IsLooked : Text → Reader → Word → Found → Type 0
-IsLooked text reader word found.Nothing = ⊥
-IsLooked text reader word found.Word = IsFaultWord word.class (take word.len (drop reader.at text))
-IsLooked text reader word found.All = IsAtEnd text reader
-IsLooked text reader word it = ⊤

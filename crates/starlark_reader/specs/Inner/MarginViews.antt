@@ -1,5 +1,5 @@
 -- Margins of the code, as the grammar sees them, and what taking them does.
-use Rattle.std.specs.Prelude.{◌≡◌, ◌≤◌, true, false, ℕ, ◌+◌, ◌-◌, ◌==◌, ◌&&◌, ◌||◌, Bool, not, get_or, List, [], ◌++◌, if◌then◌else◌, Option, Some, None, map, length, nat_eq, nat_lt, count_by, option_to_list, take, drop}
+use Rattle.std.specs.Prelude.{◌≡◌, ◌≢◌, ◌≤◌, true, false, ℕ, ◌+◌, ◌-◌, ◌==◌, ◌&&◌, ◌||◌, Bool, not, get_or, List, [], ◌++◌, if◌then◌else◌, Option, Some, None, map, length, nat_eq, nat_lt, count_by, option_to_list, take, drop}
 use Rattle.std.specs.List.{list_all, list_any}
 use Rattle.std.specs.Str.{byte}
 use Rattle.starlark_grammar.specs.Words.{Text}
@@ -9,27 +9,26 @@ use Rattle.starlark_grammar.specs.Margins.{indentation, is_content, margin_len, 
 use Rattle.starlark_grammar.specs.Pieces as pieces
 use Rattle.starlark_token.specs.Lexemes.{fault_view}
 use Rattle.starlark_reader.specs.Inner.Pending.{IsPending, lexemes_after, pending_lexemes}
-use Rattle.starlark_reader.specs.declared.margins.Blanks.{Blanks}
 use Rattle.starlark_reader.specs.declared.margins.Margin.{Margin}
 use Rattle.starlark_reader.specs.declared.pending.AfterComments.{AfterComments}
 use Rattle.starlark_reader.specs.declared.pending.Pending.{Pending}
 use Rattle.starlark_token.specs.declared.lexeme_error.LexemeError.{LexemeError}
 
 -- the code has measured the blanks right
-pub record IsBlanks (blanks : Text) (found : Blanks) : Type 0 where
-  pub len : found.len ≡ length blanks
+pub record IsBlanks (blanks : Text) (found : Margin) : Type 0 where
+  pub len : found.blanks ≡ length blanks
   pub width : found.width ≡ count_by (nat_eq (byte " ")) blanks
   pub has_tab : found.has_tab ≡ list_any (nat_eq (byte "\t")) blanks
 
 -- the code has measured the margin right
 pub record IsMargin (margin : margins.Margin) (found : Margin) : Type 0 where
   pub at : found.at ≡ margin.at
-  pub blanks : IsBlanks margin.blanks found.blanks
+  pub blanks : IsBlanks margin.blanks found
   pub is_content : found.is_content ≡ is_content margin.remainder
 
 -- a margin of `width` spaces alone, which content follows
 abbrev pub spaces_margin : ℕ → Margin
-spaces_margin width = record { at = 0; blanks = record { len = width; width = width; has_tab = false }; is_content = true }
+spaces_margin width = record { at = 0; blanks = width; width = width; has_tab = false; is_content = true }
 
 -- the greatest open width; 0 if none is open
 abbrev pub greatest_of : List ℕ → ℕ
@@ -42,10 +41,16 @@ pub record IsLeftBy (levels : List ℕ) (width count : ℕ) : Type 0 where
   pub closed : list_all (nat_lt width) (drop count levels) ≡ true
   pub last : greatest_of (take count levels) ≤ width
 
+-- the widths that are greater than a content line's were closed, or, if the line's width isn't the
+-- greatest one left, none was
+abbrev pub IsClosed : ℕ → (old new : List ℕ) → Option ℕ → Type 0
+IsClosed width old new None = (count : ℕ) × IsLeftBy old width count × (greatest_of (take count old) ≢ width) × (new ≡ old)
+IsClosed width old new (Some closed) = (count : ℕ) × IsLeftBy old width count × (greatest_of (take count old) ≡ width) × (new ≡ take count old) × (closed ≡ length old - count)
+
 -- whether a margin leaves the open widths as they are: no content follows, or it has no tab and
 -- the greatest open width
 abbrev pub keeps_widths : Margin → List ℕ → Bool
-keeps_widths margin levels = not margin.is_content || (not margin.blanks.has_tab && margin.blanks.width == greatest_of levels)
+keeps_widths margin levels = not margin.is_content || (not margin.has_tab && margin.width == greatest_of levels)
 
 -- the lexemes of a margin without fault after its comments: an `Indent` or `Dedent`s
 abbrev pub margin_indentation : List ℕ → margins.Margin → List grammar.Lexeme
@@ -90,10 +95,10 @@ pub record IsLeftOut (margin : margins.Margin) (old new : List ℕ) (remainder a
   pub levels : new ≡ old
   pub same : after_now ≡ remainder
 
--- what taking a margin that begins at byte `begin` did, by whether it has no fault
-abbrev pub IsLaid : Bool → ℕ → margins.Margin → List ℕ → (old new : List ℕ) → AfterComments → AfterComments → Type 0
-IsLaid true begin margin widths old new remainder after_now = IsLaidOut begin margin widths old new after_now
-IsLaid false begin margin widths old new remainder after_now = IsLeftOut margin old new remainder after_now
+-- what taking a margin that begins at byte `begin` did, by its fault
+abbrev pub IsLaid : Option (LexemeError × ℕ) → ℕ → margins.Margin → List ℕ → (old new : List ℕ) → AfterComments → AfterComments → Type 0
+IsLaid None begin margin widths old new remainder after_now = IsLaidOut begin margin widths old new after_now
+IsLaid (Some found) begin margin widths old new remainder after_now = IsLeftOut margin old new remainder after_now
 
 -- the step is a piece of `len` bytes, its lexemes are the given ones and then the pending ones, and
 -- its width went to the open ones

@@ -9,7 +9,6 @@ use Rattle.starlark_grammar.specs.Margins.{comment_of, comments_from, is_comment
 use Rattle.starlark_token.specs.Lexemes.{lexeme_view, shown_lexeme}
 use Rattle.starlark_token.specs.TokenViews.{TokenView, Whole}
 use Rattle.starlark_reader.specs.Inner.PieceViews.{text_end}
-use Rattle.starlark_reader.specs.declared.comments.CommentLine.{CommentLine}
 use Rattle.starlark_reader.specs.declared.pending.AfterComments.{AfterComments}
 use Rattle.starlark_reader.specs.declared.pending.AfterComments.TheVariants as remainder
 use Rattle.starlark_reader.specs.declared.pending.Pending.{Pending}
@@ -62,13 +61,13 @@ pub record IsCommentIn (text : Text) (begin end : ℕ) : Type 0 where
 
 -- the first line from byte `from` to `to` has the length and the comment found, and all after it
 -- are comment-only
-pub record IsFirstComment (text : Text) (from to : ℕ) (found : CommentLine) : Type 0 where
+pub record IsFirstComment (text : Text) (from to begin end len : ℕ) : Type 0 where
   pub line : Text
-  pub first : lines_between text from to ≡ line ∷ lines_between text (from + found.len) to
-  pub whole : length line ≡ found.len
-  pub comment : comment_lexeme text found.begin found.end ≡ shown_lexeme (comment_of from line)
-  pub inside : IsCommentIn text found.begin found.end
-  pub remainder : IsComments text (from + found.len) to
+  pub first : lines_between text from to ≡ line ∷ lines_between text (from + len) to
+  pub whole : length line ≡ len
+  pub comment : comment_lexeme text begin end ≡ shown_lexeme (comment_of from line)
+  pub inside : IsCommentIn text begin end
+  pub remainder : IsComments text (from + len) to
 
 -- a token that is pending after comments: an indent, a dedent, or the end of an f-string text
 abbrev pub IsMark : TokenView → Type 0

@@ -308,11 +308,6 @@ newline_of line_end.Newline at len = newline_if true at len
 newline_of line_end.Pending at len = newline_if true at len
 newline_of line_end at len = None
 
--- the outcome of a newline that counts, by whether the margin after it has no fault
-abbrev pub before_margin : Bool → LineEnd
-before_margin true = line_end.Pending
-before_margin false = line_end.Fault
-
 -- the name of `len` bytes at byte `at`
 abbrev pub name_lexeme : Text → ℕ → ℕ → grammar.Spanned TokenView
 name_lexeme text at len = record { begin = at; node = Whole (grammar.Identifier (take len (drop at text))); end = at + len }

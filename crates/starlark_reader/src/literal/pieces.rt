@@ -1,19 +1,16 @@
 //! String and bytes literals as lexemes.
 
-ghost use Rattle.std.specs.Prelude.{◌≡◌, ◌≢◌, ◌+◌, ◌*◌, ◌<◌, ◌^◌, ℕ, Some, false, length, not, IfOk};
-ghost use Rattle.starlark_grammar.specs.Items as items;
+ghost use Rattle.std.specs.Prelude.{◌≡◌, ◌+◌, ◌*◌, ◌<◌, ◌^◌, ℕ, Some, false, length, not, IfOk};
 ghost use Rattle.starlark_reader.specs.Inner.StepViews.{IsStep};
-ghost use Rattle.starlark_reader.specs.Inner.Nesting.{is_fstring_start, mode_view};
+ghost use Rattle.starlark_reader.specs.Inner.Nesting.{mode_view};
 ghost use Rattle.starlark_reader.specs.Inner.ReadBounds.{AreWordReads, IsFaultAt, is_tab_error};
 ghost use Rattle.starlark_words.specs.Inner.Reads.{AreReads, more_reads};
 ghost use Rattle.starlark_token.specs.Lexemes.{fault_view};
-ghost use Rattle.starlark_words.specs.Inner.LiteralViews.{bytes_of, holds_text, literal_view, single_literal};
+ghost use Rattle.starlark_words.specs.Inner.LiteralViews.{literal_view};
 ghost use Rattle.starlark_words.specs.Inner.PlainRuns.{IsRun};
 ghost use Rattle.starlark_grammar.specs.Inner.Openings.{opening_view};
 ghost use Rattle.starlark_grammar.specs.Pieces as grammar;
-ghost use Rattle.starlark_token.specs.TokenViews.{Whole, fstring_quote_view, token_view};
-ghost use Rattle.starlark_grammar.specs.declared.class.LiteralKind.{LiteralKind as Kind};
-ghost use Rattle.starlark_grammar.specs.declared.class.LiteralKind.TheVariants.{FString as OfFString};
+ghost use Rattle.starlark_token.specs.TokenViews.{fstring_quote_view};
 
 use super::chunks::Chunk;
 use crate::nesting::LexerMode;
@@ -79,16 +76,6 @@ fn unfinished(
     }
 }
 
-fn literal_token(value: LiteralValue) -> Token
-    ensures token { (kind : Kind) → holds_text value ≡ not (items.is_of_bytes kind) → token_view result ≡ Whole (grammar.literal_token kind (bytes_of value)) }
-    ensures own { (kind : Kind) → is_fstring_start (grammar.literal_token kind (bytes_of value)) ≡ false }
-{
-    match value {
-        LiteralValue::Text(text) => Token::String(text),
-        LiteralValue::Bytes(bytes) => Token::Bytes(bytes),
-    }
-}
-
 /// The fault of a bad escape at byte `begin`. `read` is the text of the escape after its backslash.
 fn escape_fault(alloc: Global, begin: usize, read: &str) -> Result<Step, AllocError>
     requires { begin + 1 + length read.now < 2 ^ 64 }
@@ -112,9 +99,9 @@ fn escape_fault(alloc: Global, begin: usize, read: &str) -> Result<Step, AllocEr
 
 /// A string or bytes literal. Its opening has `len` bytes, and `remainder` is the text after it, of which
 /// `run` bytes are known.
-// Inlined twice: as a call, its step is copied from memory (2 % of escapes).
+// Inlined: as a call, its step is copied from memory (2 % of escapes).
 #[inline(always)]
-fn literal_from(
+pub(crate) fn literal_piece(
     reads: &mut ReadCounter,
     alloc: Global,
     mode: LexerMode,
@@ -130,10 +117,19 @@ fn literal_from(
 {
     let body = read_body(reads, alloc, literal, run, remainder)?;
     match body.stop {
-        Stop::Closing => Ok(Step::Token {
-            token: literal_token(body.value),
-            len: len + body.len + closing_len(literal.opening),
-        }),
+        Stop::Closing => {
+            let len = len + body.len + closing_len(literal.opening);
+            match body.value {
+                LiteralValue::Text(text) => Ok(Step::Token {
+                    token: Token::String(text),
+                    len,
+                }),
+                LiteralValue::Bytes(bytes) => Ok(Step::Token {
+                    token: Token::Bytes(bytes),
+                    len,
+                }),
+            }
+        }
         Stop::BadEscape { len: read, .. } => {
             escape_fault(
                 alloc,
@@ -166,20 +162,6 @@ pub(crate) fn quotes_of(opening: Opening) -> FStringQuote
     }
 }
 
-/// Whether two more of the opener's quotes follow it.
-fn is_triple(reads: &mut ReadCounter, quote: Quote, remainder: &str) -> bool
-    ensures value { result ≡ (grammar.opening_of false quote remainder.now).is_triple }
-    ensures reads { reads.new ≡ more_reads reads.old 2 }
-{
-    let quotes = match quote {
-        Quote::Single => "''",
-        Quote::Double => "\"\"",
-    };
-    reads
-        .front(remainder.as_bytes(), 2)
-        .starts_with(quotes.as_bytes())
-}
-
 /// The opening of a literal, from its opener and the text after that.
 pub(crate) fn opening_of(
     reads: &mut ReadCounter,
@@ -190,41 +172,16 @@ pub(crate) fn opening_of(
     ensures reads { reads.new ≡ more_reads reads.old 2 }
     ensures opening { opening_view result ≡ grammar.opening_of is_raw quote remainder.now }
 {
+    let quotes = match quote {
+        Quote::Single => "''",
+        Quote::Double => "\"\"",
+    };
+    let is_triple = reads
+        .front(remainder.as_bytes(), 2)
+        .starts_with(quotes.as_bytes());
     Opening {
         is_raw,
         quote,
-        is_triple: is_triple(reads, quote, remainder),
-    }
-}
-
-/// A string or bytes literal. Its opener has `len` bytes, and `remainder` is the text after it, of which
-/// `run` bytes are known.
-pub(crate) fn literal_piece(
-    reads: &mut ReadCounter,
-    alloc: Global,
-    mode: LexerMode,
-    kind: LiteralKind,
-    is_raw: bool,
-    quote: Quote,
-    len: usize,
-    run: usize,
-    remainder: &str,
-) -> Result<Step, AllocError>
-    requires kind { kind ≢ OfFString }
-    requires fits { len + length remainder.now < 2 ^ 64 }
-    requires run { IsRun (single_literal kind is_raw quote) remainder.now run }
-    ensures reads { IfOk result (λ step. (before : ℕ) → AreReads run (8 * run) before reads.old → AreWordReads len 9 2 0 8 step before reads.new) }
-    ensures step { IfOk result (IsStep (grammar.opener (mode_view mode) kind (grammar.opening_of is_raw quote remainder.now) len remainder.now)) }
-{
-    let opening = Opening {
-        is_raw,
-        quote,
-        is_triple: is_triple(reads, quote, remainder),
-    };
-    let literal = Literal { kind, opening };
-    if opening.is_triple {
-        literal_from(reads, alloc, mode, literal, len + 2, 0, &remainder[2..])
-    } else {
-        literal_from(reads, alloc, mode, literal, len, run, remainder)
+        is_triple,
     }
 }

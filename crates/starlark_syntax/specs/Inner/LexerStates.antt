@@ -1,5 +1,6 @@
 -- What is ahead of a text that is lexed so far, and what a call answers of it.
-use Rattle.std.specs.Prelude.{◌≡◌, ◌≢◌, ◌≤◌, ◌<◌, ◌^◌, ◌+◌, ◌-◌, ◌*◌, ◌&&◌, if◌then◌else◌, nat_lt, not, Bool, ℕ, true, false, List, [], ◌∷◌, drop, length, map, Option, None, Some, Result, Ok, Err, IfOk, OnErr}
+use Rattle.std.specs.Prelude.{◌≡◌, ◌≢◌, ◌≤◌, ◌<◌, ◌^◌, ◌+◌, ◌-◌, ◌*◌, ◌&&◌, if◌then◌else◌, nat_lt, not, Bool, ℕ, true, false, List, [], ◌∷◌, drop, length, map, Option, None, Some, Result, Ok, Err, IfOk, OnErr, OnOk, alloc_error}
+use Rattle.std.specs.declared.alloc.AllocError.{AllocError}
 use Rattle.starlark_base.specs.Diagnostics.{Diagnosed}
 use Rattle.starlark_base.specs.Sources.{SourceFile}
 use Rattle.starlark_words.specs.Inner.Reads.{more_reads}
@@ -12,7 +13,7 @@ use Rattle.starlark_grammar.specs.declared.class.LiteralKind.TheVariants as lite
 use Rattle.starlark_grammar.specs.declared.class.Quote.{Quote}
 use Rattle.starlark_words.specs.Inner.ScannedWords.{begins_mark, peeked_len}
 use Rattle.starlark_words.specs.declared.scanner.word.Word.{Word}
-use Rattle.starlark_reader.specs.Inner.Reader.{IsAhead, IsAheadAfter, IsAheadPast, IsAtCode, IsAtEnd, IsRaw, IsSomething, IsStateAfter, IsStateAtFault, IsText, IsTokenOf, IsWordHere, begins_with_tab, has_read_none, history_of, is_fault, left_to_read}
+use Rattle.starlark_reader.specs.Inner.Reader.{IsAhead, IsAheadAfter, IsAheadPast, IsAtCode, IsAtEnd, IsRaw, IsSomething, IsStateAfter, IsStateAtFault, IsText, IsWordHere, begins_with_tab, has_read_none, history_of, is_fault, left_to_read}
 use Rattle.starlark_reader.specs.Inner.ReadBounds.{HasRead, LeavesRepair}
 use Rattle.starlark_reader.specs.declared.reader.Before.{Before}
 use Rattle.starlark_reader.specs.declared.reader.Before.TheVariants as before
@@ -20,15 +21,13 @@ use Rattle.starlark_reader.specs.declared.reader.Reader.{Reader}
 use Rattle.starlark_reader.specs.declared.reader.Stage.{Stage}
 use Rattle.starlark_reader.specs.declared.reader.Stage.TheVariants as stages
 use Rattle.starlark_syntax.specs.Exceptions.{IsException}
-use Rattle.starlark_reader.specs.Inner.Lookaheads.{HasPeeked, IsFoundAt}
+use Rattle.starlark_reader.specs.Inner.Lookaheads.{HasPeeked, IsFound}
 use Rattle.starlark_reader.specs.declared.lookahead.Found.{Found}
 use Rattle.starlark_reader.specs.declared.lookahead.Found.TheVariants as found
 use Rattle.starlark_syntax.specs.Inner.Looked.{GoesOn}
 use Rattle.starlark_syntax.specs.Lexer.{HasReadToFault, LexerView, is_ended_by, most_reads, yielded_by}
 use Rattle.starlark_syntax.specs.declared.error.kinds.ErrorKind.{ErrorKind}
 use Rattle.starlark_syntax.specs.PlainLexemes.{IsPlainIn, plain_view}
-use Rattle.starlark_syntax.specs.declared.lexer_state.FastPath.{FastPath}
-use Rattle.starlark_syntax.specs.declared.lexer_state.FastPath.TheVariants as fast
 use Rattle.starlark_syntax.specs.declared.lexer_state.LexerState.{LexerState}
 use Rattle.starlark_syntax.specs.declared.lexer_state.Waiting.{Waiting}
 use Rattle.starlark_syntax.specs.declared.lexer_state.Waiting.TheVariants as waiting
@@ -38,7 +37,7 @@ use Rattle.starlark_syntax.specs.declared.plain_lexeme.PlainKind.{PlainKind}
 use Rattle.starlark_syntax.specs.declared.plain_lexeme.PlainKind.TheVariants as kind
 use Rattle.starlark_syntax.specs.declared.plain_lexeme.PlainLexeme.{PlainLexeme}
 use Rattle.starlark_token.specs.Lexemes.{lexeme_view, shown_lexeme}
-use Rattle.starlark_token.specs.TokenViews.{TokenView, Whole, token_view}
+use Rattle.starlark_token.specs.TokenViews.{TokenView, Whole}
 use Rattle.starlark_token.specs.declared.lexeme_error.LexemeError.{LexemeError}
 use Rattle.starlark_token.specs.declared.tokens.Token.{Token}
 
@@ -73,8 +72,8 @@ IsLexingIn text state =
     IsText text
     × (state.has_ended ≡ false → (state.yielded_count ≤ length (outcome text).lexemes)
     × IsAhead text state.reader state.reader.stage (drop state.yielded_count (map shown_lexeme (outcome text).lexemes)) (outcome text).fault)
-    × GoesOn state.lookahead.found state.has_ended
-    × (state.has_ended ≡ false → IsFoundAt text state.reader state.lookahead)
+    × GoesOn state.found state.has_ended
+    × (state.has_ended ≡ false → IsFound text state.reader state.word state.run state.found)
 
 -- So it is of the state's own text.
 abbrev pub IsLexing : LexerState → Type 0
@@ -85,7 +84,7 @@ pub record IsBegun (text : Text) (state : LexerState) : Type 0 where
   pub view : view_of state ≡ record { text = text; yielded_count = 0; has_ended = false; reads = 0 }
   pub ahead : (any : Text) → IsAhead any state.reader state.reader.stage (map shown_lexeme (outcome any).lexemes) (outcome any).fault
   pub reads : (any : Text) → HasRead any state.reader
-  pub lookahead : state.lookahead.found ≡ found.All
+  pub lookahead : state.found ≡ found.All
 
 -- What a call answers: the first lexeme that is left, or nothing where none is; or out of memory in the place of a lexeme or
 -- the fault.
@@ -164,31 +163,40 @@ pub record IsTakenNext {E : Type 0} (state : LexerState) (taken : Result (ℕ ×
   pub ahead : IfOk taken (λ lexeme. IsAheadAfter state.reader.text.now (Some lexeme) state.reader (left_in state) (outcome state.reader.text.now).fault)
   pub memory : OnErr taken (IsSomething (left_in state) (outcome state.reader.text.now).fault)
 
+-- The reader read what comes next: the first lexeme that is left, or nothing at a fault and at the text's end; or it ran out
+-- of memory in the place of either.
+pub record IsReadNext {E : Type 0} (state : LexerState) (read : Result (Option (ℕ × Token × ℕ)) E) : Type 0 where
+  pub text : IsText state.reader.text.now
+  pub going : state.has_ended ≡ false
+  pub few : state.yielded_count ≤ length (outcome state.reader.text.now).lexemes
+  pub ahead : IfOk read (λ given. IsAheadAfter state.reader.text.now given state.reader (left_in state) (outcome state.reader.text.now).fault)
+  pub end : IfOk read (λ given. given ≡ None → IsAtEnd state.reader.text.now state.reader)
+  pub memory : OnErr read (IsSomething (left_in state) (outcome state.reader.text.now).fault)
+  pub reads : OnOk read (HasRead state.reader.text.now state.reader)
+
 -- The lexer has looked at what comes next, if something does.
 pub record HasLooked (state : LexerState) : Type 0 where
-  pub some : state.lookahead.found ≢ found.Nothing
-  pub end : state.lookahead.found ≡ found.All → IsAtEnd state.reader.text.now state.reader
+  pub some : state.found ≢ found.Nothing
+  pub end : state.found ≡ found.All → IsAtEnd state.reader.text.now state.reader
 
 -- What the fast path tells: the first lexeme that is left, which it passed; or out of memory in the place of an item.
-abbrev pub HasPassed : LexerState → FastPath → LexerState → Type 0
-HasPassed old (fast.Passed plain) new = IsPlainIn old.reader.text.now plain × IsAheadPast old.reader.text.now (plain_view old.reader.text.now plain) new.reader (left_in old) (outcome old.reader.text.now).fault
-HasPassed old (fast.Symbol terminal lexeme) new = IsTokenOf terminal (token_view lexeme.1) × IsAheadAfter old.reader.text.now (Some lexeme) new.reader (left_in old) (outcome old.reader.text.now).fault
-HasPassed old fast.Undecided new = HasLooked new
-HasPassed old fast.OutOfMemory new = IsSomething (left_in old) (outcome old.reader.text.now).fault
+abbrev pub HasPassed : LexerState → Result (Option PlainLexeme) AllocError → LexerState → Type 0
+HasPassed old (Ok (Some plain)) new = IsPlainIn old.reader.text.now plain × IsAheadPast old.reader.text.now (plain_view old.reader.text.now plain) new.reader (left_in old) (outcome old.reader.text.now).fault
+HasPassed old (Ok None) new = HasLooked new
+HasPassed old (Err error) new = IsSomething (left_in old) (outcome old.reader.text.now).fault
 
 -- how many lexemes the fast path passed
-abbrev pub passed_count : FastPath → ℕ
-passed_count (fast.Passed plain) = 1
-passed_count (fast.Symbol terminal lexeme) = 1
-passed_count fast.Undecided = 0
-passed_count fast.OutOfMemory = 0
+abbrev pub passed_count : Result (Option PlainLexeme) AllocError → ℕ
+passed_count (Ok (Some plain)) = 1
+passed_count (Ok None) = 0
+passed_count (Err error) = 0
 
-abbrev pub is_out_of_memory : FastPath → Bool
-is_out_of_memory fast.OutOfMemory = true
+abbrev pub is_out_of_memory : Result (Option PlainLexeme) AllocError → Bool
+is_out_of_memory (Err error) = true
 is_out_of_memory other = false
 
 -- The fast path passed what it tells, where no error had ended the lexer.
-pub record HasPassedNext (old : LexerState) (found : FastPath) (new : LexerState) : Type 0 where
+pub record HasPassedNext (old : LexerState) (found : Result (Option PlainLexeme) AllocError) (new : LexerState) : Type 0 where
   pub passed : HasPassed old found new
   pub lexing : IsLexing new
   pub after : view_of new ≡ record (view_of old) { yielded_count = old.yielded_count + passed_count found; has_ended = is_out_of_memory found; reads = new.reader.reads }
@@ -206,20 +214,20 @@ abbrev pub plain_mark : PlainKind → (begin end : ℕ) → PlainLexeme
 plain_mark it begin end = record { kind = it; begin = begin; end = end; value_begin = end; value_end = end }
 
 -- what the fast path tells of what was passed without lookahead in code, between two offsets
-abbrev pub passed_as : Waiting → (begin end : ℕ) → FastPath
-passed_as waiting.Nothing begin end = fast.Undecided
-passed_as waiting.Indent begin end = fast.Passed (plain_mark kind.Indent begin end)
-passed_as waiting.Dedent begin end = fast.Passed (plain_mark kind.Dedent begin end)
-passed_as waiting.FStringText begin end = fast.Passed (plain_fstring_text begin end)
-passed_as waiting.FStringExprStart begin end = fast.Passed (plain_mark kind.FStringExprStart begin end)
-passed_as waiting.FStringEnd begin end = fast.Passed (plain_mark kind.FStringEnd begin end)
-passed_as waiting.Comment begin end = fast.Passed (plain_comment begin end)
-passed_as waiting.Layout begin end = fast.Undecided
-passed_as waiting.OutOfMemory begin end = fast.OutOfMemory
+abbrev pub passed_as : Waiting → (begin end : ℕ) → Result (Option PlainLexeme) AllocError
+passed_as waiting.Nothing begin end = Ok None
+passed_as waiting.Indent begin end = Ok (Some (plain_mark kind.Indent begin end))
+passed_as waiting.Dedent begin end = Ok (Some (plain_mark kind.Dedent begin end))
+passed_as waiting.FStringText begin end = Ok (Some (plain_fstring_text begin end))
+passed_as waiting.FStringExprStart begin end = Ok (Some (plain_mark kind.FStringExprStart begin end))
+passed_as waiting.FStringEnd begin end = Ok (Some (plain_mark kind.FStringEnd begin end))
+passed_as waiting.Comment begin end = Ok (Some (plain_comment begin end))
+passed_as waiting.Layout begin end = Ok None
+passed_as waiting.OutOfMemory begin end = Err alloc_error
 
 -- how much is left to pass
 abbrev pub left_to_pass : LexerState → ℕ
-left_to_pass state = 2 * left_to_read state.reader.text.now state.reader state.reader.stage + left_to_look state.lookahead.found
+left_to_pass state = 2 * left_to_read state.reader.text.now state.reader state.reader.stage + left_to_look state.found
   where
     left_to_look : Found → ℕ
     left_to_look found.All = 1
@@ -243,7 +251,7 @@ pub record IsAtWord (state : LexerState) (word : Word) : Type 0 where
   pub few : state.yielded_count ≤ length (outcome state.reader.text.now).lexemes
   pub ahead : IsAhead state.reader.text.now state.reader state.reader.stage (left_in state) (outcome state.reader.text.now).fault
   pub stands : IsWordHere state.reader.text.now state.reader word
-  pub lookahead : state.lookahead.found ≡ found.Nothing
+  pub lookahead : state.found ≡ found.Nothing
   pub read : HasPeeked state.reader.text.now word.len (5 * word.len - 2) state.reader
 
 -- The lexer is at the opener of `len` bytes of a text literal.
@@ -259,7 +267,7 @@ pub record IsUnnamed (state : LexerState) : Type 0 where
   pub code : IsAtCode state.reader.text.now state.reader
   pub unnamed : begins is_name_start (drop state.reader.at state.reader.text.now) ≡ false
   pub marks : begins_mark (drop state.reader.at state.reader.text.now) ≡ false
-  pub lookahead : state.lookahead.found ≡ found.Nothing
+  pub lookahead : state.found ≡ found.Nothing
   pub read : HasPeeked state.reader.text.now (peeked_len (drop state.reader.at state.reader.text.now)) (peeked_len (drop state.reader.at state.reader.text.now)) state.reader
 
 -- the string literal between two offsets, by the length of its opener
@@ -281,7 +289,7 @@ is_layout it = false
 -- A plain lexeme that was passed is an item, or there was out of memory in its place, which ends the lexer.
 abbrev pub HasTaken : LexerState → PlainLexeme → Option (Result (ℕ × Token × ℕ) (OrMemory (Diagnosed ErrorKind))) → LexerState → Type 0
 HasTaken old plain (Some (Ok lexeme)) new = (lexeme_view lexeme ≡ plain_view old.reader.text.now plain) × (new ≡ old)
-HasTaken old plain (Some (Err Memory)) new = new ≡ record old { yielded_count = old.yielded_count - 1; has_ended = true; lookahead = record old.lookahead { found = found.All } }
+HasTaken old plain (Some (Err Memory)) new = new ≡ record old { yielded_count = old.yielded_count - 1; has_ended = true; found = found.All }
 HasTaken old plain answer new = ⊥
 
 -- An error that a lexer still has to say: out of memory in the place of an item.

@@ -4,7 +4,7 @@ use Rattle.std.proofs.lemmas.Bool.{lt-ltb}
 use Rattle.std.proofs.lemmas.Bool.Decides.{nat_tests}
 use Rattle.std.proofs.Math.Nat.{add-mul, mul-le-mul, pow-le-pow_right, pow-suc}
 use Rattle.std.proofs.lemmas.List.Sums.{prefix_len-le-length}
-use Rattle.std.specs.Char.{digit_value, is_ascii, is_ascii_hexdigit, is_digit}
+use Rattle.std.specs.Char.{digit_value, is_ascii, is_ascii_digit, is_ascii_hexdigit, is_digit}
 use Rattle.std.specs.List.{prefix_len}
 use Rattle.std.specs.Str.{IsUtf8, IsCharBoundary}
 use Rattle.starlark_grammar.specs.Words.{Text}
@@ -12,12 +12,18 @@ use Rattle.starlark_grammar.proofs.Lists.{take_fits}
 use Rattle.starlark_grammar.proofs.Order.Edges.{digits_run, hex_plain, plain_end}
 use Rattle.starlark_words.proofs.LiteralBodies.RunBytes.{same_run}
 
--- both tests of a hexadecimal digit
+-- both tests of a decimal and of a hexadecimal digit
+decimal_test : (b : ℕ) → is_digit b 10 ≡ is_ascii_digit b
+decimal_test b = grind (arith, nat_tests)
+
 hex_test : (b : ℕ) → is_digit b 16 ≡ is_ascii_hexdigit b
 hex_test b = grind (arith, nat_tests)
 
-pub hex_same : (wanted : ℕ) (text : Text) → prefix_len (λ b. is_digit b 16) (take wanted text) ≡ prefix_len is_ascii_hexdigit (take wanted text)
-hex_same wanted text = same_run (λ b. is_digit b 16) is_ascii_hexdigit hex_test (take wanted text)
+pub decimal_same : (text : Text) → prefix_len (λ b. is_digit b 10) text ≡ prefix_len is_ascii_digit text
+decimal_same = same_run (λ b. is_digit b 10) is_ascii_digit decimal_test
+
+pub hex_same : (text : Text) → prefix_len (λ b. is_digit b 16) text ≡ prefix_len is_ascii_hexdigit text
+hex_same = same_run (λ b. is_digit b 16) is_ascii_hexdigit hex_test
 
 -- 32 bits hold a number of fewer than eight digits and one more
 pub one_more : (radix number digit len : ℕ) → radix ≤ 16 → number < 16 ^ len → digit < radix → len < 8 → (number * radix + digit < 16 ^ (len + 1)) × (16 ^ (len + 1) ≤ 2 ^ 32)

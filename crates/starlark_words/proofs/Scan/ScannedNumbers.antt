@@ -152,10 +152,6 @@ abbrev pub first_some : ℕ → ℕ → ℕ
 first_some zero n = n
 first_some (suc m) n = suc m
 
-pub first_some_some : (m n : ℕ) → m ≢ 0 → first_some m n ≡ m
-first_some_some zero n other = absurd (other refl)
-first_some_some (suc m) n other = refl
-
 pub float_end : (text : Text) → longest_len makes_float text ≡ first_some (longest_len is_fraction text) (longest_len is_exponent text)
 float_end [] = rw (len_nothing makes_float, len_nothing is_fraction, len_nothing is_exponent) refl
 float_end (b ∷ rest) = go (b == 46) refl

@@ -41,7 +41,7 @@ stop_view (stop.BadEscape len last) = items.BadEscape len last
 
 -- the item or stop of the grammar
 abbrev pub found_view : Found → items.Found
-found_view (found.Goes item) = items.goes item.len (value_view item.value)
+found_view (found.Goes len value) = items.goes len (value_view value)
 found_view (found.Stops stop) = items.Stops (stop_view stop)
 
 -- how many bytes of a bad escape were read; 0 for any other stop
@@ -51,7 +51,7 @@ stopped_len stop = 0
 
 -- how many bytes of an item or of a bad escape were read
 abbrev pub found_len : Found → ℕ
-found_len (found.Goes item) = item.len
+found_len (found.Goes len value) = len
 found_len (found.Stops stop) = stopped_len stop
 
 -- the least number of bytes read at a stop: the three that can close a literal, or all of a bad escape
@@ -60,7 +60,7 @@ least_stop_reads stop = max 3 (stopped_len stop)
 
 -- the least number of bytes read: those of an item, or those at the stop
 abbrev pub least_reads : Found → ℕ
-least_reads (found.Goes item) = item.len
+least_reads (found.Goes len value) = len
 least_reads (found.Stops stop) = least_stop_reads stop
 
 -- the value is no lone byte
@@ -70,7 +70,7 @@ IsCharacters value = ⊤
 
 -- the value of an item is no lone byte
 abbrev pub IsText : Found → Type 0
-IsText (found.Goes item) = IsCharacters item.value
+IsText (found.Goes len value) = IsCharacters value
 IsText (found.Stops stop) = ⊤
 
 -- the bytes of a literal's value

@@ -4,7 +4,6 @@ use Rattle.std.specs.List.{list_all}
 use Rattle.std.specs.Str.{IsCharBoundary, byte}
 use Rattle.starlark_grammar.specs.Items.{Literal, is_brace, quote_byte}
 use Rattle.starlark_grammar.specs.Words.{Text}
-use Rattle.starlark_words.specs.declared.run_lanes.Ends.{Ends}
 
 -- the bytes that end a run: the literal's quote, a backslash, a CR, an LF that ends the literal,
 -- and the braces in an f-string
@@ -20,7 +19,3 @@ is_in_run literal b = not (is_special literal b)
 pub record IsRun (literal : Literal) (text : Text) (count : ℕ) : Type 0 where
   pub boundary : IsCharBoundary text count
   pub all : list_all (is_in_run literal) (take count text) ≡ true
-
--- the bytes that end a run, as the code stores them
-abbrev pub is_end : Ends → ℕ → Bool
-is_end ends b = b == ends.quote || (b == ends.feed || (b == ends.opening_brace || (b == ends.closing_brace || (b == byte "\\" || b == byte "\r"))))

@@ -164,14 +164,9 @@ pub(crate) fn name_from(reads: &mut ReadCounter, passed: usize, text: &str) -> W
 {
     let bytes = text.as_bytes();
     let len = 1 + name_len(reads, passed, &bytes[1..]);
-    match prefixed_opener(bytes, len) {
-        Some(class) => Word {
-            class,
-            len: len + 1,
-        },
-        None => Word {
-            class: name_class(&bytes[..len]),
-            len,
-        },
-    }
+    let (class, len) = match prefixed_opener(bytes, len) {
+        Some(class) => (class, len + 1),
+        None => (name_class(&bytes[..len]), len),
+    };
+    Word { class, len }
 }

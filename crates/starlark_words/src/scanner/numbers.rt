@@ -5,39 +5,12 @@ ghost use Rattle.std.specs.Option.{option_map};
 ghost use Rattle.starlark_grammar.specs.Front.{language_front, longest_front};
 ghost use Rattle.starlark_grammar.specs.Lengths.{longest_len};
 ghost use Rattle.starlark_words.specs.Inner.Reads.{AreReads, more_reads};
-ghost use Rattle.starlark_words.specs.Inner.ScannedWords.{begins_number, is_digit_alone, is_number, may_be_in_number, word_len, word_view};
+ghost use Rattle.starlark_words.specs.Inner.ScannedWords.{begins_number, is_digit_alone, is_number, word_len, word_view};
 ghost use Rattle.starlark_grammar.specs.Words as grammar;
 
 use super::{Class, Word};
-use crate::names::is_name_start;
+use crate::names::is_in_name;
 use crate::reads::{ReadCounter, byte_at};
-
-/// Length of the sign at the front of a text; 0 if there is none.
-fn sign_len(reads: &mut ReadCounter, text: &[u8]) -> usize
-    ensures value { result ≡ grammar.sign_len text.now }
-    ensures within { result ≤ length text.now }
-    ensures reads { reads.new ≡ more_reads reads.old 1 }
-{
-    reads.add(1);
-    match text {
-        [b'+' | b'-', ..] => 1,
-        _ => 0,
-    }
-}
-
-/// Length of the exponent at the start of a text that begins with its letter; 0 if no digits
-/// follow.
-fn exponent_from(reads: &mut ReadCounter, text: &[u8]) -> usize
-    requires { grammar.begins grammar.is_exponent_letter text.now ≡ true }
-    ensures value { result ≡ longest_len grammar.is_exponent text.now }
-    ensures within { result ≤ length text.now }
-    ensures reads { AreReads result (result + 2) reads.old reads.new }
-{
-    let power = &text[1..];
-    let sign = sign_len(reads, power);
-    let digits = reads.digits_len(&power[sign..]);
-    if digits == 0 { 0 } else { 1 + sign + digits }
-}
 
 /// Length of the exponent at the start of a text; 0 if there is none.
 fn exponent_len(reads: &mut ReadCounter, text: &[u8]) -> usize
@@ -46,39 +19,31 @@ fn exponent_len(reads: &mut ReadCounter, text: &[u8]) -> usize
     ensures reads { AreReads result (result + 3) reads.old reads.new }
 {
     reads.add(1);
-    match text {
-        [b'e' | b'E', ..] => exponent_from(reads, text),
+    let [b'e' | b'E', power @ ..] = text else {
+        return 0;
+    };
+    reads.add(1);
+    let sign = match power {
+        [b'+' | b'-', ..] => 1,
         _ => 0,
-    }
+    };
+    let digits = reads.digits_len(&power[sign..], 10);
+    if digits == 0 { 0 } else { 1 + sign + digits }
 }
 
-/// Length of the fraction at the front of a text that begins with a point: of the point, the digits
-/// and the exponent.
-fn fraction_len(reads: &mut ReadCounter, text: &[u8]) -> usize
-    requires { grammar.begins grammar.is_point text.now ≡ true }
-    ensures value { result ≡ longest_len grammar.is_fraction text.now }
-    ensures some { 0 < result }
-    ensures within { result ≤ length text.now }
-    ensures reads { AreReads (result - 1) (result + 3) reads.old reads.new }
-{
-    let fraction = &text[1..];
-    let digits = reads.digits_len(fraction);
-    1 + digits + exponent_len(reads, &fraction[digits..])
-}
-
-/// Length of what makes the digits before it a float; 0 if nothing does.
+/// Length of what makes the digits before it a float, a fraction or an exponent; 0 if nothing does.
 fn float_end_len(reads: &mut ReadCounter, text: &[u8]) -> usize
     ensures value { result ≡ longest_len grammar.makes_float text.now }
     ensures within { result ≤ length text.now }
     ensures reads { AreReads result (5 * result + 3) reads.old reads.new }
     ensures few { reads.new ≤ reads.old + (result + 4) }
 {
+    let [b'.', fraction @ ..] = text else {
+        return exponent_len(reads, text);
+    };
     reads.add(1);
-    match text {
-        [b'.', ..] => fraction_len(reads, text),
-        [b'e' | b'E', ..] => exponent_from(reads, text),
-        _ => 0,
-    }
+    let digits = reads.digits_len(fraction, 10);
+    1 + digits + exponent_len(reads, &fraction[digits..])
 }
 
 /// The longest integer with a base at the front of a text. The caller has counted the reads of the
@@ -91,26 +56,18 @@ fn based_front(reads: &mut ReadCounter, text: &[u8]) -> Option<Word>
     match (byte_at(text, 0), byte_at(text, 1), byte_at(text, 2)) {
         (b'0', b'x' | b'X', digit) if digit.is_ascii_hexdigit() => Some(Word {
             class: Class::Hexadecimal,
-            len: 2 + reads.hexadecimal_len(&text[2..]),
+            len: 2 + reads.digits_len(&text[2..], 16),
         }),
         (b'0', b'o' | b'O', b'0'..=b'7') => Some(Word {
             class: Class::Octal,
-            len: 2 + reads.octal_len(&text[2..]),
+            len: 2 + reads.digits_len(&text[2..], 8),
         }),
         (b'0', b'b' | b'B', b'0' | b'1') => Some(Word {
             class: Class::Binary,
-            len: 2 + reads.binary_len(&text[2..]),
+            len: 2 + reads.digits_len(&text[2..], 2),
         }),
         _ => None,
     }
-}
-
-/// Whether a byte may be part of a number.
-#[inline(always)]
-fn may_be_in_number(byte: u8) -> bool
-    ensures { result ≡ may_be_in_number byte }
-{
-    is_name_start(byte) || byte.is_ascii_digit() || byte == b'.'
 }
 
 /// Whether a text begins with a digit, and the next byte can't be part of a number.
@@ -121,7 +78,7 @@ pub(crate) fn is_digit_alone(text: &[u8]) -> bool
     match text {
         [] => false,
         [first] => first.is_ascii_digit(),
-        [first, next, ..] => first.is_ascii_digit() && !may_be_in_number(*next),
+        [first, next, ..] => first.is_ascii_digit() && !is_in_name(*next) && *next != b'.',
     }
 }
 
@@ -136,7 +93,7 @@ pub(crate) fn number_from(reads: &mut ReadCounter, text: &[u8]) -> Word
     if let Some(word) = based_front(reads, text) {
         return word;
     }
-    let digits = reads.digits_len(text);
+    let digits = reads.digits_len(text, 10);
     let more = float_end_len(reads, &text[digits..]);
     let class = if more == 0 {
         Class::Decimal

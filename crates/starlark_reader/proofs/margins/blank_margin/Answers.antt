@@ -1,6 +1,5 @@
 use Rattle.std.proofs.Common.{◌+◌, arith, false, refl}
-use Rattle.starlark_reader.specs.declared.margins.Blanks.{Blanks}
-use Rattle.starlark_reader.proofs.TakenMargins.Blanks.{blank_passed, one_passed}
+use Rattle.starlark_reader.proofs.TakenMargins.Blanks.{blank_passed, blanks_margin, one_passed}
 use Rattle.starlark_reader.proofs.TakenMargins.PlainMargins.{spaces_and_returns}
 use Rattle.starlark_reader.proofs.margins.blank_margin.Goals.{else-len-text-via-then-len-text+else-text-len-ne10, else-len-text-via-else-len-text, else-len-text-2-via-then-len-text-2+else-text-len-ne10-2, else-len-text-2-via-else-len-text-2}
 use Rattle.starlark_reader.proofs.margins.blank_margin.Goals as goal
@@ -10,8 +9,8 @@ loop-len-init c = blank_passed c.args.text.now c.args.spaces false (omega (arith
 
 pub loop-len-preserved : goal.loop-len-preserved
 loop-len-preserved c =
-    let old : Blanks = record { len = c.loop-len.len; width = c.args.spaces; has_tab = false } in
-    let new : Blanks = record { len = c.loop-len.len + 1; width = c.args.spaces; has_tab = false } in
+    let old = blanks_margin c.loop-len.len c.args.spaces false in
+    let new = blanks_margin (c.loop-len.len + 1) c.args.spaces false in
     one_passed c.args.text.now old new 13 c.loop-len.invariant (omega (arith, c.loop-len-test.true)) (omega (arith, c.if-text-len-eq13.true)) refl refl (omega arith) refl
 
 pub returns-else-len-text-2-clause-margin : goal.returns-else-len-text-2-clause-margin

@@ -17,7 +17,7 @@ returns-then-ends-ne0-clause-within c =
 pub returns-then-ends-ne0-clause-reads : goal.returns-then-ends-ne0-clause-reads
 returns-then-ends-ne0-clause-reads c =
     let found = c.front_ends-ends.ensures.some (omega (arith, c.if-ends-ne0.true)) in
-    (omega (arith, found.1, c.loop-at.invariant.reads, c.count_run_and_lanes.ensures), omega (arith, found.1, c.loop-at.invariant.reads, c.count_run_and_lanes.ensures))
+    (omega (arith, found.1, c.loop-at.invariant.reads, c.add.ensures), omega (arith, found.1, c.loop-at.invariant.reads, c.add.ensures))
 
 pub loop-at-preserved : goal.loop-at-preserved
 loop-at-preserved c =
@@ -36,7 +36,7 @@ returns-then-ends-eq0-clause-value c =
 
 pub returns-then-ends-eq0-clause-reads : goal.returns-then-ends-eq0-clause-reads
 returns-then-ends-eq0-clause-reads c =
-    (omega (arith, c.loop-at-test.false, c.loop-at.invariant.reads, c.count_run_and_lanes-2.ensures), omega (arith, c.loop-at.invariant.within, c.loop-at.invariant.reads, c.count_run_and_lanes-2.ensures))
+    (omega (arith, c.loop-at-test.false, c.loop-at.invariant.reads, c.add-2.ensures), omega (arith, c.loop-at.invariant.within, c.loop-at.invariant.reads, c.add-2.ensures))
 
 pub returns-else-ends-eq0-clause-value : goal.returns-else-ends-eq0-clause-value
 returns-else-ends-eq0-clause-value c =
@@ -53,4 +53,4 @@ pub returns-else-ends-eq0-clause-reads : goal.returns-else-ends-eq0-clause-reads
 returns-else-ends-eq0-clause-reads c =
     let last = last_run (is_in_front c.args.other) 16 c.loop-at.at c.args.text.now c.loop-at.invariant.value c.requires.long (omega (arith, c.loop-at-test.false)) in
     let found = c.front_ends-ends-2.ensures.some (omega (arith, c.if-ends-eq0.false)) in
-    (omega (arith, found.1, c.loop-at-test.false, c.requires.long, c.loop-at.invariant.reads, c.count_run_and_lanes-2.ensures), omega (arith, last, found.0, c.loop-at.invariant.value, c.loop-at.invariant.reads, c.count_run_and_lanes-2.ensures))
+    (omega (arith, found.1, c.loop-at-test.false, c.requires.long, c.loop-at.invariant.reads, c.add-2.ensures), omega (arith, last, found.0, c.loop-at.invariant.value, c.loop-at.invariant.reads, c.add-2.ensures))

@@ -26,12 +26,12 @@ returns-then-is_digit_alone-clause-word c =
 pub returns-in-32-clause-word : goal.returns-in-32-clause-word
 returns-in-32-clause-word c =
     let first : get_or c.args.text.now 0 0 ≡ 32 = rw c.as_bytes-bytes.ensures.value at (sym c.byte_at-first.ensures ∙ c.in-32.is) in
-    rw (c.spaces_len.ensures.value, c.as_bytes-bytes.ensures.value, front_blank c.args.text.now first) refl
+    rw (c.repeats_len.ensures.value, c.as_bytes-bytes.ensures.value, front_blank c.args.text.now first) refl
 
 pub returns-in-9-clause-word : goal.returns-in-9-clause-word
 returns-in-9-clause-word c =
     let first : get_or c.args.text.now 0 0 ≡ 9 = rw c.as_bytes-bytes.ensures.value at (sym c.byte_at-first.ensures ∙ c.in-9.is) in
-    rw (c.tabs_len.ensures.value, c.as_bytes-bytes.ensures.value, front_tab c.args.text.now first) refl
+    rw (c.repeats_len-in-9.ensures.value, c.as_bytes-bytes.ensures.value, front_tab c.args.text.now first) refl
 
 pub returns-in-35-clause-word : goal.returns-in-35-clause-word
 returns-in-35-clause-word c =

@@ -1,21 +1,43 @@
-use Rattle.std.proofs.Common.{subst, sym}
-use Rattle.starlark_reader.specs.Inner.Reader.{IsAhead}
-use Rattle.starlark_reader.specs.declared.reader.Stage.{Stage}
+use Rattle.std.proofs.Common.{◌≡◌, ◌<◌, arith, rules}
+use Rattle.starlark_reader.specs.Inner.Reader.{KeepsAhead}
+use Rattle.starlark_reader.specs.declared.reader.Stage.TheVariants as stage
 use Rattle.starlark_reader.proofs.TakenPieces.ReaderReads.{reads_ahead}
-use Rattle.starlark_reader.proofs.TakenPieces.PieceTaken.{left_onward}
-use Rattle.starlark_reader.proofs.TakenPieces.SameTexts.{sound_after}
+use Rattle.starlark_reader.proofs.TakenPieces.SameTexts.{sound_after, state_here}
+use Rattle.starlark_reader.proofs.TakenPieces.WordsPassed.{spaces_none, spaces_passed, spaces_word, word_inside_text}
 use Rattle.starlark_reader.proofs.reader.Reader.common_word.Goals as goal
+use Rattle.starlark_reader.proofs.reader.Reader.common_word.Goals.{then-gap-gt0, else-gap-gt0}
 
-pub range_from-requires : goal.range_from-requires
-range_from-requires c = λ some.
-    let ready = c.requires.sound.ready in
-    rw c.pass_spaces-gap.ensures.text (c.pass_spaces-gap.ensures.ahead ready.0 ready.1 (left_onward c.args.self.now.text.now c.args.self.now ready.0 ready.1 c.requires.code.stage ready.2)).is_left.1.boundary
+pub step_over-requires-clause-fits : goal.step_over-requires-clause-fits
+step_over-requires-clause-fits c =
+    let some : 0 < c.gap_len-gap.result = omega (arith, c.if-gap-gt0.true) in
+    let word = spaces_word c.args.self.now c.gap_len-gap.result c.range_from.result.now c.requires.code c.range_from.ensures.value (c.gap_len-gap.ensures.word some) (c.gap_len-gap.ensures.bang some) in
+    (word_inside_text c.args.self.now _ c.requires.sound word).1
+
+pub range_from-requires-2 : goal.range_from-requires-2
+range_from-requires-2 c = λ some.
+    let old = c.args.self.now in
+    let mid = c.if-gap-gt0.self in
+    let keeps : KeepsAhead old mid × (mid.stage ≡ stage.Onward) × (mid.text ≡ old.text) = elim c.if-gap-gt0.branch [
+      | then-gap-gt0 w ↦ let some : 0 < c.gap_len-gap.result = omega (arith, w.if-gap-gt0.true) in
+          spaces_passed old mid c.gap_len-gap.result c.requires.sound (spaces_word old c.gap_len-gap.result c.range_from.result.now c.requires.code c.range_from.ensures.value (c.gap_len-gap.ensures.word some) (c.gap_len-gap.ensures.bang some)) (rw w.self-is w.step_over.ensures)
+      | else-gap-gt0 w ↦ spaces_none old mid c.requires.code.stage w.self-is
+    ] in
+    (state_here mid (sound_after old mid keeps.2 c.requires.sound keeps.0) keeps.1).1.boundary
 
 pub returns-clause-ahead : goal.returns-clause-ahead
-returns-clause-ahead c = λ lexemes fault ahead.
-    let on = c.pass_spaces-gap.ensures.ahead lexemes fault (left_onward c.args.self.now.text.now c.args.self.now lexemes fault c.requires.code.stage ahead) in
-    reads_ahead c.args.self.now.text.now c.pass_spaces-gap.new.self c.word_after.new.reads c.pass_spaces-gap.new.self.stage lexemes fault
-    (subst (λ (s : Stage). IsAhead c.args.self.now.text.now c.pass_spaces-gap.new.self s lexemes fault) (sym c.pass_spaces-gap.ensures.same.2) on)
+returns-clause-ahead c =
+    let old = c.args.self.now in
+    let mid = c.if-gap-gt0.self in
+    let keeps : KeepsAhead old mid × (mid.stage ≡ stage.Onward) × (mid.text ≡ old.text) = elim c.if-gap-gt0.branch [
+      | then-gap-gt0 w ↦ let some : 0 < c.gap_len-gap.result = omega (arith, w.if-gap-gt0.true) in
+          spaces_passed old mid c.gap_len-gap.result c.requires.sound (spaces_word old c.gap_len-gap.result c.range_from.result.now c.requires.code c.range_from.ensures.value (c.gap_len-gap.ensures.word some) (c.gap_len-gap.ensures.bang some)) (rw w.self-is w.step_over.ensures)
+      | else-gap-gt0 w ↦ spaces_none old mid c.requires.code.stage w.self-is
+    ] in
+    λ lexemes fault ahead. reads_ahead old.text.now mid c.word_after.new.reads mid.stage lexemes fault (keeps.0 lexemes fault ahead)
 
 pub returns-clause-sound : goal.returns-clause-sound
-returns-clause-sound c = sound_after c.args.self.now (record c.pass_spaces-gap.new.self { reads = c.word_after.new.reads }) c.pass_spaces-gap.ensures.text c.requires.sound (returns-clause-ahead c)
+returns-clause-sound c =
+    let old = c.args.self.now in
+    let mid = c.if-gap-gt0.self in
+    let same : mid.text ≡ old.text = elim c.if-gap-gt0.branch [ then-gap-gt0 w ↦ search rules | else-gap-gt0 w ↦ search rules ] in
+    sound_after old (record mid { reads = c.word_after.new.reads }) same c.requires.sound (returns-clause-ahead c)

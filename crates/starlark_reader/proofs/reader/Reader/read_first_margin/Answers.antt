@@ -16,44 +16,44 @@ use Rattle.starlark_reader.proofs.reader.Reader.read_first_margin.Goals as goal
 pub take_margin-requires-clause-idle : goal.take_margin-requires-clause-idle
 take_margin-requires-clause-idle c = after_none c.args.self.now.text.now c.args.self.now.pending c.requires.idle.1
 
-pub returns-then-branch-clause-ahead : goal.returns-then-branch-clause-ahead
-returns-then-branch-clause-ahead c = λ lexemes fault so_far.
+pub returns-in-None-clause-ahead : goal.returns-in-None-clause-ahead
+returns-in-None-clause-ahead c = λ lexemes fault so_far.
     let text = c.args.self.now.text.now in
     let ahead = subst (λ (now : Stage). IsAhead text c.args.self.now now lexemes fault) c.requires.stage so_far in
     let new = c.step_over.ensures in
     let is_new = new_ahead text c.args.self.now lexemes fault ahead in
     let margin = c.margin_of-margin.ensures.margin in
-    let laid = rw c.if-branch.true at (c.in_ok-take_margin.ensures.laid [] (margin_of text) (none_open c.args.self.now.levels is_new.levels) margin) in
-    let taken = first_taken text c.args.self.now.levels c.take_margin.new.levels c.margin_of-margin.result c.take_margin.new.pending c.requires.sound.text.utf8 margin c.in_ok-take_margin.ensures.place is_new.levels laid in
-    let of : IsOfMargin 0 (margin_of (drop 0 text)).at c.args.self.now.levels c.take_margin.new.pending = rw margin.at at c.in_ok-take_margin.ensures.place in
+    let laid = rw c.in-None.is at (c.in_ok-fault.ensures.laid [] (margin_of text) (none_open c.args.self.now.levels is_new.levels) margin) in
+    let taken = first_taken text c.args.self.now.levels c.take_margin.new.levels c.margin_of-margin.result c.take_margin.new.pending c.requires.sound.text.utf8 margin c.in_ok-fault.ensures.place is_new.levels laid in
+    let of : IsOfMargin 0 (margin_of (drop 0 text)).at c.args.self.now.levels c.take_margin.new.pending = rw margin.at at c.in_ok-fault.ensures.place in
     let read = margin_taken text c.args.self.now c.step_over.new.self is_new _ c.requires.sound.text.utf8 (rw new taken) (rw new of)
     (ap (λ (reader : Reader). reader.nesting) new) (ap (λ (reader : Reader). reader.before) new) (ap (λ (reader : Reader). reader.at) new) (ap (λ (reader : Reader). reader.stage) new) in
     first_ahead text c.args.self.now c.step_over.new.self lexemes fault read c.requires.idle ahead
 
-pub returns-else-branch-clause-ahead : goal.returns-else-branch-clause-ahead
-returns-else-branch-clause-ahead c = λ lexemes fault so_far.
+pub returns-in-Some-clause-ahead : goal.returns-in-Some-clause-ahead
+returns-in-Some-clause-ahead c = λ lexemes fault so_far.
     let text = c.args.self.now.text.now in
     let ahead = subst (λ (now : Stage). IsAhead text c.args.self.now now lexemes fault) c.requires.stage so_far in
     let new = c.refuse.ensures in
     let is_new = new_ahead text c.args.self.now lexemes fault ahead in
     let margin = c.margin_of-margin.ensures.margin in
-    let left = rw c.if-branch.false at (c.in_ok-take_margin.ensures.laid [] (margin_of text) (none_open c.args.self.now.levels is_new.levels) margin) in
-    let refused = first_refused text c.args.self.now.levels c.take_margin.new.levels c.margin_of-margin.result c.take_margin.new.pending c.requires.sound.text.utf8 margin c.in_ok-take_margin.ensures.place is_new.levels
-    c.args.self.now.pending.remainder left (after_none text c.args.self.now.pending c.requires.idle.1) c.margin_fault-fault.result.0 c.margin_fault-fault.result.1 (c.margin_fault-fault.ensures (margin_of text) margin) in
-    let read = margin_refused text c.args.self.now c.refuse.new.self is_new c.margin_fault-fault.result.0 c.margin_fault-fault.result.1 (rw new refused) (ap (λ (reader : Reader). reader.stage) new) (ap (λ (reader : Reader). reader.at) new) (ap (λ (reader : Reader). reader.before) new) in
+    let left = rw c.in-Some.is at (c.in_ok-fault.ensures.laid [] (margin_of text) (none_open c.args.self.now.levels is_new.levels) margin) in
+    let refused = first_refused text c.args.self.now.levels c.take_margin.new.levels c.margin_of-margin.result c.take_margin.new.pending c.requires.sound.text.utf8 margin c.in_ok-fault.ensures.place is_new.levels
+    c.args.self.now.pending.remainder left (after_none text c.args.self.now.pending c.requires.idle.1) c.in-Some.fault c.in-Some.end ((rw c.in-Some.is at c.in_ok-fault.ensures.fault).1 (margin_of text) margin) in
+    let read = margin_refused text c.args.self.now c.refuse.new.self is_new c.in-Some.fault c.in-Some.end (rw new refused) (ap (λ (reader : Reader). reader.stage) new) (ap (λ (reader : Reader). reader.at) new) (ap (λ (reader : Reader). reader.before) new) in
     first_ahead text c.args.self.now c.refuse.new.self lexemes fault read c.requires.idle ahead
 
-pub returns-else-branch-clause-reads : goal.returns-else-branch-clause-reads
-returns-else-branch-clause-reads c = λ so_far.
+pub returns-in-Some-clause-reads : goal.returns-in-Some-clause-reads
+returns-in-Some-clause-reads c = λ so_far.
     let text = c.args.self.now.text.now in
     let has = subst (HasReadAt text c.args.self.now) c.requires.stage so_far in
     let new = c.refuse.ensures in
     let margin = c.margin_of-margin.ensures.margin in
-    let place = c.in_ok-take_margin.ensures.place in
-    first_refused_reads text c.margin_fault-fault.result.1 c.margin_of-margin.result c.margin_fault-fault.result.0 c.args.self.now c.refuse.new.self c.margin_of-margin.ensures.within margin
-    (c.margin_fault-fault.ensures (margin_of text) margin) (ap (λ (reader : Reader). reader.stage) new) (omega (arith, ap (λ (reader : Reader). reader.reads) new, c.margin_of-margin.ensures.reads.1)) (omega (arith, ap (λ (reader : Reader). owed reader.pending) new, place.from, place.to)) has
+    let place = c.in_ok-fault.ensures.place in
+    first_refused_reads text c.in-Some.end c.margin_of-margin.result c.in-Some.fault c.args.self.now c.refuse.new.self c.margin_of-margin.ensures.within margin
+    ((rw c.in-Some.is at c.in_ok-fault.ensures.fault).1 (margin_of text) margin) (ap (λ (reader : Reader). reader.stage) new) (omega (arith, ap (λ (reader : Reader). reader.reads) new, c.margin_of-margin.ensures.reads.1)) (omega (arith, ap (λ (reader : Reader). owed reader.pending) new, place.from, place.to)) has
 
-pub returns-in_err-take_margin-clause-memory : goal.returns-in_err-take_margin-clause-memory
-returns-in_err-take_margin-clause-memory c =
+pub returns-in_err-fault-clause-memory : goal.returns-in_err-fault-clause-memory
+returns-in_err-fault-clause-memory c =
     let old = c.args.self.now in
     after_error c.from_residual.result _ (λ lexemes fault ahead. begin_something old.text.now old lexemes fault c.requires.idle c.requires.stage ahead)

@@ -1,15 +1,26 @@
-use Rattle.std.proofs.Common.{◌≡◌, subst, arith, ◌+◌, ◌*◌, ap, drop, sym, take, ◌∙◌}
+use Rattle.std.proofs.Common.{◌≡◌, ◌≢◌, subst, arith, ◌+◌, ◌*◌, ℕ, ap, drop, false, refl, sym, take, true, ◌∙◌}
 use Rattle.starlark_grammar.proofs.Repairs.Faults.{opener_lost}
 use Rattle.starlark_grammar.specs.AfterFaults.{next_line}
 use Rattle.starlark_grammar.specs.Front.{language_front}
 use Rattle.starlark_grammar.specs.Pieces as grammar
+use Rattle.starlark_grammar.specs.Tokens as grammar_tokens
 use Rattle.starlark_grammar.specs.declared.class.Class.{Class}
 use Rattle.starlark_grammar.specs.declared.class.Class.TheVariants as class
 use Rattle.starlark_reader.specs.Inner.Reader.{IsWordHere}
 use Rattle.starlark_words.specs.declared.scanner.word.Word.{Word}
 use Rattle.starlark_reader.specs.Inner.Lookaheads.{IsOpened}
 use Rattle.starlark_reader.specs.Inner.Nesting.{mode_view}
-use Rattle.starlark_reader.proofs.ReadLiterals.StepReads.{split_reads}
+use Rattle.starlark_reader.proofs.ReadLiterals.LiteralPieces.{opener_literal, triple_edge}
+use Rattle.starlark_reader.proofs.ReadLiterals.StepReads.{later_reads, single_reads, split_reads, triple_reads}
+use Rattle.starlark_words.proofs.LiteralBodies.PlainBodies.{empty_run, no_run_before_quotes}
+use Rattle.starlark_words.specs.Inner.LiteralViews.{single_literal}
+use Rattle.starlark_words.specs.Inner.PlainRuns.{IsRun}
+use Rattle.starlark_words.specs.Inner.Reads.{AreReads, more_reads}
+use Rattle.starlark_reader.specs.Inner.ReadBounds.{AreWordReads}
+use Rattle.starlark_reader.specs.Inner.StepViews.{IsStep}
+use Rattle.starlark_grammar.specs.Inner.Openings.{opening_view}
+use Rattle.starlark_grammar.specs.declared.class.LiteralKind.TheVariants.{FString as OfFString}
+use Rattle.starlark_grammar.specs.declared.class.Opening.{Opening}
 use Rattle.starlark_reader.proofs.TakenMargins.Waiting.{after_error}
 use Rattle.starlark_reader.proofs.TakenPieces.CodePlaces.{word_cut}
 use Rattle.starlark_reader.proofs.TakenPieces.NextLexeme.{onward_something}
@@ -19,11 +30,68 @@ use Rattle.starlark_reader.proofs.TakenPieces.RepairReads.{no_repair}
 use Rattle.starlark_reader.proofs.TakenPieces.SameTexts.{state_here, taken_here}
 use Rattle.starlark_reader.proofs.TakenPieces.WordSteps.{literal_here, word_step_reads}
 use Rattle.starlark_reader.proofs.reader.Reader.read_literal.Goals as goal
+use Rattle.starlark_reader.proofs.reader.Reader.read_literal.Goals.{After-range_from, In_ok-step, then-opening, else-opening}
 
-pub range_from-requires : goal.range_from-requires
-range_from-requires c = λ some.
+-- two more quotes, or none, follow the opener
+two_quotes : (opening : Opening) (quotes : ℕ) → opening.is_triple ≡ true → quotes ≡ 2 → quotes ≡ grammar.more_quotes (opening_view opening)
+two_quotes opening quotes is e = rw (is, e) refl
+
+no_quotes : (opening : Opening) (quotes : ℕ) → opening.is_triple ≡ false → quotes ≡ 0 → quotes ≡ grammar.more_quotes (opening_view opening)
+no_quotes opening quotes is e = rw (is, e) refl
+
+pub range_from-remainder-requires : goal.range_from-remainder-requires
+range_from-remainder-requires c = λ some.
     let stands = subst (λ (it : Class). IsWordHere c.args.self.now.text.now c.args.self.now (record { class = it; len = c.args.opener.len })) c.in-Opener.is c.requires.found.0 in
     word_cut c.range_from-rest.result.now (class.Opener c.in-Opener.kind c.in-Opener.is_raw c.in-Opener.quote) c.args.opener.len c.range_from-rest.utf8 (ap language_front c.range_from-rest.ensures.value ∙ sym stands.front)
+
+pub range_from-requires : goal.range_from-requires
+range_from-requires c = λ some. elim c.if-opening.branch [
+  | then-opening w ↦ rw w.quotes-is (triple_edge c.range_from-remainder.result.now c.in-Opener.quote c.range_from-remainder.utf8 (sym (ap (λ (opening : grammar_tokens.Opening). opening.is_triple) c.opening_of-opening.ensures.opening) ∙ w.if-opening.true))
+  | else-opening w ↦ absurd (omega (arith, some, w.quotes-is))
+]
+
+-- the opener, and what is known of the text after it
+opened_at : (c : After-range_from) → (c.in-Opener.kind ≢ OfFString) × IsRun (single_literal c.in-Opener.kind c.in-Opener.is_raw c.in-Opener.quote) c.range_from-remainder.result.now c.args.run
+opened_at c =
+    let old = c.args.self.now in
+    rw (c.range_from-remainder.ensures.value, c.range_from-rest.ensures.value) (subst (λ (it : Class). IsOpened it (drop c.args.opener.len (drop old.at old.text.now)) c.args.run) c.in-Opener.is c.requires.found.1)
+
+pub literal_piece-requires : goal.literal_piece-requires
+literal_piece-requires c =
+    let opened = opened_at (goal.at.literal_piece-requires c).After-range_from in
+    let is = c.opening_of-opening.ensures.opening in
+    let triple = ap (λ (opening : grammar_tokens.Opening). opening.is_triple) is in
+    elim c.if-opening.branch [
+      | then-opening w ↦
+          let none = no_run_before_quotes c.in-Opener.kind c.in-Opener.is_raw c.in-Opener.quote c.range_from-remainder.result.now c.args.run opened.1 (sym triple ∙ w.if-opening.true) in
+          record { fits = omega (arith, w.quotes-is, c.range_from.ensures.len, c.range_from-remainder.ensures.len, c.range_from-rest.ensures.len); run = rw none (empty_run _ c.range_from.result.now c.range_from.utf8) }
+      | else-opening w ↦
+          record { fits = omega (arith, w.quotes-is, c.range_from.ensures.len, c.range_from-remainder.ensures.len, c.range_from-rest.ensures.len); run = rw (c.range_from.ensures.value, w.quotes-is, is, sym triple ∙ w.if-opening.false) opened.1 }
+    ]
+
+-- the step that was read
+read_step : (c : In_ok-step) → (c.in-Opener.kind ≢ OfFString) × IsRun (single_literal c.in-Opener.kind c.in-Opener.is_raw c.in-Opener.quote) c.range_from-remainder.result.now c.args.run → IsStep (grammar.opener (mode_view c.mode-mode.result) c.in-Opener.kind (grammar.opening_of c.in-Opener.is_raw c.in-Opener.quote c.range_from-remainder.result.now) c.args.opener.len c.range_from-remainder.result.now) c.in_ok-step.step
+read_step c opened =
+    let opening = c.opening_of-opening.result in
+    let more : c.if-opening.quotes ≡ grammar.more_quotes (opening_view opening) = elim c.if-opening.branch [
+      | then-opening w ↦ two_quotes opening c.if-opening.quotes w.if-opening.true w.quotes-is
+      | else-opening w ↦ no_quotes opening c.if-opening.quotes w.if-opening.false w.quotes-is
+    ] in
+    rw (← c.opening_of-opening.ensures.opening, opener_literal (mode_view c.mode-mode.result) c.in-Opener.kind (opening_view opening) c.args.opener.len c.if-opening.quotes c.range_from-remainder.result.now c.range_from.result.now opened.0 more c.range_from.ensures.value) c.in_ok-step.ensures.step
+
+-- its reads
+step_reads : (c : In_ok-step) → (c.in-Opener.kind ≢ OfFString) × IsRun (single_literal c.in-Opener.kind c.in-Opener.is_raw c.in-Opener.quote) c.range_from-remainder.result.now c.args.run → (before : ℕ) → AreReads c.args.run (8 * c.args.run) before c.args.self.now.reads → AreWordReads c.args.opener.len 9 2 0 8 c.in_ok-step.step before c.literal_piece.new.reads
+step_reads c opened = λ before read.
+    let triple = ap (λ (opening : grammar_tokens.Opening). opening.is_triple) c.opening_of-opening.ensures.opening in
+    let step = c.in_ok-step.step in
+    elim c.if-opening.branch [
+      | then-opening w ↦
+          let none = no_run_before_quotes c.in-Opener.kind c.in-Opener.is_raw c.in-Opener.quote c.range_from-remainder.result.now c.args.run opened.1 (sym triple ∙ w.if-opening.true) in
+          triple_reads c.args.opener.len step before c.opening_of-opening.new.reads _ (omega (arith, c.opening_of-opening.ensures.reads, none, read.0, read.1)) (rw w.quotes-is at (c.in_ok-step.ensures.reads c.opening_of-opening.new.reads (omega arith, omega arith)))
+      | else-opening w ↦
+          let same : c.args.opener.len + c.if-opening.quotes ≡ c.args.opener.len = omega (arith, w.quotes-is) in
+          single_reads c.args.opener.len step before (more_reads before 2) _ refl (rw same at (c.in_ok-step.ensures.reads (more_reads before 2) (rw c.opening_of-opening.ensures.reads (later_reads c.args.run (8 * c.args.run) before c.args.self.now.reads read))))
+    ]
 
 pub returns-in_err-step-clause-memory : goal.returns-in_err-step-clause-memory
 returns-in_err-step-clause-memory c = after_error c.from_residual.result _ (λ lexemes fault ahead. onward_something c.args.self.now.text.now c.args.self.now lexemes fault c.requires.found.0.idle c.requires.found.0.stage ahead)
@@ -33,11 +101,11 @@ take-requires c =
     let stands = subst (λ (it : Class). IsWordHere c.args.self.now.text.now c.args.self.now (record { class = it; len = c.args.opener.len })) c.in-Opener.is c.requires.found.0 in
     let old = c.args.self.now in
     let left = state_here old c.requires.sound c.requires.found.0.stage in
-    let remainder : c.range_from.result.now ≡ drop c.args.opener.len (drop old.at old.text.now) = c.range_from.ensures.value ∙ ap (drop c.args.opener.len) c.range_from-rest.ensures.value in
+    let remainder : c.range_from-remainder.result.now ≡ drop c.args.opener.len (drop old.at old.text.now) = c.range_from-remainder.ensures.value ∙ ap (drop c.args.opener.len) c.range_from-rest.ensures.value in
     record {
       text = c.requires.sound.text;
       stage = c.requires.found.0.stage;
-      stands = (left.0, state_reads old.text.now left.0 old c.literal_piece.new.reads left.1, literal_here old.text.now left.0 old c.in-Opener.kind c.in-Opener.is_raw c.in-Opener.quote c.args.opener.len c.mode-mode.result c.range_from.result.now c.in_ok-step.step left.1 stands c.mode-mode.ensures remainder c.in_ok-step.ensures.step);
+      stands = (left.0, state_reads old.text.now left.0 old c.literal_piece.new.reads left.1, literal_here old.text.now left.0 old c.in-Opener.kind c.in-Opener.is_raw c.in-Opener.quote c.args.opener.len c.mode-mode.result c.range_from-remainder.result.now c.in_ok-step.step left.1 stands c.mode-mode.ensures remainder (read_step (goal.at.take-requires c).In_ok-step (opened_at (goal.at.take-requires c).After-range_from)));
       idle = c.requires.found.0.idle;
     }
 
@@ -45,10 +113,10 @@ pub returns-clause-ahead : goal.returns-clause-ahead
 returns-clause-ahead c =
     let stands = subst (λ (it : Class). IsWordHere c.args.self.now.text.now c.args.self.now (record { class = it; len = c.args.opener.len })) c.in-Opener.is c.requires.found.0 in
     let old = c.args.self.now in
-    let remainder : c.range_from.result.now ≡ drop c.args.opener.len (drop old.at old.text.now) = c.range_from.ensures.value ∙ ap (drop c.args.opener.len) c.range_from-rest.ensures.value in
+    let remainder : c.range_from-remainder.result.now ≡ drop c.args.opener.len (drop old.at old.text.now) = c.range_from-remainder.ensures.value ∙ ap (drop c.args.opener.len) c.range_from-rest.ensures.value in
     taken_here old c.take.result c.take.new.self c.requires.found.0.stage c.requires.found.0.idle (λ history kept.
     c.take.ensures.read history (state_reads old.text.now history old c.literal_piece.new.reads kept)
-    (literal_here old.text.now history old c.in-Opener.kind c.in-Opener.is_raw c.in-Opener.quote c.args.opener.len c.mode-mode.result c.range_from.result.now c.in_ok-step.step kept stands c.mode-mode.ensures remainder c.in_ok-step.ensures.step))
+    (literal_here old.text.now history old c.in-Opener.kind c.in-Opener.is_raw c.in-Opener.quote c.args.opener.len c.mode-mode.result c.range_from-remainder.result.now c.in_ok-step.step kept stands c.mode-mode.ensures remainder (read_step (goal.at.returns-clause-ahead c).In_ok-step (opened_at (goal.at.returns-clause-ahead c).After-range_from))))
 
 pub returns-clause-reads : goal.returns-clause-reads
 returns-clause-reads c =
@@ -60,18 +128,12 @@ returns-clause-reads c =
     let word : Word = record { class = class.Opener c.in-Opener.kind c.in-Opener.is_raw c.in-Opener.quote; len = c.args.opener.len } in
     let front = take c.args.opener.len (drop old.at text) in
     let step = c.in_ok-step.step in
-    let remainder : c.range_from.result.now ≡ drop c.args.opener.len (drop old.at text) = c.range_from.ensures.value ∙ ap (drop c.args.opener.len) c.range_from-rest.ensures.value in
-    let is = literal_here text left.0 old c.in-Opener.kind c.in-Opener.is_raw c.in-Opener.quote c.args.opener.len c.mode-mode.result c.range_from.result.now step left.1 stands c.mode-mode.ensures remainder c.in_ok-step.ensures.step in
+    let remainder : c.range_from-remainder.result.now ≡ drop c.args.opener.len (drop old.at text) = c.range_from-remainder.ensures.value ∙ ap (drop c.args.opener.len) c.range_from-rest.ensures.value in
+    let is = literal_here text left.0 old c.in-Opener.kind c.in-Opener.is_raw c.in-Opener.quote c.args.opener.len c.mode-mode.result c.range_from-remainder.result.now step left.1 stands c.mode-mode.ensures remainder (read_step (goal.at.returns-clause-reads c).In_ok-step (opened_at (goal.at.returns-clause-reads c).After-range_from)) in
     let mode = mode_view c.mode-mode.result in
-    let opening = grammar.opening_of c.in-Opener.is_raw c.in-Opener.quote c.range_from.result.now in
+    let opening = grammar.opening_of c.in-Opener.is_raw c.in-Opener.quote c.range_from-remainder.result.now in
     let parts = split_reads c.args.opener.len c.args.run peeked.0 old.reads peeked.2 in
     word_step_reads text peeked.0 parts.0 c.literal_piece.new.reads left.0 word step old c.take.new.self left.1 stands is peeked.1 parts.1
-    (opener_reads c.args.opener.len (next_line front 0) step parts.0 c.literal_piece.new.reads (c.in_ok-step.ensures.reads parts.0 parts.2))
-    (no_repair (5 * c.args.opener.len + 3) front (grammar.opener mode c.in-Opener.kind opening c.args.opener.len c.range_from.result.now) step parts.0 c.literal_piece.new.reads c.in_ok-step.ensures.step (opener_lost mode c.in-Opener.kind opening c.args.opener.len c.range_from.result.now))
+    (opener_reads c.args.opener.len (next_line front 0) step parts.0 c.literal_piece.new.reads (step_reads (goal.at.returns-clause-reads c).In_ok-step (opened_at (goal.at.returns-clause-reads c).After-range_from) parts.0 parts.2))
+    (no_repair (5 * c.args.opener.len + 3) front (grammar.opener mode c.in-Opener.kind opening c.args.opener.len c.range_from-remainder.result.now) step parts.0 c.literal_piece.new.reads (read_step (goal.at.returns-clause-reads c).In_ok-step (opened_at (goal.at.returns-clause-reads c).After-range_from)) (opener_lost mode c.in-Opener.kind opening c.args.opener.len c.range_from-remainder.result.now))
     c.take.ensures.passed
-
-pub literal_piece-requires : goal.literal_piece-requires
-literal_piece-requires c =
-    let old = c.args.self.now in
-    let opened = subst (λ (it : Class). IsOpened it (drop c.args.opener.len (drop old.at old.text.now)) c.args.run) c.in-Opener.is c.requires.found.1 in
-    record { kind = opened.0; fits = omega (arith, c.range_from.ensures.len, c.range_from-rest.ensures.len); run = rw (c.range_from.ensures.value, c.range_from-rest.ensures.value) opened.1 }

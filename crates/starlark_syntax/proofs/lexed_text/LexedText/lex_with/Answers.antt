@@ -1,5 +1,4 @@
-use Rattle.std.proofs.Common.{arith, subst, sym, rules}
-use Rattle.starlark_grammar.specs.Words.{Text}
+use Rattle.std.proofs.Common.{arith, rules}
 use Rattle.starlark_syntax.specs.Inner.LexedTexts.{IsReadPart, IsReadPartTo, part_view}
 use Rattle.starlark_syntax.specs.declared.meetings.Meeting.{Meeting}
 use Rattle.starlark_syntax.proofs.LexedTexts.Meetings.{none_met}
@@ -14,8 +13,8 @@ exception_of-requires c =
 pub invariant_of-result : goal.invariant_of-result
 invariant_of-result c =
     let none = none_met c.args.state.now.reader.text.now _ _ c.in_ok-part.part.met (λ (meeting : Meeting). IsReadPartTo c.args.state.now.reader.text.now meeting.at (part_view c.in_ok-part.part)) c.none.ensures c.in_ok-part.ensures.met in
-    let part : IsReadPart c.text-text.result.now (part_view c.in_ok-part.part) = subst (λ (t : Text). IsReadPart t (part_view c.in_ok-part.part)) (sym c.text-text.ensures) (c.in_ok-part.ensures.part none) in
-    (rw c.text-text.ensures c.requires.lexing.0.fits, part.is_cut, part.cuts, (c.args.code_map.now, lexed_part c.args.code_map.now c.text-text.result.now c.in_ok-part.part c.in_ok-exception_of.field-0 c.in_ok-part.part.reads part c.in_ok-exception_of.ensures.exception))
+    let part : IsReadPart c.args.state.now.reader.text.now (part_view c.in_ok-part.part) = c.in_ok-part.ensures.part none in
+    (c.requires.lexing.0.fits, part.is_cut, part.cuts, (c.args.code_map.now, lexed_part c.args.code_map.now c.args.state.now.reader.text.now c.in_ok-part.part c.in_ok-exception_of.field-0 c.in_ok-part.part.reads part c.in_ok-exception_of.ensures.exception))
 
 pub returns-clause-lexed : goal.returns-clause-lexed
 returns-clause-lexed c = search (rules, none_met, lexed_part)

@@ -12,5 +12,5 @@ returns-clause-lexing c =
       c.requires.lexing.0,
       (λ on. (now.0, c.count_others.ensures.ahead state.reader.text.now _ _ now.1)),
       c.requires.lexing.2,
-      (λ on. counted_found state.reader.text.now c.count_others.result c.args.len state.reader c.count_others.new.self state.lookahead c.count_others.ensures.same c.count_others.ensures.none c.count_others.ensures.counted c.count_others.ensures.few (c.count_others.ensures.reads state.reader.text.now) (c.requires.lexing.3 c.requires.going)),
+      (λ on. counted_found state.reader.text.now c.count_others.result c.args.len state.reader c.count_others.new.self state.word state.run state.found c.count_others.ensures.same c.count_others.ensures.none c.count_others.ensures.counted c.count_others.ensures.few (c.count_others.ensures.reads state.reader.text.now) (c.requires.lexing.3 c.requires.going)),
     )

@@ -11,7 +11,7 @@ returns-in-Ok c =
     let is = rw c.in-Ok.is at c.requires.taken.ahead in
     record {
       answer = is;
-      lexing = past_lexing c.args.self.now _ _ (record c.args.self.now.lookahead { found = c.args.found }) refl c.requires.taken.text c.requires.taken.going is (rw c.in-Ok.is at c.requires.found);
+      lexing = past_lexing c.args.self.now _ _ c.args.self.now.word c.args.self.now.run c.args.found refl c.requires.taken.text c.requires.taken.going is (rw c.in-Ok.is at c.requires.found);
       after = rw c.requires.taken.going refl;
     }
 

@@ -3,6 +3,8 @@ use Rattle.starlark_grammar.specs.Reading.{outcome}
 use Rattle.starlark_grammar.specs.Words.{Text}
 use Rattle.starlark_reader.specs.Inner.Pending.{comment_lexeme}
 use Rattle.starlark_reader.specs.Inner.Reader.{IsAhead, IsAheadPast, IsWordHere, left_to_read}
+use Rattle.starlark_reader.specs.declared.reader.Reader.{Reader}
+use Rattle.starlark_reader.proofs.TakenPieces.WordsPassed.{comment_stepped, gap_passed, step_in_code, step_taken, word_inside_text}
 use Rattle.starlark_reader.proofs.TakenPieces.SameTexts.{keeps_passes}
 use Rattle.starlark_syntax.specs.Inner.LexerStates.{left_in}
 use Rattle.starlark_syntax.specs.declared.plain_lexeme.PlainKind.TheVariants as kind
@@ -20,6 +22,10 @@ returns-in-Skipped c =
     let mid = c.unnamed_word.new.self in
     let at = c.requires in
     let word = c.in-Some.word in
+    let new = c.step_over.new.self in
+    let stepped = c.step_over.ensures in
+    let sound = c.unnamed_word.ensures.sound in
+    let stands = rw c.in-Skipped.is at c.in-Some.ensures.stands in
     let same = c.unnamed_word.ensures.text in
     let looked = c.in-Some.ensures.lookahead in
     let code = c.unnamed_word.ensures.code in
@@ -29,7 +35,13 @@ returns-in-Skipped c =
     let here = subst (λ (t : Text). IsAhead t mid mid.stage (drop old.yielded_count (map shown_lexeme (outcome t).lexemes)) (outcome t).fault) (sym (ap (λ t. t.now) same)) (c.unnamed_word.ensures.ahead _ _ at.ahead) in
     let inside = word_inside mid.text.now mid _ _ word.class word.len code.stage here (sym c.in-Some.ensures.stands.front) in
     gone_from old _ mid same left
-    (word_passed (record old { reader = mid }) c.pass_gap.new.self word.len (5 * word.len + 3) c.pass_gap.ensures.text (rw same at.text) at.going (rw same at.few) at.lookahead code.stage peeked (omega (arith, inside.0)) (c.pass_gap.ensures.ahead _ _ here) c.pass_gap.ensures.code c.pass_gap.ensures.taken)
+    (word_passed (record old { reader = mid }) new word.len (5 * word.len + 3) (ap (λ (reader : Reader). reader.text) stepped) (rw same at.text) at.going (rw same at.few) at.lookahead code.stage peeked (omega (arith, inside.0)) (gap_passed mid new word.len sound stands stepped _ _ here) (step_in_code mid new _ word.len _ stands stepped) (step_taken mid new word.len _ inside.0 stepped))
+
+pub step_over-requires-clause-fits : goal.step_over-requires-clause-fits
+step_over-requires-clause-fits c = (word_inside_text c.unnamed_word.new.self c.in-Some.word c.unnamed_word.ensures.sound c.in-Some.ensures.stands).1
+
+pub step_over-requires-in-Comment-clause-fits : goal.step_over-requires-in-Comment-clause-fits
+step_over-requires-in-Comment-clause-fits c = (word_inside_text c.unnamed_word.new.self c.in-Some.word c.unnamed_word.ensures.sound c.in-Some.ensures.stands).1
 
 pub overflow_add-self : goal.overflow_add-self
 overflow_add-self c =
@@ -41,7 +53,10 @@ returns-in-Comment c =
     let old = c.args.self.now in
     let text = old.reader.text.now in
     let mid = c.unnamed_word.new.self in
-    let new = c.pass_comment.new.self in
+    let new = c.step_over-in-Comment.new.self in
+    let stepped = c.step_over-in-Comment.ensures in
+    let stands = rw c.in-Comment.is at c.in-Some.ensures.stands in
+    let comment = comment_stepped mid new c.in-Some.word.len c.unnamed_word.ensures.sound stands stepped in
     let at = c.requires in
     let word = c.in-Some.word in
     let same = c.unnamed_word.ensures.text in
@@ -50,19 +65,19 @@ returns-in-Comment c =
     let peeked = peeked_more text len len (word.len - len) (5 * word.len + 3 - len) word.len (5 * word.len + 3) old.reader mid at.read c.in-Some.ensures.lookahead (omega arith) (omega (arith, peeked_len_few (drop old.reader.at text))) in
     let here : IsAhead text mid mid.stage (left_in old) (outcome text).fault = c.unnamed_word.ensures.ahead _ _ at.ahead in
     let inside = word_inside mid.text.now mid _ _ word.class word.len code.stage (subst (λ (t : Text). IsAhead t mid mid.stage (left_in old) (outcome text).fault) (sym (ap (λ t. t.now) same)) here) (sym c.in-Some.ensures.stands.front) in
-    let is = keeps_passes old.reader mid new same c.unnamed_word.ensures.ahead (λ text. comment_lexeme text mid.at (mid.at + word.len)) c.pass_comment.ensures.ahead _ _ at.ahead in
-    let taken = c.pass_comment.ensures.taken in
+    let is = keeps_passes old.reader mid new same c.unnamed_word.ensures.ahead (λ text. comment_lexeme text mid.at (mid.at + word.len)) comment.0 _ _ at.ahead in
+    let taken = step_taken mid new word.len _ inside.0 stepped in
     let read = peeked_taken text word.len (5 * word.len + 3) word.len mid new peeked (omega arith) (omega (arith, inside.0)) (taken.1, taken.2) in
     let first = reader_boundary text mid _ _ code.stage here in
     let last = reader_boundary text new _ _ taken.2 is.2 in
-    let value = rw same at c.pass_comment.ensures.value in
+    let value = rw same at comment.1 in
     record {
-      passed = rw (c.at-self.ensures, c.at-self-in-Comment.ensures) (
+      passed = (
         plain_inside text kind.Comment mid.at new.at (mid.at + 1) new.at at.text.fits (omega (arith, inside.0, taken.1.0)) (omega (arith, inside.0, taken.1.0)) first last value last,
         subst (λ n. IsAheadPast text (comment_lexeme text mid.at n) new (left_in old) (outcome text).fault) (sym taken.1.0) is,
       );
-      lexing = past_lexing old _ _ old.lookahead (c.pass_comment.ensures.text ∙ same) at.text at.going is (nothing_kept text new old.lookahead at.lookahead (rw same at c.pass_comment.ensures.code) read);
-      after = rw (c.pass_comment.ensures.text, same, at.going) refl;
+      lexing = past_lexing old _ _ old.word old.run old.found (ap (λ (reader : Reader). reader.text) stepped ∙ same) at.text at.going is (nothing_kept text new old.word old.run old.found at.lookahead (rw same at (step_in_code mid new _ word.len _ stands stepped)) read);
+      after = rw (ap (λ (reader : Reader). reader.text) stepped, same, at.going) refl;
     }
 
 pub returns-in_default-class : goal.returns-in_default-class

@@ -1,13 +1,15 @@
-use Rattle.std.proofs.Common.{◌≡◌, ◌+◌, ◌≤◌, ◌^◌, ap, arith, rules, true, subst, sym, ◌∙◌}
+use Rattle.std.proofs.Common.{None, Ok, Some, ◌≡◌, ◌<◌, ◌+◌, ◌≤◌, ◌^◌, ap, arith, rules, true, subst, sym, ◌∙◌}
 use Rattle.starlark_grammar.specs.declared.class.Class.TheVariants as class
 use Rattle.starlark_grammar.proofs.Order.Inside.{lexemes_few}
-use Rattle.starlark_syntax.specs.Inner.LexerStates.{IsAtWord}
-use Rattle.starlark_syntax.specs.declared.lexer_state.FastPath.TheVariants as fast
+use Rattle.starlark_syntax.specs.Inner.LexerStates.{IsAtWord, left_to_pass}
 use Rattle.starlark_syntax.specs.declared.lexer_state.LexerState.{LexerState}
-use Rattle.starlark_syntax.proofs.FoundWords.{HasPassedSince, at_word, faulty_margin, found_passed, passed_since, pending_newline, plain_newline, still_going, unnamed_here, word_found}
+use Rattle.starlark_syntax.proofs.FoundWords.{HasPassedSince, at_word, faulty_margin, found_passed, passed_since, pending_newline, plain_newline, still_going, unnamed_here, word_found, word_sound}
+use Rattle.starlark_reader.specs.declared.reader.Reader.{Reader}
+use Rattle.starlark_reader.proofs.TakenPieces.WordsPassed.{gap_passed, step_in_code, step_taken, word_inside_text}
+use Rattle.starlark_syntax.proofs.LexerStates.{IsGoingOn}
 use Rattle.starlark_syntax.proofs.PlainLexemes.{waits_lexeme}
 use Rattle.starlark_syntax.proofs.LexerReads.{fault_counts, newline_counts, pending_counts}
-use Rattle.starlark_syntax.proofs.lexer_state.LexerState.next_plain.Goals.{in-Newline, in-Pending, in_default-class-via-in-Opener+in_default, in_default-class-via-in_default}
+use Rattle.starlark_syntax.proofs.lexer_state.LexerState.next_plain.Goals.{After-step_over, in-Newline, in-Pending, in_default-class-via-in-Opener+in_default, in_default-class-via-in_default}
 use Rattle.starlark_syntax.proofs.lexer_state.LexerState.next_plain.Goals as goal
 use Rattle.starlark_reader.specs.Inner.Lookaheads.{is_slow}
 
@@ -35,7 +37,7 @@ pub returns-in_default-look_further : goal.returns-in_default-look_further
 returns-in_default-look_further c =
     let passed = waits_lexeme (record c.loop-self.self { reader = c.common_word.new.self }) c.look_further.result c.look_further.new.self c.in_default-look_further.not-Layout c.look_further.ensures in
     let since = passed_since c.args.self.now c.loop-self.self c.common_word.new.self _ c.look_further.new.self c.loop-self.invariant (still_going c.loop-self.self c.loop-self.invariant.lexing (sym c.is_nothing.ensures ∙ c.if-not-is_nothing.false)) c.common_word.ensures.text passed in
-    rw c.of_waiting-in_default-look_further.ensures (record { ended = since.ended; passed = since.passed; lexing = since.lexing; after = since.after })
+    rw c.lexeme-in_default-look_further.ensures (record { ended = since.ended; passed = since.passed; lexing = since.lexing; after = since.after })
 
 pub pass_string-requires : goal.pass_string-requires
 pass_string-requires c =
@@ -55,16 +57,35 @@ loop-self-preserved-in-Passed c =
     let at = rw c.in-LineEnd.is at (at_word c.loop-self.self c.common_word.new.self c.in-Some.field-0 c.common_word.ensures.text c.loop-self.invariant.lexing (sym c.is_nothing.ensures ∙ c.if-not-is_nothing.false) c.in-Some.ensures.lookahead c.common_word.ensures.ahead c.in-Some.ensures.stands) in
     (found_passed c.args.self.now c.loop-self.self c.common_word.new.self c.take_line_end.new.self class.LineEnd c.in-Some.field-0.len c.loop-self.invariant c.common_word.ensures.text c.take_line_end.ensures.text c.common_word.ensures.onward at (rw c.in-Passed.is at (c.in-Ok.ensures.ahead _ _ at.ahead)) (c.in-Ok.ensures.code c.in-Passed.is) (c.in-Ok.ensures.taken c.in-Passed.is)).0
 
-pub loop-self-preserved : goal.loop-self-preserved
-loop-self-preserved c =
+pub step_over-requires-clause-fits : goal.step_over-requires-clause-fits
+step_over-requires-clause-fits c =
     let at = rw c.in-Skipped.is at (at_word c.loop-self.self c.common_word.new.self c.in-Some.field-0 c.common_word.ensures.text c.loop-self.invariant.lexing (sym c.is_nothing.ensures ∙ c.if-not-is_nothing.false) c.in-Some.ensures.lookahead c.common_word.ensures.ahead c.in-Some.ensures.stands) in
-    (found_passed c.args.self.now c.loop-self.self c.common_word.new.self c.pass_gap.new.self class.Skipped c.in-Some.field-0.len c.loop-self.invariant c.common_word.ensures.text c.pass_gap.ensures.text c.common_word.ensures.onward at (c.pass_gap.ensures.ahead _ _ at.ahead) c.pass_gap.ensures.code c.pass_gap.ensures.taken).0
+    (word_inside_text c.common_word.new.self _ (word_sound (record c.loop-self.self { reader = c.common_word.new.self }) _ at) at.stands).1
+
+-- the skipped piece was passed
+gap : (c : After-step_over) → IsGoingOn c.args.self.now (record c.loop-self.self { reader = c.step_over.new.self }) × (left_to_pass (record c.loop-self.self { reader = c.step_over.new.self }) < left_to_pass c.loop-self.self)
+gap c =
+    let first = c.loop-self.self in
+    let mid = c.common_word.new.self in
+    let new = c.step_over.new.self in
+    let len = c.in-Some.field-0.len in
+    let stepped = c.step_over.ensures in
+    let at = rw c.in-Skipped.is at (at_word c.loop-self.self c.common_word.new.self c.in-Some.field-0 c.common_word.ensures.text c.loop-self.invariant.lexing (sym c.is_nothing.ensures ∙ c.if-not-is_nothing.false) c.in-Some.ensures.lookahead c.common_word.ensures.ahead c.in-Some.ensures.stands) in
+    let sound = word_sound (record first { reader = mid }) _ at in
+    let some = (word_inside_text mid _ sound at.stands).0 in
+    found_passed c.args.self.now first mid new class.Skipped len c.loop-self.invariant c.common_word.ensures.text (ap (λ (reader : Reader). reader.text) stepped) c.common_word.ensures.onward at (gap_passed mid new len sound at.stands stepped _ _ at.ahead) (step_in_code mid new _ len _ at.stands stepped) (step_taken mid new len _ some stepped)
+
+pub loop-self-preserved : goal.loop-self-preserved
+loop-self-preserved c = (gap c).0
+
+pub loop-self-smaller : goal.loop-self-smaller
+loop-self-smaller c = (gap (goal.at.loop-self-smaller c).After-step_over).1
 
 pub returns-in-Fault : goal.returns-in-Fault
 returns-in-Fault c =
     let at = rw c.in-LineEnd.is at (at_word c.loop-self.self c.common_word.new.self c.in-Some.field-0 c.common_word.ensures.text c.loop-self.invariant.lexing (sym c.is_nothing.ensures ∙ c.if-not-is_nothing.false) c.in-Some.ensures.lookahead c.common_word.ensures.ahead c.in-Some.ensures.stands) in
     let passed = faulty_margin (record c.loop-self.self { reader = c.common_word.new.self }) c.in-Some.field-0.len c.take_line_end.new.self c.take_line_end.ensures.text at (c.in-Ok.ensures.reads (fault_counts c.in-Ok.line_end c.in-Fault.is)) (rw c.in-Fault.is at (c.in-Ok.ensures.ahead _ _ at.ahead)) (c.in-Ok.ensures.end c.in-Fault.is) in
-    let since = passed_since c.args.self.now c.loop-self.self c.common_word.new.self fast.Undecided _ c.loop-self.invariant (still_going c.loop-self.self c.loop-self.invariant.lexing (sym c.is_nothing.ensures ∙ c.if-not-is_nothing.false)) c.common_word.ensures.text passed in
+    let since = passed_since c.args.self.now c.loop-self.self c.common_word.new.self (Ok None) _ c.loop-self.invariant (still_going c.loop-self.self c.loop-self.invariant.lexing (sym c.is_nothing.ensures ∙ c.if-not-is_nothing.false)) c.common_word.ensures.text passed in
     record { ended = since.ended; passed = since.passed; lexing = since.lexing; after = since.after }
 
 pub overflow_add-self : goal.overflow_add-self
@@ -86,15 +107,15 @@ returns-in-LineEnd c =
     let state = record c.loop-self.self { reader = c.common_word.new.self } in
     let new = c.take_line_end.new.self in
     let len = c.in-Some.field-0.len in
-    let since : HasPassedSince c.args.self.now (fast.Passed c.of_kind-newline.result) (record c.match-line_end.self { yielded_count = c.match-line_end.self.yielded_count + 1 }) = elim c.match-line_end.branch [
+    let since : HasPassedSince c.args.self.now (Ok (Some c.new-newline.result)) (record c.match-line_end.self { yielded_count = c.match-line_end.self.yielded_count + 1 }) = elim c.match-line_end.branch [
       | in-Pending w ↦
           let is = w.in-Pending.is in
           let passed = pending_newline state len new c.take_line_end.ensures.text at c.in-Ok.ensures.cut (c.in-Ok.ensures.reads (pending_counts c.in-Ok.line_end is)) (rw is at (c.in-Ok.ensures.ahead _ _ at.ahead)) in
-          rw (w.self-is, c.of_kind-newline.ensures, c.at-begin.ensures) (passed_since c.args.self.now c.loop-self.self c.common_word.new.self _ _ c.loop-self.invariant going c.common_word.ensures.text passed)
+          rw (w.self-is, c.new-newline.ensures) (passed_since c.args.self.now c.loop-self.self c.common_word.new.self _ _ c.loop-self.invariant going c.common_word.ensures.text passed)
       | in-Newline w ↦
           let is = w.in-Newline.is in
           let passed = plain_newline state len new c.take_line_end.ensures.text at c.in-Ok.ensures.cut (c.in-Ok.ensures.reads (newline_counts c.in-Ok.line_end is)) (c.in-Ok.ensures.onward is) (rw is at (c.in-Ok.ensures.ahead _ _ at.ahead)) in
-          rw (w.self-is, c.of_kind-newline.ensures, c.at-begin.ensures) (passed_since c.args.self.now c.loop-self.self c.common_word.new.self _ _ c.loop-self.invariant going c.common_word.ensures.text passed)
+          rw (w.self-is, c.new-newline.ensures) (passed_since c.args.self.now c.loop-self.self c.common_word.new.self _ _ c.loop-self.invariant going c.common_word.ensures.text passed)
     ] in
     record { ended = since.ended; passed = since.passed; lexing = since.lexing; after = since.after }
 
@@ -106,5 +127,5 @@ returns-in_default-class c =
       | in_default-class-via-in-Opener+in_default w ↦ search rules
       | in_default-class-via-in_default w ↦ search (rules, comment)
     ] in
-    let since = passed_since c.args.self.now c.loop-self.self c.common_word.new.self fast.Undecided _ c.loop-self.invariant (still_going c.loop-self.self c.loop-self.invariant.lexing (sym c.is_nothing.ensures ∙ c.if-not-is_nothing.false)) c.common_word.ensures.text (word_found (record c.loop-self.self { reader = c.common_word.new.self }) c.in-Some.field-0 at slow) in
+    let since = passed_since c.args.self.now c.loop-self.self c.common_word.new.self (Ok None) _ c.loop-self.invariant (still_going c.loop-self.self c.loop-self.invariant.lexing (sym c.is_nothing.ensures ∙ c.if-not-is_nothing.false)) c.common_word.ensures.text (word_found (record c.loop-self.self { reader = c.common_word.new.self }) c.in-Some.field-0 at slow) in
     record { ended = since.ended; passed = since.passed; lexing = since.lexing; after = since.after }

@@ -1,9 +1,9 @@
-use Rattle.std.proofs.Common.{ap, refl, subst, sym}
+use Rattle.std.proofs.Common.{ap, arith, refl, subst, sym}
 use Rattle.std.proofs.lemmas.Result.{on_ok_weaker}
 use Rattle.starlark_grammar.specs.Words.{Text}
 use Rattle.starlark_reader.specs.Inner.ReadBounds.{HasRead}
-use Rattle.starlark_syntax.proofs.FoundWords.{word_here}
-use Rattle.starlark_syntax.proofs.LexerReads.{peeked_begun, word_inside}
+use Rattle.starlark_syntax.proofs.FoundWords.{read_next, word_here}
+use Rattle.starlark_syntax.proofs.LexerReads.{most_few, peeked_begun, word_inside}
 use Rattle.starlark_syntax.proofs.LexerStates.{given_same}
 use Rattle.starlark_syntax.proofs.lexer_state.LexerState.next_word.Goals as goal
 
@@ -18,3 +18,13 @@ item_of-requires-clause-found c =
 
 pub returns-in-Some : goal.returns-in-Some
 returns-in-Some c = given_same c.args.self.now _ c.item_of-in-Some.result c.item_of-in-Some.new.self (ap (λ t. t.now) c.take_digit-lexeme.ensures.text, refl) c.item_of-in-Some.ensures
+
+pub item_read-requires : goal.item_read-requires
+item_read-requires c =
+    let state = c.args.self.now in
+    let text = state.reader.text.now in
+    let here = word_here state c.args.word c.requires.lexing c.requires.going c.requires.found c.requires.word in
+    let few = (most_few c.args.word).1 in
+    let is = c.refuse_word-read.ensures in
+    read_next state c.refuse_word-read.new.self c.refuse_word-read.result is.text c.requires.lexing c.requires.going is.ahead is.end is.memory
+    (on_ok_weaker c.refuse_word-read.result (λ reads. reads here.2.0 here.2.1 (here.2.2.0, omega (arith, here.2.2.1, few))) is.reads)

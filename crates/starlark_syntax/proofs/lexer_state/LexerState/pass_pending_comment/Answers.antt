@@ -1,4 +1,7 @@
 use Rattle.std.proofs.Common.{◌+◌, ◌≤◌, ◌^◌, arith, refl, rules}
+use Rattle.starlark_reader.specs.Inner.Pending.{comment_lexeme}
+use Rattle.starlark_reader.specs.Inner.ReadBounds.{HasRead}
+use Rattle.starlark_reader.proofs.TakenPieces.NextLexeme.{lexeme_past}
 use Rattle.starlark_syntax.proofs.FoundWords.{one_more_fits, past_lexing}
 use Rattle.starlark_syntax.proofs.LexerReads.{all_read, found_out}
 use Rattle.starlark_syntax.proofs.PlainLexemes.{plain_inside}
@@ -13,12 +16,16 @@ overflow_add-self c =
 pub returns : goal.returns
 returns c =
     let inv = c.requires.lexing.1 c.requires.going in
-    let place = c.pass_pending_comment-begin.result in
-    let inside = c.pass_pending_comment-begin.ensures.inside in
-    let is = c.pass_pending_comment-begin.ensures.ahead _ _ inv.1 in
-    let read = all_read c.args.self.now.reader.text.now c.args.self.now.reader c.args.self.now.lookahead c.requires.all (c.requires.lexing.3 c.requires.going) in
+    let place = c.pass_comment-begin.result in
+    let inside = c.pass_comment-begin.ensures.inside in
+    let text = c.args.self.now.reader.text.now in
+    let passed = c.pass_comment-begin.ensures in
+    let new = record c.args.self.now.reader { pending = c.pass_comment-begin.new.self; reads = c.pass_comment-begin.new.reads } in
+    let is = lexeme_past text c.args.self.now.reader new (comment_lexeme text place.0 place.1) _ _ (record { at = refl; nesting = refl; levels = refl; before = refl }) refl passed.next passed.lines (λ some. passed.flat) inv.1 in
+    let read = all_read c.args.self.now.reader.text.now c.args.self.now.reader c.args.self.now.word c.args.self.now.run c.args.self.now.found c.requires.all (c.requires.lexing.3 c.requires.going) in
+    let has : HasRead text new = search (rules, read) in
     record {
       passed = (plain_inside c.args.self.now.reader.text.now kind.Comment place.0 place.1 (place.0 + 1) place.1 c.requires.lexing.0.fits (omega (arith, inside.order)) (omega (arith, inside.order)) inside.first inside.last inside.value inside.last, is);
-      lexing = past_lexing c.args.self.now _ _ (record c.args.self.now.lookahead { found = c.looked_after-self.result }) c.pass_pending_comment-begin.ensures.text c.requires.lexing.0 c.requires.going is (found_out c.args.self.now.reader.text.now c.pass_pending_comment-begin.new.self c.args.self.now.lookahead.word c.args.self.now.lookahead.run c.looked_after-self.result c.looked_after-self.ensures is.2.is_pending (c.pass_pending_comment-begin.ensures.reads read));
-      after = rw (c.pass_pending_comment-begin.ensures.text, c.requires.going) refl;
+      lexing = past_lexing c.args.self.now _ _ c.args.self.now.word c.args.self.now.run c.found_after-self.result refl c.requires.lexing.0 c.requires.going is (found_out c.args.self.now.reader.text.now new c.args.self.now.word c.args.self.now.run c.found_after-self.result c.found_after-self.ensures is.2.is_pending has);
+      after = rw c.requires.going refl;
     }

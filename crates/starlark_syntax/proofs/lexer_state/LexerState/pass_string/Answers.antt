@@ -7,6 +7,8 @@ use Rattle.starlark_grammar.specs.declared.class.LiteralKind.TheVariants as lite
 use Rattle.starlark_token.specs.TokenViews.{TokenView}
 use Rattle.starlark_reader.specs.Inner.Reader.{IsAheadPast, text_lexeme}
 use Rattle.starlark_reader.specs.declared.lookahead.Found.TheVariants as found
+use Rattle.starlark_reader.specs.declared.reader.Reader.{Reader}
+use Rattle.starlark_reader.proofs.TakenPieces.WordsPassed.{step_in_code, step_taken, string_inside, string_stepped, string_value}
 use Rattle.starlark_reader.proofs.TakenPieces.SameTexts.{keeps_passes}
 use Rattle.starlark_syntax.specs.Inner.LexerStates.{left_in}
 use Rattle.starlark_syntax.specs.declared.plain_lexeme.PlainKind.TheVariants as kind
@@ -22,6 +24,18 @@ overflow_add-self c =
     let small : c.args.self.now.yielded_count + 1 ≤ 2 ^ 34 = one_more_fits c.args.self.now at.text.fits at.few in
     search (rules, small)
 
+pub overflow_add-len-in-Ok : goal.overflow_add-len-in-Ok
+overflow_add-len-in-Ok c =
+    let looked = c.plain_body_len.ensures in
+    let inside = string_inside c.plain_body_len.new.self c.args.is_raw c.args.quote c.args.len c.in-Ok.body looked.sound looked.stands c.in-Ok.ensures.plain in
+    let small : c.args.len + c.in-Ok.body + 1 ≤ 2 ^ 34 = omega (arith, inside) in
+    search (rules, small)
+
+pub step_over-requires-clause-fits : goal.step_over-requires-clause-fits
+step_over-requires-clause-fits c =
+    let looked = c.plain_body_len.ensures in
+    omega (arith, string_inside c.plain_body_len.new.self c.args.is_raw c.args.quote c.args.len c.in-Ok.body looked.sound looked.stands c.in-Ok.ensures.plain)
+
 pub returns-in-Ok : goal.returns-in-Ok
 returns-in-Ok c =
     let text = c.args.self.now.reader.text.now in
@@ -29,25 +43,30 @@ returns-in-Ok c =
     let body = c.in-Ok.body in
     let len = c.args.len in
     let mid = c.plain_body_len.new.self in
-    let is = keeps_passes c.args.self.now.reader mid c.pass_plain_text.new.self c.plain_body_len.ensures.text c.plain_body_len.ensures.ahead (λ text. text_lexeme text mid.at len body) c.pass_plain_text.ensures.ahead _ _ at.ahead in
-    let taken = c.pass_plain_text.ensures.taken in
+    let new = c.step_over.new.self in
+    let stepped = c.step_over.ensures in
+    let sound = c.plain_body_len.ensures.sound in
+    let stands = c.plain_body_len.ensures.stands in
+    let past = ap (λ (reader : Reader). reader.text) stepped in
+    let is = keeps_passes c.args.self.now.reader mid new c.plain_body_len.ensures.text c.plain_body_len.ensures.ahead (λ text. text_lexeme text mid.at len body) (string_stepped mid c.args.is_raw c.args.quote len body sound stands c.in-Ok.ensures.plain new stepped) _ _ at.ahead in
+    let taken = step_taken mid new (len + body + 1) _ (omega arith) stepped in
     let peeked = peeked_more text len (5 * len - 2) (body + 1) (6 * body + 3) (len + body + 1) (5 * len + 6 * body + 3) c.args.self.now.reader mid at.read c.in-Ok.ensures.lookahead (omega arith) (omega arith) in
-    let read = peeked_taken text (len + body + 1) (5 * len + 6 * body + 3) (len + body + 1) mid c.pass_plain_text.new.self peeked (omega arith) (omega arith) (taken.1, taken.2) in
+    let read = peeked_taken text (len + body + 1) (5 * len + 6 * body + 3) (len + body + 1) mid new peeked (omega arith) (omega arith) (taken.1, taken.2) in
     let same : mid.at ≡ c.args.self.now.reader.at = c.in-Ok.ensures.lookahead.0 in
     let first = reader_boundary text c.args.self.now.reader _ _ at.stands.stage at.ahead in
-    let last = reader_boundary text c.pass_plain_text.new.self _ _ taken.2 is.2 in
-    let value = rw c.plain_body_len.ensures.text at c.pass_plain_text.ensures.value in
-    let to : mid.at + len + body ≡ c.pass_plain_text.new.self.at - 1 = omega (arith, taken.1.0) in
+    let last = reader_boundary text new _ _ taken.2 is.2 in
+    let value = rw c.plain_body_len.ensures.text at (string_value mid c.args.is_raw c.args.quote len body sound stands c.in-Ok.ensures.plain) in
+    let to : mid.at + len + body ≡ new.at - 1 = omega (arith, taken.1.0) in
     record {
-      passed = rw (c.at-begin.ensures, c.at-end.ensures) (
-        plain_inside text kind.String c.args.self.now.reader.at c.pass_plain_text.new.self.at (c.args.self.now.reader.at + len) (c.pass_plain_text.new.self.at - 1) at.text.fits
+      passed = (
+        plain_inside text kind.String c.args.self.now.reader.at new.at (c.args.self.now.reader.at + len) (new.at - 1) at.text.fits
             (omega (arith, same, taken.1.0)) (omega (arith, same, taken.1.0)) first last
             (subst (λ n. IsCharBoundary text (n + len)) same value.0) (subst (IsCharBoundary text) to value.1),
-        subst (λ (lexeme : Spanned TokenView). IsAheadPast text lexeme c.pass_plain_text.new.self (left_in c.args.self.now) (outcome text).fault)
-            (string_shown text c.args.self.now.reader.at mid.at len body c.pass_plain_text.new.self.at same taken.1.0) is,
+        subst (λ (lexeme : Spanned TokenView). IsAheadPast text lexeme new (left_in c.args.self.now) (outcome text).fault)
+            (string_shown text c.args.self.now.reader.at mid.at len body new.at same taken.1.0) is,
       );
-      lexing = past_lexing c.args.self.now _ _ c.args.self.now.lookahead (c.pass_plain_text.ensures.text ∙ c.plain_body_len.ensures.text) at.text at.going is (nothing_kept text c.pass_plain_text.new.self c.args.self.now.lookahead at.lookahead (rw c.plain_body_len.ensures.text at c.pass_plain_text.ensures.code) read);
-      after = rw (c.pass_plain_text.ensures.text, c.plain_body_len.ensures.text, at.going) refl;
+      lexing = past_lexing c.args.self.now _ _ c.args.self.now.word c.args.self.now.run c.args.self.now.found (past ∙ c.plain_body_len.ensures.text) at.text at.going is (nothing_kept text new c.args.self.now.word c.args.self.now.run c.args.self.now.found at.lookahead (rw c.plain_body_len.ensures.text at (step_in_code mid new _ (len + body + 1) _ stands stepped)) read);
+      after = rw (past, c.plain_body_len.ensures.text, at.going) refl;
     }
 
 pub returns-in-Err : goal.returns-in-Err
@@ -57,7 +76,7 @@ returns-in-Err c =
     let none : c.args.self.now.yielded_count + 0 ≡ c.args.self.now.yielded_count = omega (arith) in
     record {
       passed = record { some = λ e. cc; end = λ e. cc };
-      lexing = same_lexing text (record c.args.self.now { reader = c.plain_body_len.new.self; lookahead = record { found = found.Literal; word = record { class = class.Opener literal.Text c.args.is_raw c.args.quote; len = c.args.len }; run = c.in-Err.run' } }) (ap (λ t. t.now) c.plain_body_len.ensures.text) (
+      lexing = same_lexing text (record c.args.self.now { reader = c.plain_body_len.new.self; found = found.Literal; word = record { class = class.Opener literal.Text c.args.is_raw c.args.quote; len = c.args.len }; run = c.in-Err.run' }) (ap (λ t. t.now) c.plain_body_len.ensures.text) (
         at.text,
         (λ on. (at.few, c.plain_body_len.ensures.ahead _ _ at.ahead)),
         at.going,

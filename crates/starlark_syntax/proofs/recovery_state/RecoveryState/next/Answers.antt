@@ -16,7 +16,9 @@ pub returns-in_err-item-clause-recovering : goal.returns-in_err-item-clause-reco
 returns-in_err-item-clause-recovering c = search (rules, advanced, nothing_recovering)
 
 pub returns-in_err-item-clause-next : goal.returns-in_err-item-clause-next
-returns-in_err-item-clause-next c = search (rules, advanced, nothing_next)
+returns-in_err-item-clause-next c =
+    let e = rw c.in_err-item.was at (advanced (goal.at.returns-in_err-item-clause-next c).After-next_item) in
+    rw c.from_residual.ensures (nothing_next c.args.self.now e.recovering c.next_item.new.self (λ on. (e.ended on).1) e.found e.lexing e.count e.ends e.own)
 
 pub returns-clause-next : goal.returns-clause-next
 returns-clause-next c = c.answer.ensures.next c.args.self.now (rw c.in_ok-item.was at (advanced (goal.at.returns-clause-next c).After-next_item))

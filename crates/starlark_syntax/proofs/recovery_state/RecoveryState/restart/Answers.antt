@@ -21,4 +21,4 @@ returns c = λ found stopped raw loses.
     subst (λ (t : Text). HasPassed old.code_map t old.begin found c.in-Ok.passed) c.as_str-mended.ensures (c.in-Ok.ensures.passed found raw) in
     let begun : IsBegun (drop c.in-Ok.passed.begin old.mended.text.now) c.new.result =
     subst (λ (t : Text). IsBegun t c.new.result) (c.range_from.ensures.value ∙ ap (λ (t : Text). drop c.in-Ok.passed.begin t) c.text.ensures) c.new.ensures.begun in
-    lost_on old found stopped c.in-Ok.passed passed loses c.new.result c.saturating_add-self.result begun (omega (arith, c.reads.ensures, c.saturating_add-reads.ensures, c.saturating_add-self.ensures))
+    lost_on old found stopped c.in-Ok.passed passed loses c.new.result c.saturating_add-self.result begun (omega (arith, c.count.ensures, c.saturating_add-reads.ensures, c.saturating_add-self.ensures))

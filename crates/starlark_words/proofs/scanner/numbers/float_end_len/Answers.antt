@@ -1,25 +1,25 @@
 -- A fraction goes before an exponent.
-use Rattle.std.proofs.Common.{refl, sym, ◌∙◌, arith}
-use Rattle.starlark_words.proofs.Scan.ScannedNumbers.{exponent_none, float_end, first_some_some, fraction_none}
+use Rattle.std.proofs.Common.{◌≡◌, drop, refl, sym, ◌∙◌, arith, false, true}
+use Rattle.std.proofs.lemmas.List.{take_rest}
+use Rattle.starlark_grammar.specs.Words.{begins, is_point}
+use Rattle.starlark_words.proofs.LiteralBodies.DigitRuns.{decimal_same}
+use Rattle.starlark_words.proofs.Scan.ScannedNumbers.{float_end, fraction_none, fraction_some}
 use Rattle.starlark_words.proofs.scanner.numbers.float_end_len.Goals as goal
-
-pub returns-in-46-clause-value : goal.returns-in-46-clause-value
-returns-in-46-clause-value c =
-    sym (float_end c.args.text.now ∙ rw (← c.fraction_len.ensures.value) (first_some_some c.fraction_len.result _ (omega (arith, c.fraction_len.ensures.some))))
-
-pub returns-in-101-clause-value : goal.returns-in-101-clause-value
-returns-in-101-clause-value c =
-    let no_point = fraction_none c.args.text.now (search arith) in
-    sym (float_end c.args.text.now ∙ rw (no_point, ← c.exponent_from.ensures.value) refl)
+use Rattle.starlark_words.proofs.scanner.numbers.float_end_len.Goals.{in_default-via-then-text-lt1, in_default-via-else-text-lt1+in_default-1}
 
 pub returns-in_default-clause-value : goal.returns-in_default-clause-value
 returns-in_default-clause-value c =
-    let no_point = fraction_none c.args.text.now (search arith) in
-    let no_letter = exponent_none c.args.text.now (search arith) in
-    sym (float_end c.args.text.now ∙ rw (no_point, no_letter) refl)
+    let no_point : begins is_point c.args.text.now ≡ false = elim c.in_default.branch [
+      | in_default-via-then-text-lt1 w ↦ search arith
+      | in_default-via-else-text-lt1+in_default-1 w ↦ search arith
+    ] in
+    sym (float_end c.args.text.now ∙ rw (fraction_none c.args.text.now no_point, ← c.exponent_len.ensures.value) refl)
 
-pub returns-in_default-2-clause-value : goal.returns-in_default-2-clause-value
-returns-in_default-2-clause-value c =
-    let no_point = fraction_none c.args.text.now (search arith) in
-    let no_letter = exponent_none c.args.text.now (search arith) in
-    sym (float_end c.args.text.now ∙ rw (no_point, no_letter) refl)
+pub returns-clause-value : goal.returns-clause-value
+returns-clause-value c =
+    let point : begins is_point c.args.text.now ≡ true = search arith in
+    let digits = (rw take_rest at c.digits_len-digits.ensures.value) ∙ decimal_same (drop 1 c.args.text.now) in
+    let exponent = rw (take_rest, take_rest) at c.exponent_len-2.ensures.value in
+    let whole = rw (fraction_some c.args.text.now point) at (float_end c.args.text.now) in
+    let counted = rw (← digits, ← exponent) at whole in
+    omega (arith, counted)
