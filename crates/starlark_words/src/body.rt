@@ -7,7 +7,7 @@ ghost use Rattle.starlark_words.specs.Inner.LiteralViews.{IsBody, IsCharacters, 
 ghost use Rattle.starlark_words.specs.Inner.PlainRuns.{IsRun};
 ghost use Rattle.starlark_words.specs.Inner.Reads.{AreReads};
 
-use super::escapes::simple_escape;
+use super::escapes::{is_kept_pair, simple_escape};
 use super::items::{Found, Literal, Stop, Value, found_at};
 use super::runs::first_run;
 use crate::reads::{ReadCounter, uncounted_front};
@@ -107,26 +107,30 @@ fn read_text_body(
     ensures reads { IfOk result (λ body. AreReads (body.len - run + least_stop_reads body.stop) (8 * (body.len - run) + stopped_len body.stop + 6) reads.old reads.new) }
 {
     let mut decoded = String::new(alloc);
-    if run > 0 {
-        let front = uncounted_front(text[run..].as_bytes(), FRONT_LEN);
-        append_run(&mut decoded, &text[..run], front)?;
-    }
+    let mut copied = 0;
     let mut len = run;
     loop {
         let run = first_run(reads, FRONT_LEN, literal, &text[len..]);
         len += run.len();
         let rest = &text[len..];
         let front = uncounted_front(rest.as_bytes(), FRONT_LEN);
-        append_run(&mut decoded, run, front)?;
-        if let Some(character) = simple_escape(literal, front) {
+        if is_kept_pair(literal, front) {
+            len += 2;
+            continue;
+        }
+        let simple = simple_escape(literal, front);
+        append_run(&mut decoded, &text[copied..len], front)?;
+        if let Some(character) = simple {
             decoded.push(character)?;
             len += 2;
+            copied = len;
             continue;
         }
         match found_at(reads, literal, front, rest) {
             Found::Goes { len: more, value } => {
                 append_to_text(&mut decoded, value)?;
                 len += more;
+                copied = len;
             }
             Found::Stops(stop) => {
                 let value = LiteralValue::Text(decoded);

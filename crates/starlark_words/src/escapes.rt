@@ -11,12 +11,13 @@ ghost use Rattle.starlark_words.specs.Inner.LiteralViews.{IsCharacters, IsText, 
 ghost use Rattle.starlark_words.specs.Inner.Reads.{AreReads, more_reads};
 ghost use Rattle.starlark_grammar.specs.Words.{Text, is_octal_digit};
 
-use super::items::{Found, Literal, Stop, Value, after_first, part};
+use super::items::{Found, Literal, Stop, Value, after_first, drops_backslash, part};
 use crate::reads::{ReadCounter, uncounted_front};
 use starlark_grammar::class::LiteralKind;
 
 /// A bad escape that is broken off after `good` bytes: the character after them is the last one
 /// read.
+#[inline(always)]
 fn broken<'a>(reads: &mut ReadCounter, good: usize, remainder: &str) -> Found<'a>
     requires { good ≤ 10 }
     ensures value { found_view result ≡ grammar.broken good remainder.now }
@@ -32,6 +33,7 @@ fn broken<'a>(reads: &mut ReadCounter, good: usize, remainder: &str) -> Found<'a
 }
 
 /// The escape of `len` bytes for the byte or the character of a number; a bad one if there is none.
+#[inline(always)]
 fn numbered<'a>(len: usize, is_byte: bool, number: u32) -> Found<'a>
     requires { len ≤ 10 }
     ensures value { found_view result ≡ grammar.numbered len is_byte number }
@@ -73,6 +75,7 @@ fn digits(bytes: &[u8], radix: u32) -> (usize, u32)
 
 /// The escape of exactly `wanted` hexadecimal digits. `text` begins after its letter `x`, `u` or
 /// `U`.
+#[inline(always)]
 fn hexadecimal<'a>(reads: &mut ReadCounter, wanted: usize, is_byte: bool, text: &str) -> Found<'a>
     requires least { 1 ≤ wanted }
     requires most { wanted ≤ 8 }
@@ -89,6 +92,7 @@ fn hexadecimal<'a>(reads: &mut ReadCounter, wanted: usize, is_byte: bool, text: 
 }
 
 /// The escape of one to three octal digits. `text` begins with them.
+#[inline(always)]
 fn octal<'a>(reads: &mut ReadCounter, is_byte: bool, text: &str) -> Found<'a>
     requires { is_octal_digit (get_or text.now 0 0) ≡ true }
     ensures value { found_view result ≡ grammar.octal is_byte text.now }
@@ -101,6 +105,7 @@ fn octal<'a>(reads: &mut ReadCounter, is_byte: bool, text: &str) -> Found<'a>
 }
 
 /// The escape of a CR LF, which is empty; a bad one if no LF follows. `remainder` begins after the CR.
+#[inline(always)]
 fn escaped_newline<'a>(reads: &mut ReadCounter, remainder: &str) -> Found<'a>
     ensures value { found_view result ≡ grammar.escaped_newline remainder.now }
     ensures text { IsText result }
@@ -112,12 +117,13 @@ fn escaped_newline<'a>(reads: &mut ReadCounter, remainder: &str) -> Found<'a>
     }
 }
 
-// For each byte the character that a backslash before it stands for, or `.` if it is none of one byte.
+// For each byte the character that a backslash before it stands for. Before `-` a backslash stays, and
+// `.` is any other byte.
 static SIMPLE: [u8; 256] = *b"\
-    ................................\
-    ..\"....'........................\
-    ............................\\...\
-    .\x07\x08...\x0c.......\n...\r.\t.\x0b.........\
+    ----------.--.------------------\
+    --\"----'--------........--------\
+    ---------------------.------\\---\
+    -\x07\x08---\x0c-------\n---\r-\t.\x0b-.-------\
     ................................\
     ................................\
     ................................\
@@ -133,6 +139,7 @@ fn simple_value(byte: u8) -> Option<char>
 {
     match SIMPLE[byte as usize] {
         b'.' => None,
+        b'-' => None,
         value => Some(char::from(value)),
     }
 }
@@ -151,6 +158,25 @@ pub(crate) fn simple_escape(literal: Literal, front: &[u8]) -> Option<char>
         return None;
     }
     simple_value(*second)
+}
+
+/// Whether the item at the start of the rest of a body has two bytes and stays as it is, such as `\w`.
+///
+/// `front` is the first three bytes of the rest, read already.
+#[inline(always)]
+pub(crate) fn is_kept_pair(literal: Literal, front: &[u8]) -> bool
+    ensures { result ≡ true → (text : Text) → front.now ≡ take 3 text → grammar.found_at (literal_view literal) text ≡ grammar.goes 2 (take 2 text) }
+{
+    let [first, second, ..] = front else {
+        return false;
+    };
+    if *first != b'\\' {
+        return false;
+    }
+    if literal.opening.is_raw {
+        return second.is_ascii() && !drops_backslash(literal.kind, literal.opening.quote, *second);
+    }
+    SIMPLE[*second as usize] == b'-'
 }
 
 /// The escape at the start of a text, which begins with its backslash: an item, or a bad escape.

@@ -104,7 +104,7 @@ pub(crate) fn closes(opening: Opening, text: &[u8]) -> bool
 }
 
 /// Whether a raw literal drops a backslash before the given byte.
-fn drops_backslash(kind: LiteralKind, quote: Quote, byte: u8) -> bool
+pub(crate) fn drops_backslash(kind: LiteralKind, quote: Quote, byte: u8) -> bool
     ensures { result ≡ grammar.drops_backslash kind quote byte }
 {
     match kind {

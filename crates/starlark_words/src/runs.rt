@@ -65,31 +65,21 @@ fn short_run_len(literal: Literal, bytes: &[u8]) -> usize
 
 /// Length of the run at the start of the 16 bytes from `at` on; 16 if it fills them. The caller has
 /// to count the reads.
-///
-/// Where an LF or a brace doesn't end a run, it is looked for as the quote: six comparisons serve all
-/// literals.
 #[inline(always)]
 fn lanes_run_len(literal: Literal, bytes: &[u8], at: usize) -> usize
     requires { at + 16 ≤ length bytes.now }
     ensures value { result ≡ prefix_len (is_in_run (literal_view literal)) (take 16 (drop at bytes.now)) }
 {
-    let quote = quote_byte(literal.opening.quote);
-    let feed = if literal.opening.is_triple {
-        quote
-    } else {
-        b'\n'
-    };
-    let (opening_brace, closing_brace) = match literal.kind {
-        LiteralKind::FString => (b'{', b'}'),
-        _ => (quote, quote),
-    };
     let lanes = u8x16::from_slice(&bytes[at..]);
-    let ends = lanes.simd_eq(u8x16::splat(quote))
-        | lanes.simd_eq(u8x16::splat(feed))
-        | lanes.simd_eq(u8x16::splat(opening_brace))
-        | lanes.simd_eq(u8x16::splat(closing_brace))
+    let mut ends = lanes.simd_eq(u8x16::splat(quote_byte(literal.opening.quote)))
         | lanes.simd_eq(u8x16::splat(b'\\'))
         | lanes.simd_eq(u8x16::splat(b'\r'));
+    if !literal.opening.is_triple {
+        ends = ends | lanes.simd_eq(u8x16::splat(b'\n'));
+    }
+    if literal.kind == LiteralKind::FString {
+        ends = ends | (lanes.simd_eq(u8x16::splat(b'{')) | lanes.simd_eq(u8x16::splat(b'}')));
+    }
     lowest_bit(ends.to_bitmask())
 }
 

@@ -1,9 +1,13 @@
 -- A round of reading a body: a run, and after it an item or the stop.
-use Rattle.std.proofs.Common.{◌≡◌, ℕ, ◌+◌, ◌++◌, ◌≤◌, length, take, drop, refl, ap, sym, subst, arith}
-use Rattle.std.proofs.lemmas.List.{length-drop, length-take}
+use Rattle.std.proofs.Common.{◌≡◌, ℕ, ◌+◌, ◌-◌, ◌++◌, ◌≤◌, ◌∙◌, length, take, drop, refl, ap, sym, subst, arith}
+use Rattle.std.proofs.Math.Nat.{sub_self}
+use Rattle.std.proofs.Math.Seq.{take-add}
+use Rattle.std.proofs.lemmas.List.{append_assoc, append-nil, length-drop, length-take, length-take-le}
+use Rattle.std.proofs.lemmas.List.Sums.{prefix_len-le-length}
 use Rattle.std.proofs.lemmas.Str.{IsUtf8-drop}
 use Rattle.std.specs.List.{prefix_len}
 use Rattle.std.specs.Str.{IsCharBoundary, IsUtf8}
+use Rattle.starlark_grammar.proofs.Lists.{drop-sum}
 use Rattle.starlark_grammar.proofs.Order.Edges.{boundary_shift}
 use Rattle.starlark_grammar.specs.Items.{Literal, Item, Stop, Goes, Stops, found_at, body_at, body_len, body_value}
 use Rattle.starlark_grammar.specs.Words.{Text}
@@ -57,3 +61,48 @@ pub run_stops : (literal : Literal) (text : Text) (at : ℕ) (denoted rest : Tex
     → (at ≡ body_len (body_at literal text)) × (denoted ≡ body_value (body_at literal text)) × (stop ≡ (body_at literal text).stop)
 run_stops literal text at denoted rest stop after e =
     front_stops literal text at denoted stop after.front (subst (λ (t : Text). found_at literal t ≡ Stops stop) after.remainder e)
+
+-- the part of a text from `copied` to `len`, and n bytes more
+more_uncopied : (text : Text) (copied len n : ℕ) → copied ≤ len → take (len - copied) (drop copied text) ++ take n (drop len text) ≡ take (len + n - copied) (drop copied text)
+more_uncopied text copied len n inside =
+    ap (λ (t : Text). take (len - copied) (drop copied text) ++ take n t) (ap (λ i. drop i text) whole ∙ drop-sum copied (len - copied) text)
+    ∙ sym (take-add (len - copied) n (drop copied text)) ∙ ap (λ i. take i (drop copied text)) more
+  where
+    whole : len ≡ copied + (len - copied)
+    whole = omega (arith, inside)
+
+    more : len - copied + n ≡ len + n - copied
+    more = omega (arith, inside)
+
+-- what a front denotes, of which only a part is copied, and n bytes more that denote themselves
+uncopied : (text decoded : Text) (copied len n : ℕ) → copied ≤ len → (decoded ++ take (len - copied) (drop copied text)) ++ take n (drop len text) ≡ decoded ++ take (len + n - copied) (drop copied text)
+uncopied text decoded copied len n inside =
+    append_assoc decoded (take (len - copied) (drop copied text)) (take n (drop len text)) ∙ ap (λ (t : Text). decoded ++ t) (more_uncopied text copied len n inside)
+
+run_taken : (literal : Literal) (rest run : Text) → run ≡ take (prefix_len (is_in_run literal) rest) rest → run ≡ take (length run) rest
+run_taken literal rest run same =
+    let n = prefix_len (is_in_run literal) rest in
+    same ∙ ap (λ k. take k rest) (sym (ap (λ (t : Text). length t) same ∙ length-take-le n rest (prefix_len-le-length (is_in_run literal) rest)))
+
+-- after a run that isn't copied yet
+pub after_uncopied : (literal : Literal) (text rest decoded : Text) (copied len : ℕ) (run onward : Text) → IsUtf8 text → copied ≤ len → IsCharBoundary text len → IsFront literal text len (decoded ++ take (len - copied) (drop copied text))
+    → rest ≡ drop len text → run ≡ take (prefix_len (is_in_run literal) rest) rest → IsCharBoundary rest (length run) → onward ≡ drop (len + length run) text
+    → IsAfterRun literal text (len + length run) (decoded ++ take (len + length run - copied) (drop copied text)) onward
+after_uncopied literal text rest decoded copied len run onward utf8 inside boundary front remainder same edge onward_is =
+    let so_far : Text = decoded ++ take (len - copied) (drop copied text) in
+    let taken : run ≡ take (length run) (drop len text) = run_taken literal rest run same ∙ ap (take (length run)) remainder in
+    subst (λ (t : Text). IsAfterRun literal text (len + length run) t onward) (ap (λ (t : Text). so_far ++ t) taken ∙ uncopied text decoded copied len (length run) inside)
+    (after_run literal text rest len so_far run onward utf8 boundary front remainder same edge onward_is)
+
+-- an item that stays as it is isn't copied either
+pub uncopied_item : (literal : Literal) (text rest decoded : Text) (copied at n : ℕ) → copied ≤ at → IsAfterRun literal text at (decoded ++ take (at - copied) (drop copied text)) rest
+    → found_at literal rest ≡ Goes (record { len = n; value = take n rest }) → IsFront literal text (at + n) (decoded ++ take (at + n - copied) (drop copied text))
+uncopied_item literal text rest decoded copied at n inside after e =
+    let so_far : Text = decoded ++ take (at - copied) (drop copied text) in
+    subst (IsFront literal text (at + n)) (ap (λ (t : Text). so_far ++ take n t) after.remainder ∙ uncopied text decoded copied at n inside)
+    (front_item literal text at so_far rest (record { len = n; value = take n rest }) after e)
+
+-- where all is copied
+pub all_copied : (literal : Literal) (text decoded denoted : Text) (len : ℕ) → decoded ≡ denoted → IsFront literal text len denoted → IsFront literal text len (decoded ++ take (len - len) (drop len text))
+all_copied literal text decoded denoted len same front =
+    subst (IsFront literal text len) (sym (ap (λ k. decoded ++ take k (drop len text)) (sub_self len) ∙ append-nil decoded ∙ same)) front
