@@ -133,7 +133,7 @@ fn margin_spaces_len(text: &[u8]) -> usize
     len
 }
 
-/// The margin of `spaces` spaces and the CRs after them, if a blank line has these alone.
+/// The margin of `spaces` spaces and one or two CRs after them, if a blank line has these alone.
 #[inline(always)]
 fn blank_margin(text: &[u8], spaces: usize) -> Option<Margin>
     requires spaces { spaces ≡ prefix_len (nat_eq 32) text.now }
@@ -143,12 +143,12 @@ fn blank_margin(text: &[u8], spaces: usize) -> Option<Margin>
     ensures plain { IfSome result (λ found. (found.at ≡ 0) × (found.is_content ≡ false) × (found.blanks ≤ length text.now)) }
 {
     let mut len = spaces + 1;
-    // The first test is for lines with one CR, which are most (3 % of blank lines). An iterator in
-    // place of the loop takes 0.7 % of deep indentation.
+    // The first test is for lines with one CR, which are most (3 % of blank lines).
     if len < text.len() && text[len] != b'\n' {
-        while len < text.len() && text[len] == b'\r' {
-            len += 1;
+        if text[len] != b'\r' {
+            return None;
         }
+        len += 1;
         if len < text.len() && text[len] != b'\n' {
             return None;
         }
@@ -162,8 +162,8 @@ fn blank_margin(text: &[u8], spaces: usize) -> Option<Margin>
     })
 }
 
-/// The margin at the start of a text if it is spaces alone, or those and the CRs of a blank line.
-/// The caller has to count the reads.
+/// The margin at the start of a text if it is spaces alone, or those and one or two CRs of a blank
+/// line. The caller has to count the reads.
 #[inline(always)]
 pub(crate) fn plain_margin(text: &str) -> Option<Margin>
     ensures margin { IfSome result (λ found. IsMargin (grammar.margin_of text.now) found) }
@@ -191,9 +191,6 @@ pub(crate) fn plain_margin(text: &str) -> Option<Margin>
     }
     if next == b'\r' {
         return blank_margin(bytes, spaces);
-    }
-    if next == b'"' {
-        return Some(Margin::of_spaces(spaces));
     }
     None
 }

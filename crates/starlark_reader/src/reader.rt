@@ -4,6 +4,7 @@ ghost use Rattle.std.specs.Prelude.{◌&&◌, ◌≡◌, ◌≢◌, true, false,
 ghost use Rattle.std.specs.List.{ends_with};
 ghost use Rattle.std.specs.Str.{IsCharBoundary};
 ghost use Rattle.starlark_words.specs.Inner.Reads.{AreReads, more_reads};
+ghost use Rattle.starlark_reader.specs.Inner.StepViews as steps;
 ghost use Rattle.starlark_reader.specs.Inner.StepViews.{IsDigitAt, IsFaultWord, IsStep, text_step};
 ghost use Rattle.starlark_token.specs.Lexemes.{shown_lexeme};
 ghost use Rattle.starlark_words.specs.Inner.LiteralViews.{IsPlainBody, single_literal};
@@ -16,8 +17,8 @@ ghost use Rattle.starlark_grammar.specs.declared.class.Class.TheVariants as clas
 ghost use Rattle.starlark_grammar.specs.declared.class.LiteralKind.TheVariants as kind;
 ghost use Rattle.starlark_reader.specs.Inner.Pending.{IsCommentIn, IsIdle, IsMark, IsPending, comment_lexeme, owed, pending_lexemes};
 ghost use Rattle.starlark_reader.specs.Inner.MarginCuts.{IsCutBefore};
-ghost use Rattle.starlark_reader.specs.Inner.ReadBounds.{HasStarted, HasLooked, HasLookedHere, HasRead, HasReadAt, HasReadLast, IsMarginRead, IsPassed, IsPassedBy, IsTaken};
-ghost use Rattle.starlark_reader.specs.Inner.Reader.{HasSomething, IsText, IsAtLineEnd, IsAtStep, IsLineEndStep, IsSound, KeepsAhead, PassesNext, Takes, TakesNext, has_read_none, is_begin, is_fault, is_onward, IsAhead, IsAheadAfter, IsAtCode, IsBangHere, IsInCode, IsInFlatMargin, IsReached, IsStateAfter, IsStateAtFault, IsAtEnd, IsLast, IsPlainTextHere, IsRead, IsReadPast, IsReady, IsTokenOf, IsWordHere, before_view, chunk_lexemes, fstring_text_lexeme, left_here, left_to_read, name_lexeme, newline_of, step_here, text_lexeme};
+ghost use Rattle.starlark_reader.specs.Inner.ReadBounds.{HasStarted, HasLooked, HasLookedHere, HasRead, HasReadAt, HasReadLast, IsMarginRead, IsPassedBy, IsTaken};
+ghost use Rattle.starlark_reader.specs.Inner.Reader.{HasSomething, IsText, IsAtLineEnd, IsAtStep, IsLineEndStep, IsSound, KeepsAhead, PassesNext, Takes, TakesNext, has_read_none, is_fault, IsAhead, IsAheadAfter, IsAtCode, IsBangHere, IsInCode, IsInFlatMargin, IsReached, IsStateAfter, IsStateAtFault, IsAtEnd, IsLast, IsPlainTextHere, IsRead, IsReadPast, IsReady, IsTokenOf, IsWordHere, before_view, chunk_lexemes, fstring_text_lexeme, left_here, left_to_read, name_lexeme, newline_of, step_here, text_lexeme};
 ghost use Rattle.starlark_reader.specs.Inner.PieceViews.{IsLineEnd};
 ghost use Rattle.starlark_reader.specs.Inner.Lookaheads.{HasPeeked, IsFound, IsTextRun};
 ghost use Rattle.starlark_grammar.specs.Cuts.{is_layout, is_settled};
@@ -34,7 +35,7 @@ ghost use Rattle.starlark_grammar.specs.Words.{Text, begins, is_name_start};
 
 use crate::indent_stack::IndentStack;
 use crate::literal::{
-    Chunk, Opening, Step, chunk_from, literal_piece, opening_of, plain_text, quotes_of,
+    Chunk, Opening, chunk_from, literal_piece, opening_of, plain_text, quotes_of,
 };
 use crate::lookahead::Found;
 use crate::margins::{Margin, margin_of, plain_margin};
@@ -295,10 +296,10 @@ impl<'a> Reader<'a> {
     /// Takes a token of `len` bytes that begins no f-string, and returns it with its span.
     #[inline(always)]
     fn take_token(&mut self, token: Token, len: usize) -> (usize, Token, usize)
-        requires { IsAtStep self.old (λ history found. IsStep found (Step.Token token len)) }
+        requires { IsAtStep self.old (λ history found. IsStep found (steps.Token token len)) }
         ensures text { self.new.text ≡ self.old.text }
         ensures token { result.1 ≡ token }
-        ensures read { Takes self.old (λ history found. IsStep found (Step.Token token len)) (Some result) self.new }
+        ensures read { Takes self.old (λ history found. IsStep found (steps.Token token len)) (Some result) self.new }
         ensures taken { IsTaken len self.old self.new }
         ensures onward { IsInCode self.new → IsAtCode self.old.text.now self.new }
         ensures stays { keeps_nesting (token_view token) ≡ true → IsInCode self.old → IsInCode self.new }
@@ -344,30 +345,6 @@ impl<'a> Reader<'a> {
         self.nesting.pass(&token);
         self.step_to(end, Before::Other);
         (begin, token, end)
-    }
-
-    /// Takes a step, and returns its first token. Stops at a fault, and returns `None`.
-    #[inline(always)]
-    fn take(&mut self, step: Step) -> Option<(usize, Token, usize)>
-        requires { IsAtStep self.old (λ history found. IsStep found step) }
-        ensures text { self.new.text ≡ self.old.text }
-        ensures read { Takes self.old (λ history found. IsStep found step) result self.new }
-        ensures end { result ≡ None → IsAtEnd self.old.text.now self.new }
-        ensures passed { IsPassed self.old step self.new }
-    {
-        match step {
-            Step::Token { token, len } => Some(self.take_token(token, len)),
-            Step::Text { value, chunk } if value.is_empty() => Some(self.take_chunk_end(chunk)),
-            Step::Text { value, chunk } => {
-                let begin = self.at;
-                self.pass_chunk(chunk);
-                Some((begin, Token::FStringText(value), begin + chunk.len))
-            }
-            Step::Fault { begin, fault, end } => {
-                self.refuse(begin, fault, end);
-                None
-            }
-        }
     }
 
     /// Whether the text, which was read to its end, is a clean cut. A read of its last byte is counted.
@@ -473,11 +450,8 @@ impl<'a> Reader<'a> {
                 (LexemeError::ReservedKeyword(text), word.len)
             }
         };
-        Ok(self.take(Step::Fault {
-            begin: 0,
-            fault,
-            end,
-        }))
+        self.refuse(0, fault, end);
+        Ok(None)
     }
 
     /// Reads what is here, where no word begins: a bang, or a fault.
@@ -498,11 +472,8 @@ impl<'a> Reader<'a> {
         let rest = &self.text[self.at..];
         let end = self.reads.character_len(rest);
         let fault = LexemeError::InvalidInput(String::from_str(self.alloc, &rest[..end])?);
-        Ok(self.take(Step::Fault {
-            begin: 0,
-            fault,
-            end,
-        }))
+        self.refuse(0, fault, end);
+        Ok(None)
     }
 
     /// The fault after the last lexeme, between two offsets, if the text has one. It is returned only
@@ -849,7 +820,7 @@ impl<'a> Reader<'a> {
         let remainder = &rest[opener.len..];
         let opening = opening_of(&mut self.reads, is_raw, quote, remainder);
         let quotes = if opening.is_triple { 2 } else { 0 };
-        let step = literal_piece(
+        let found = literal_piece(
             &mut self.reads,
             self.alloc,
             mode,
@@ -858,7 +829,13 @@ impl<'a> Reader<'a> {
             run,
             &remainder[quotes..],
         )?;
-        Ok(self.take(step))
+        match found {
+            Ok((token, len)) => Ok(Some(self.take_token(token, len))),
+            Err((begin, fault, end)) => {
+                self.refuse(begin, fault, end);
+                Ok(None)
+            }
+        }
     }
 
     /// Takes the f-string text here up to its first stop, or stops at its fault. Its first `run` bytes are
@@ -877,7 +854,18 @@ impl<'a> Reader<'a> {
             unreachable!()
         };
         let rest = &self.text[self.at..];
-        let step = chunk_from(&mut self.reads, self.alloc, opening, run, rest)?;
-        Ok(self.take(step))
+        let found = chunk_from(&mut self.reads, self.alloc, opening, run, rest)?;
+        match found {
+            Ok((value, chunk)) if value.is_empty() => Ok(Some(self.take_chunk_end(chunk))),
+            Ok((value, chunk)) => {
+                let begin = self.at;
+                self.pass_chunk(chunk);
+                Ok(Some((begin, Token::FStringText(value), begin + chunk.len)))
+            }
+            Err((begin, fault, end)) => {
+                self.refuse(begin, fault, end);
+                Ok(None)
+            }
+        }
     }
 }

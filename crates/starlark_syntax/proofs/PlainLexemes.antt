@@ -15,15 +15,15 @@ use Rattle.starlark_reader.specs.Inner.Reader.{IsAhead, IsAheadAfter, IsAheadPas
 use Rattle.starlark_reader.specs.declared.reader.Reader.{Reader}
 use Rattle.starlark_reader.specs.declared.reader.Stage.TheVariants as stages
 use Rattle.starlark_reader.proofs.TakenPieces.PieceTaken.{left_onward}
-use Rattle.starlark_syntax.specs.Inner.LexerStates.{HasAnswered, HasPassed, HasPassedNext, HasPassedWaiting, HasTaken, IsLexing, IsOfMark, is_out_of_memory, left_in, lexer_view, passed_as, passed_count, plain_fstring_text, plain_mark, plain_string}
+use Rattle.starlark_syntax.specs.Inner.LexerStates.{HasAnswered, HasPassed, HasPassedNext, HasAdvanced, HasTaken, IsLexing, IsOfMark, is_out_of_memory, left_in, lexer_view, passed_as, passed_count, plain_fstring_text, plain_mark, plain_string}
 use Rattle.starlark_syntax.specs.Lexer.{LexerView, most_reads}
 use Rattle.starlark_syntax.specs.PlainLexemes.{IsPlainIn, plain_token, plain_value, plain_view, token_of}
 use Rattle.starlark_syntax.specs.declared.error.kinds.ErrorKind.{ErrorKind}
 use Rattle.starlark_syntax.proofs.LexerItems.{given_between, lexeme_item}
 use Rattle.starlark_syntax.proofs.LexerStates.{IsSameText, answers_within, lexing_read}
 use Rattle.starlark_syntax.specs.declared.lexer_state.LexerState.{LexerState}
-use Rattle.starlark_syntax.specs.declared.lexer_state.Waiting.{Waiting}
-use Rattle.starlark_syntax.specs.declared.lexer_state.Waiting.TheVariants as waiting
+use Rattle.starlark_syntax.specs.declared.lexer_state.Advance.{Advance}
+use Rattle.starlark_syntax.specs.declared.lexer_state.Advance.TheVariants as advance
 use Rattle.starlark_syntax.specs.declared.plain_lexeme.PlainKind.{PlainKind}
 use Rattle.starlark_syntax.specs.declared.plain_lexeme.PlainKind.TheVariants as kind
 use Rattle.starlark_syntax.specs.declared.plain_lexeme.PlainLexeme.{PlainLexeme}
@@ -144,37 +144,37 @@ mark_told state it lexeme new short few utf8 token is =
     )
 
 -- a pending token was passed
-pub mark_passed : (state : LexerState) (it : Waiting) (lexeme : ℕ × Token × ℕ) (new : LexerState) → length state.reader.text.now < 2 ^ 32 → state.yielded_count ≤ length (outcome state.reader.text.now).lexemes → IsUtf8 state.reader.text.now
+pub mark_passed : (state : LexerState) (it : Advance) (lexeme : ℕ × Token × ℕ) (new : LexerState) → length state.reader.text.now < 2 ^ 32 → state.yielded_count ≤ length (outcome state.reader.text.now).lexemes → IsUtf8 state.reader.text.now
     → IsOfMark it (token_view lexeme.1) → HasAnswered state (Some (Ok lexeme)) new → HasPassed state (passed_as it lexeme.0 lexeme.2) new
-mark_passed state waiting.Indent lexeme new short few utf8 token is = mark_told state kind.Indent lexeme new short few utf8 (λ value. token) is
-mark_passed state waiting.Dedent lexeme new short few utf8 token is = mark_told state kind.Dedent lexeme new short few utf8 (λ value. token) is
-mark_passed state waiting.FStringExprStart lexeme new short few utf8 token is = mark_told state kind.FStringExprStart lexeme new short few utf8 (λ value. token) is
-mark_passed state waiting.FStringEnd lexeme new short few utf8 token is = mark_told state kind.FStringEnd lexeme new short few utf8 (λ value. token) is
+mark_passed state advance.Indent lexeme new short few utf8 token is = mark_told state kind.Indent lexeme new short few utf8 (λ value. token) is
+mark_passed state advance.Dedent lexeme new short few utf8 token is = mark_told state kind.Dedent lexeme new short few utf8 (λ value. token) is
+mark_passed state advance.FStringExprStart lexeme new short few utf8 token is = mark_told state kind.FStringExprStart lexeme new short few utf8 (λ value. token) is
+mark_passed state advance.FStringEnd lexeme new short few utf8 token is = mark_told state kind.FStringEnd lexeme new short few utf8 (λ value. token) is
 mark_passed state it lexeme new short few utf8 token is = absurd token
 
 -- it is one lexeme
-pub mark_counted : (it : Waiting) (view : TokenView) (begin end : ℕ) → IsOfMark it view → passed_count (passed_as it begin end) ≡ 1
-mark_counted waiting.Indent view begin end token = refl
-mark_counted waiting.Dedent view begin end token = refl
-mark_counted waiting.FStringExprStart view begin end token = refl
-mark_counted waiting.FStringEnd view begin end token = refl
+pub mark_counted : (it : Advance) (view : TokenView) (begin end : ℕ) → IsOfMark it view → passed_count (passed_as it begin end) ≡ 1
+mark_counted advance.Indent view begin end token = refl
+mark_counted advance.Dedent view begin end token = refl
+mark_counted advance.FStringExprStart view begin end token = refl
+mark_counted advance.FStringEnd view begin end token = refl
 mark_counted it view begin end token = absurd token
 
-pub waiting_in_memory : (it : Waiting) (view : TokenView) (begin end : ℕ) → IsOfMark it view → is_out_of_memory (passed_as it begin end) ≡ false
-waiting_in_memory waiting.OutOfMemory view begin end token = absurd token
-waiting_in_memory it view begin end token = refl
+pub advance_in_memory : (it : Advance) (view : TokenView) (begin end : ℕ) → IsOfMark it view → is_out_of_memory (passed_as it begin end) ≡ false
+advance_in_memory advance.OutOfMemory view begin end token = absurd token
+advance_in_memory it view begin end token = refl
 
 -- what was passed is a lexeme, or has none
-pub lexeme_waits : (old : LexerState) (it : Waiting) (new : LexerState) → it ≢ waiting.Layout → HasPassedNext old (passed_as it new.passed_begin new.passed_end) new → HasPassedWaiting old it new
-lexeme_waits old waiting.Layout new other is = absurd (other refl)
-lexeme_waits old it new other is = is
+pub lexeme_advances : (old : LexerState) (it : Advance) (new : LexerState) → it ≢ advance.Layout → HasPassedNext old (passed_as it new.passed_begin new.passed_end) new → HasAdvanced old it new
+lexeme_advances old advance.Layout new other is = absurd (other refl)
+lexeme_advances old it new other is = is
 
-pub waits_lexeme : (old : LexerState) (it : Waiting) (new : LexerState) → it ≢ waiting.Layout → HasPassedWaiting old it new → HasPassedNext old (passed_as it new.passed_begin new.passed_end) new
-waits_lexeme old waiting.Layout new other is = absurd (other refl)
-waits_lexeme old it new other is = is
+pub advances_lexeme : (old : LexerState) (it : Advance) (new : LexerState) → it ≢ advance.Layout → HasAdvanced old it new → HasPassedNext old (passed_as it new.passed_begin new.passed_end) new
+advances_lexeme old advance.Layout new other is = absurd (other refl)
+advances_lexeme old it new other is = is
 
-pub mark_waits : (it : Waiting) (view : TokenView) → IsOfMark it view → it ≢ waiting.Layout
-mark_waits it view token is = absurd (subst (λ (it : Waiting). IsOfMark it view) is token)
+pub mark_advances : (it : Advance) (view : TokenView) → IsOfMark it view → it ≢ advance.Layout
+mark_advances it view token is = absurd (subst (λ (it : Advance). IsOfMark it view) is token)
 
 -- a lexer that owes no error has ended where its state has
 pub whole_going : (state : LexerState) (file : SourceFile) (has_run_out : Bool) (lexer : LexerView) → has_run_out ≡ false → lexer_view state file has_run_out ≡ lexer → lexer.has_ended ≡ false → state.has_ended ≡ false

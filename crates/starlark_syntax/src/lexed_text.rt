@@ -18,7 +18,7 @@ ghost use Rattle.starlark_token.specs.Lexemes.{IsWithin};
 use crate::cuts::{Cut, append_cuts, begin_of, is_cut_after};
 use crate::eval_exception::EvalException;
 use crate::lexer_state::LexerState;
-use crate::meetings::{Known, put_part};
+use crate::meetings::{cuts_to_meet, put_part};
 use crate::read_parts::{exception_of, read_part};
 use crate::tails::{append_later, given_after, kept_of, make_room};
 use starlark_base::codemap::{CodeMap, OrMemory, SourceTooLong};
@@ -99,7 +99,7 @@ impl<'a> LexedText<'a> {
         ensures least_reads { IfOk result (λ lexed. lexed.fault ≡ None → length state.old.reader.text.now ≤ lexed.reads) }
     {
         let text = state.reader.text;
-        let part = read_part(alloc, state, Known::none())?;
+        let part = read_part(alloc, state, &[], &[])?;
         Ok(LexedText {
             text,
             lexemes: part.lexemes,
@@ -269,8 +269,8 @@ impl<'a> LexedText<'a> {
         let begin = begin_of(&old.cuts, from);
         let rest = &edited[begin.at..];
         *state = LexerState::new(alloc, rest);
-        let known = Known::after(old.text, &old.cuts, begin.cuts, old.fault.is_some());
-        let Ok(part) = read_part(alloc, state, known) else {
+        let cuts = cuts_to_meet(&old.cuts, begin.cuts, old.fault.is_some());
+        let Ok(part) = read_part(alloc, state, old.text.as_bytes(), cuts) else {
             return Err(old);
         };
         if let Some(meeting) = part.met {

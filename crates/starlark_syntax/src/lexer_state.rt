@@ -14,7 +14,7 @@ ghost use Rattle.starlark_grammar.specs.Words.{Text};
 ghost use Rattle.starlark_grammar.specs.Reading.{History};
 ghost use Rattle.starlark_reader.specs.Inner.MarginCuts.{IsCutBefore};
 ghost use Rattle.starlark_reader.specs.Inner.Reader.{IsAtCode, IsAtEnd, IsReached, IsStateAfter, has_read_none};
-ghost use Rattle.starlark_syntax.specs.Inner.LexerStates.{HasAnswered, HasFound, HasGivenNext, HasGoneOn, HasLooked, HasPassed, HasPassedNext, HasPassedWaiting, HasTaken, HasTakenLast, HasThrown, IsAtFault, IsAtOpener, IsAtWord, IsBegun, IsReadNext, IsUnnamed, IsLexing, IsLexingIn, IsOfMark, IsTakenNext, has_fault, is_out_of_memory, left_in, passed_as, passed_count, plain_string, taken_count, thrown_count, view_of};
+ghost use Rattle.starlark_syntax.specs.Inner.LexerStates.{HasAdvanced, HasAnswered, HasFound, HasGivenNext, HasGoneOn, HasLooked, HasPassed, HasPassedNext, HasTaken, HasTakenLast, HasThrown, IsAtFault, IsAtOpener, IsAtWord, IsBegun, IsReadNext, IsUnnamed, IsLexing, IsLexingIn, IsOfMark, IsTakenNext, has_fault, is_out_of_memory, left_in, passed_as, passed_count, plain_string, taken_count, thrown_count, view_of};
 ghost use Rattle.starlark_syntax.specs.Lexer.{is_ended_by, most_reads, yielded_by};
 ghost use Rattle.starlark_syntax.specs.Inner.RawItems.{OffsetsHold};
 ghost use Rattle.starlark_syntax.specs.PlainLexemes.{IsPlainIn};
@@ -40,19 +40,17 @@ use starlark_token::tokens::Token;
 use starlark_words::scanner::{Class, LiteralKind, Quote, Terminal, Word};
 use std::alloc::{AllocError, Global};
 
-/// An item with the fault itself, between two offsets, in the place of its exception.
-pub(crate) type Item = Result<(usize, Token, usize), OrMemory<(usize, LexemeError, usize)>>;
-
 /// The state of lexing a text, which all lexers and `LexedText` share.
 ///
 /// It yields the lexemes of the text one by one, and then its fault. Any error ends it.
-/// `passed_begin` and `passed_end` are the offsets of the lexeme that `pass_waiting` or `look_further`
-/// passed last.
+/// `passed_begin` and `passed_end` are the offsets of the lexeme that `advance_outside_code` or
+/// `look_further` passed last.
 // In this order for the reason that `Reader` has one.
 #[derive(Drop)]
 pub struct LexerState<'a> {
     /// Number of lexemes, and faults, that were yielded so far.
     pub(crate) yielded_count: usize,
+    /// What lookahead has found, which no lexeme has been taken from.
     found: Found,
     /// The word that was found, or the opener of the literal.
     word: Word,
@@ -66,9 +64,9 @@ pub struct LexerState<'a> {
     alloc: Global,
 }
 
-/// What kind of lexeme was passed without lookahead in code.
+/// How far the reader has advanced without lookahead in code: past a lexeme of a kind, or past none.
 #[derive(Clone, Copy)]
-enum Waiting {
+enum Advance {
     /// None.
     Nothing,
     Indent,
@@ -84,43 +82,43 @@ enum Waiting {
     OutOfMemory,
 }
 
-impl Waiting {
+impl Advance {
     /// The kind of a pending token.
     #[tactic(auto, unfolding(starlark_token::specs::TokenViews::token_view))]
     #[inline(always)]
-    fn of_mark(token: &Token) -> Waiting
+    fn of_mark(token: &Token) -> Advance
         requires { IsMark (token_view token.now) }
         ensures { IsOfMark result (token_view token.now) }
     {
         match token {
-            Token::Indent => Waiting::Indent,
-            Token::Dedent => Waiting::Dedent,
-            Token::FStringExprStart => Waiting::FStringExprStart,
-            _ => Waiting::FStringEnd,
+            Token::Indent => Advance::Indent,
+            Token::Dedent => Advance::Dedent,
+            Token::FStringExprStart => Advance::FStringExprStart,
+            _ => Advance::FStringEnd,
         }
     }
 
     /// The lexeme that was passed, between two offsets, if it is one.
     #[inline]
     fn lexeme(self, begin: usize, end: usize) -> Result<Option<PlainLexeme>, AllocError>
-        requires { self ≡ Waiting.Comment → begin < end }
+        requires { self ≡ Advance.Comment → begin < end }
         ensures { result ≡ passed_as self begin end }
     {
         let kind = match self {
-            Waiting::Nothing | Waiting::Layout => return Ok(None),
-            Waiting::OutOfMemory => return Err(AllocError),
-            Waiting::FStringText => {
+            Advance::Nothing | Advance::Layout => return Ok(None),
+            Advance::OutOfMemory => return Err(AllocError),
+            Advance::FStringText => {
                 let text = PlainLexeme::new(PlainKind::FStringText, begin, end, begin);
                 return Ok(Some(text));
             }
-            Waiting::Comment => {
+            Advance::Comment => {
                 let comment = PlainLexeme::new(PlainKind::Comment, begin, end, begin + 1);
                 return Ok(Some(comment));
             }
-            Waiting::Indent => PlainKind::Indent,
-            Waiting::Dedent => PlainKind::Dedent,
-            Waiting::FStringExprStart => PlainKind::FStringExprStart,
-            Waiting::FStringEnd => PlainKind::FStringEnd,
+            Advance::Indent => PlainKind::Indent,
+            Advance::Dedent => PlainKind::Dedent,
+            Advance::FStringExprStart => PlainKind::FStringExprStart,
+            Advance::FStringEnd => PlainKind::FStringEnd,
         };
         Ok(Some(PlainLexeme::new(kind, begin, end, end)))
     }
@@ -302,12 +300,12 @@ impl<'a> LexerState<'a> {
 
     /// Passes the first pending comment.
     #[inline(always)]
-    fn pass_pending_comment(&mut self) -> Waiting
+    fn pass_pending_comment(&mut self) -> Advance
         requires lexing { IsLexing self.old }
         requires going { self.old.has_ended ≡ false }
         requires all { self.old.found ≡ Found.All }
         requires some { self.old.reader.pending.from < self.old.reader.pending.to }
-        ensures { HasPassedWaiting self.old result self.new }
+        ensures { HasAdvanced self.old result self.new }
     {
         let reader = &mut self.reader;
         let (begin, end) = reader.pending.pass_comment(&mut reader.reads, reader.text);
@@ -315,51 +313,51 @@ impl<'a> LexerState<'a> {
         self.passed_begin = begin;
         self.passed_end = end;
         self.found = found_after(&self.reader);
-        Waiting::Comment
+        Advance::Comment
     }
 
     /// Passes the first pending lexeme, where no comments are pending. Returns its kind.
     #[inline(always)]
-    fn pass_mark(&mut self) -> Waiting
+    fn pass_mark(&mut self) -> Advance
         requires lexing { IsLexing self.old }
         requires going { self.old.has_ended ≡ false }
         requires all { self.old.found ≡ Found.All }
         requires none { self.old.reader.pending.to ≤ self.old.reader.pending.from }
-        ensures passed { result ≢ Waiting.Nothing → HasPassedWaiting self.old result self.new }
-        ensures stays { result ≡ Waiting.Nothing → self.new ≡ self.old }
-        ensures idle { result ≡ Waiting.Nothing → IsIdle self.old.reader.text.now self.old.reader.pending }
+        ensures passed { result ≢ Advance.Nothing → HasAdvanced self.old result self.new }
+        ensures stays { result ≡ Advance.Nothing → self.new ≡ self.old }
+        ensures idle { result ≡ Advance.Nothing → IsIdle self.old.reader.text.now self.old.reader.pending }
     {
         let Some((begin, token, end)) = self.reader.pending.next_mark() else {
-            return Waiting::Nothing;
+            return Advance::Nothing;
         };
         self.yielded_count += 1;
         self.passed_begin = begin;
         self.passed_end = end;
         self.found = found_after(&self.reader);
-        Waiting::of_mark(&token)
+        Advance::of_mark(&token)
     }
 
     /// Passes the f-string text that comes next if it has no escapes, or what ends it if it is empty.
     /// Returns what was passed.
     #[inline(always)]
-    fn pass_fstring_text(&mut self) -> Waiting
+    fn pass_fstring_text(&mut self) -> Advance
         requires lexing { IsLexing self.old }
         requires going { self.old.has_ended ≡ false }
         requires all { self.old.found ≡ Found.All }
         requires stage { self.old.reader.stage ≡ Stage.Onward }
         requires idle { IsIdle self.old.reader.text.now self.old.reader.pending }
-        ensures { HasPassedWaiting self.old result self.new }
+        ensures { HasAdvanced self.old result self.new }
     {
         let found = match self.reader.plain_text() {
             Some(Ok(found)) => found,
             Some(Err(run)) => {
                 self.found = Found::Text;
                 self.run = run;
-                return Waiting::Nothing;
+                return Advance::Nothing;
             }
             None => {
                 self.found = Found::Nothing;
-                return Waiting::Layout;
+                return Advance::Layout;
             }
         };
         self.yielded_count += 1;
@@ -368,13 +366,13 @@ impl<'a> LexerState<'a> {
             self.passed_begin = begin;
             self.passed_end = end;
             self.found = found_after(&self.reader);
-            return Waiting::of_mark(&token);
+            return Advance::of_mark(&token);
         }
         self.passed_begin = self.reader.at;
         self.passed_end = self.passed_begin + found.len;
         self.reader.pass_chunk(found);
         self.found = Found::All;
-        Waiting::FStringText
+        Advance::FStringText
     }
 
     /// Passes what comes next where lookahead in code is spent: a pending lexeme, the plain text of an
@@ -382,37 +380,37 @@ impl<'a> LexerState<'a> {
     /// `passed_end`.
     // A kind in a register: a result in memory costs each lexeme.
     #[inline(never)]
-    fn pass_waiting(&mut self) -> Waiting
+    fn advance_outside_code(&mut self) -> Advance
         requires lexing { IsLexing self.old }
         requires going { self.old.has_ended ≡ false }
         requires looked { self.old.found ≢ Found.Nothing }
-        ensures { HasPassedWaiting self.old result self.new }
+        ensures { HasAdvanced self.old result self.new }
     {
         if !matches!(self.found, Found::All) {
-            return Waiting::Nothing;
+            return Advance::Nothing;
         }
         if self.reader.pending.has_comments() {
             return self.pass_pending_comment();
         }
         match self.pass_mark() {
-            Waiting::Nothing => {}
+            Advance::Nothing => {}
             mark => return mark,
         }
         match self.reader.stage {
             Stage::Begin => {}
             Stage::Onward => return self.pass_fstring_text(),
-            _ => return Waiting::Nothing,
+            _ => return Advance::Nothing,
         }
         let Ok(()) = self.reader.read_first_margin() else {
             self.has_ended = true;
-            return Waiting::OutOfMemory;
+            return Advance::OutOfMemory;
         };
         self.found = match found_after(&self.reader) {
             // No word begins at the text's end.
             Found::Nothing if self.reader.at == self.reader.text.len() => Found::Wordless,
             found => found,
         };
-        Waiting::Layout
+        Advance::Layout
     }
 
     /// Passes the name of `len` bytes here.
@@ -491,33 +489,33 @@ impl<'a> LexerState<'a> {
     }
 
     /// Finds the word here, where the first two bytes tell none. Passes it if it is skipped, or a
-    /// comment, as `pass_waiting` does.
+    /// comment, as `advance_outside_code` does.
     // A call: in line it costs each lexeme.
     #[inline(never)]
-    fn look_further(&mut self) -> Waiting
+    fn look_further(&mut self) -> Advance
         requires { IsUnnamed self.old }
-        ensures { HasPassedWaiting self.old result self.new }
+        ensures { HasAdvanced self.old result self.new }
     {
         let Some(word) = self.reader.unnamed_word() else {
             self.found = Found::Wordless;
-            return Waiting::Nothing;
+            return Advance::Nothing;
         };
         match word.class {
             Class::Skipped => {
                 self.reader.step_over(word.len, Before::Gap);
-                Waiting::Layout
+                Advance::Layout
             }
             Class::Comment => {
                 self.yielded_count += 1;
                 self.passed_begin = self.reader.at;
                 self.reader.step_over(word.len, Before::Other);
                 self.passed_end = self.reader.at;
-                Waiting::Comment
+                Advance::Comment
             }
             _ => {
                 self.found = Found::Word;
                 self.word = word;
-                Waiting::Nothing
+                Advance::Nothing
             }
         }
     }
@@ -538,15 +536,15 @@ impl<'a> LexerState<'a> {
                 if self.has_ended {
                     return Ok(None);
                 }
-                match self.pass_waiting() {
-                    Waiting::Layout => continue,
-                    waiting => return waiting.lexeme(self.passed_begin, self.passed_end),
+                match self.advance_outside_code() {
+                    Advance::Layout => continue,
+                    advance => return advance.lexeme(self.passed_begin, self.passed_end),
                 }
             }
             let Some(Word { class, len }) = self.reader.common_word() else {
                 match self.look_further() {
-                    Waiting::Layout => continue,
-                    waiting => return waiting.lexeme(self.passed_begin, self.passed_end),
+                    Advance::Layout => continue,
+                    advance => return advance.lexeme(self.passed_begin, self.passed_end),
                 }
             };
             match class {
@@ -640,10 +638,12 @@ impl<'a> LexerState<'a> {
         }
     }
 
-    /// The next lexeme, and after the last one the fault if the text has one; out of memory in the place
-    /// of either. `None` after all, and after any error.
+    /// The next lexeme, and after the last one the fault, between two offsets, if the text has one; out of
+    /// memory in the place of either. `None` after all, and after any error.
     #[inline(always)]
-    pub(crate) fn next_item(&mut self) -> Option<Item>
+    pub(crate) fn next_item(
+        &mut self,
+    ) -> Option<Result<(usize, Token, usize), OrMemory<(usize, LexemeError, usize)>>>
         requires lexing { IsLexing self.old }
         ensures ended { self.old.has_ended ≡ true → (result ≡ None) × (self.new ≡ self.old) }
         ensures found { self.old.has_ended ≡ false → HasFound self.old.reader.text.now self.old result self.new }

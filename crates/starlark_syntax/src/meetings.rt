@@ -14,41 +14,17 @@ use crate::tails::{make_room, replace_lexemes};
 use starlark_token::tokens::Token;
 use std::alloc::AllocError;
 
-/// A lexed text that lexing may meet: its bytes, and its cuts in order.
-#[derive(Clone, Copy)]
-pub(crate) struct Known<'b> {
-    /// The text.
-    pub text: &'b [u8],
-    /// Its cuts.
-    pub cuts: &'b [Cut],
-}
-
-impl<'b> Known<'b> {
-    /// A text that lexing doesn't meet.
-    pub(crate) fn none() -> Self
-        ensures { result.cuts.now ≡ [] }
-    {
-        Known {
-            text: &[],
-            cuts: &[],
-        }
+/// The cuts at which lexing may meet a text: those after its first `count`. At those of a text with a
+/// fault it meets none.
+pub(crate) fn cuts_to_meet(cuts: &[Cut], count: usize, has_fault: bool) -> &[Cut]
+    requires { count ≤ length cuts.now }
+    ensures cuts { has_fault ≡ false → result.now ≡ drop count cuts.now }
+    ensures none { has_fault ≡ true → result.now ≡ [] }
+{
+    if has_fault {
+        return &[];
     }
-
-    /// A text that lexing may meet after its first `count` cuts. With a fault it has none to meet.
-    pub(crate) fn after(text: &'b str, cuts: &'b [Cut], count: usize, has_fault: bool) -> Self
-        requires { count ≤ length cuts.now }
-        ensures text { has_fault ≡ false → result.text.now ≡ text.now }
-        ensures cuts { has_fault ≡ false → result.cuts.now ≡ drop count cuts.now }
-        ensures none { has_fault ≡ true → result.cuts.now ≡ [] }
-    {
-        if has_fault {
-            return Known::none();
-        }
-        Known {
-            text: text.as_bytes(),
-            cuts: &cuts[count..],
-        }
-    }
+    &cuts[count..]
 }
 
 /// A kept cut after which a text has the same bytes as a known text after one of its cuts.
@@ -70,31 +46,33 @@ fn ends_alike(text: &[u8], at: usize, other: &[u8], other_at: usize) -> bool
     text[at..] == other[other_at..]
 }
 
-/// Where lexing meets a known text, if that is at a kept cut that it has reached, `place`.
+/// Where lexing meets a known text at one of its cuts, if that is at a kept cut that it has reached,
+/// `place`.
 ///
 /// The bytes after it are compared only where the reads so far leave room for that, and the reads are
 /// counted.
 pub(crate) fn meeting_at(
     state: &mut LexerState<'_>,
     place: Option<usize>,
-    known: Known<'_>,
+    known: &[u8],
+    known_cuts: &[Cut],
 ) -> Option<Meeting>
     requires lexing { IsLexing state.old }
     requires going { state.old.has_ended ≡ false }
-    requires cuts { AllByRecursion (λ (cut : Cut). cut.at ≤ length known.text.now) known.cuts.now }
+    requires cuts { AllByRecursion (λ (cut : Cut). cut.at ≤ length known.now) known_cuts.now }
     requires inside { IfSome place (λ at. at < length state.old.reader.text.now) }
     ensures lexing { IsLexing state.new }
     ensures after { view_of state.new ≡ record (view_of state.old) { reads = state.new.reader.reads } }
     ensures place { IfSome result (λ meeting. place ≡ Some meeting.at) }
-    ensures met { IfSome result (IsMet state.old.reader.text.now known.entry.text.now known.entry.cuts.now) }
+    ensures met { IfSome result (IsMet state.old.reader.text.now known.now known_cuts.now) }
     ensures least { IfSome result (λ meeting. length state.old.reader.text.now ≤ state.new.reader.reads) }
     ensures most { IfSome result (λ meeting. state.new.reader.reads ≤ most_reads state.old.reader.text.now) }
 {
     let at = place?;
     let text = state.reader.text.as_bytes();
     let left = text.len() - at;
-    let begin = known.text.len().checked_sub(left)?;
-    let index = known.cuts.binary_search_by_key(&begin, |cut| cut.at).ok()?;
+    let begin = known.len().checked_sub(left)?;
+    let index = known_cuts.binary_search_by_key(&begin, |cut| cut.at).ok()?;
     // Never so, since each byte before the cut was read; the contract of the reads needs it.
     if state.reader.reads.count() < at as u64 {
         return None;
@@ -102,8 +80,8 @@ pub(crate) fn meeting_at(
     if !state.count_others(left) {
         return None;
     }
-    let cut = known.cuts[index];
-    if ends_alike(text, at, known.text, cut.at) {
+    let cut = known_cuts[index];
+    if ends_alike(text, at, known, cut.at) {
         Some(Meeting { at, index, cut })
     } else {
         None

@@ -13,7 +13,7 @@ use crate::cuts::Cut;
 use crate::eval_exception::EvalException;
 use crate::fault_exception::exception;
 use crate::lexer_state::LexerState;
-use crate::meetings::{Known, Meeting, meeting_at};
+use crate::meetings::{Meeting, meeting_at};
 use starlark_base::codemap::CodeMap;
 use starlark_token::lexeme_error::LexemeError;
 use starlark_token::tokens::Token;
@@ -70,21 +70,22 @@ fn with_end_cut(
     Ok(all)
 }
 
-/// Lexes a text up to its end, its first fault or a meeting with a known text, from a state that has
-/// just begun.
+/// Lexes a text up to its end, its first fault or a meeting with a known text at one of its cuts, from a
+/// state that has just begun.
 ///
 /// The reads of the part are those that the state has counted. After an error the state isn't to be
 /// used again.
 pub(crate) fn read_part(
     alloc: Global,
     state: &mut LexerState<'_>,
-    known: Known<'_>,
+    known: &[u8],
+    known_cuts: &[Cut],
 ) -> Result<ReadPart, AllocError>
     requires lexing { IsLexing state.old }
     requires begun { IsBegun state.old.reader.text.now state.old }
-    requires cuts { AllByRecursion (λ (cut : Cut). cut.at ≤ length known.text.now) known.cuts.now }
+    requires cuts { AllByRecursion (λ (cut : Cut). cut.at ≤ length known.now) known_cuts.now }
     ensures part { IfOk result (λ part. part.met ≡ None → IsReadPart state.old.reader.text.now (part_view part)) }
-    ensures met { IfOk result (λ part. IfSome part.met (λ meeting. IsMet state.old.reader.text.now known.entry.text.now known.entry.cuts.now meeting × IsReadPartTo state.old.reader.text.now meeting.at (part_view part))) }
+    ensures met { IfOk result (λ part. IfSome part.met (λ meeting. IsMet state.old.reader.text.now known.now known_cuts.now meeting × IsReadPartTo state.old.reader.text.now meeting.at (part_view part))) }
     ensures faultless { IfOk result (λ part. IfSome part.met (λ meeting. part.fault ≡ None)) }
     ensures counted { IfOk result (λ part. part.reads ≡ state.new.reader.reads) }
     ensures most { IfOk result (λ part. part.reads ≤ most_reads state.old.reader.text.now) }
@@ -100,7 +101,7 @@ pub(crate) fn read_part(
         lexemes.push(lexeme)?;
         let place = state.reader.cut();
         push_cut(&mut cuts, place, lexemes.len())?;
-        if let Some(meeting) = meeting_at(state, place, known) {
+        if let Some(meeting) = meeting_at(state, place, known, known_cuts) {
             return Ok(ReadPart {
                 lexemes,
                 fault: None,

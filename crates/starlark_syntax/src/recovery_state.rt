@@ -19,7 +19,7 @@ ghost use Rattle.starlark_token.specs.TokenViews.{token_view};
 use crate::eval_exception::EvalException;
 use crate::fault_exception::exception;
 use crate::lexemes::Lexeme;
-use crate::lexer_state::{Item, LexerState};
+use crate::lexer_state::LexerState;
 use crate::mended_text::MendedText;
 use crate::passed_faults::{is_tab, pass};
 use crate::repairs::{keeps_line, repair_end};
@@ -82,7 +82,9 @@ impl<'a> RecoveryState<'a> {
 
     /// The next item of the part.
     #[inline(always)]
-    fn advance(&mut self) -> Option<Item>
+    fn advance(
+        &mut self,
+    ) -> Option<Result<(usize, Token, usize), OrMemory<(usize, LexemeError, usize)>>>
         requires { IsRecovering self.old }
         ensures ended { self.old.state.has_ended ≡ true → (result ≡ None) × (self.new.state.reader.reads ≡ self.old.state.reader.reads) }
         ensures found { self.old.state.has_ended ≡ false → HasFound (part_of self.old) self.old.state result self.new.state }
@@ -177,7 +179,10 @@ impl<'a> RecoveryState<'a> {
 
     /// What an item of the part, which is the next one, is in the text.
     #[inline(always)]
-    fn answer(&mut self, item: Item) -> Lexeme
+    fn answer(
+        &mut self,
+        item: Result<(usize, Token, usize), OrMemory<(usize, LexemeError, usize)>>,
+    ) -> Lexeme
         requires { (before : RecoveryState) × IsAdvanced before (Some item) self.old }
         ensures recovering { IsRecovering self.new }
         ensures next { (before : RecoveryState) → IsAdvanced before (Some item) self.old → IsNextOf (view_of before) (Some result) (view_of self.new) }

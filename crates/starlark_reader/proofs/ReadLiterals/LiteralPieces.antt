@@ -1,10 +1,9 @@
 -- String and bytes literals as steps.
-use Rattle.std.proofs.Common.{◌≡◌, ◌≢◌, ℕ, zero, suc, ◌+◌, ◌-◌, ◌≤◌, ◌==◌, ◌&&◌, ◌||◌, Bool, true, false, not, [], ◌∷◌, length, take, drop, get_or, nat_eq, refl, sym, ap, subst, ◌∙◌, arith, Ok, Err, rules}
+use Rattle.std.proofs.Common.{◌≡◌, ◌≢◌, ℕ, zero, suc, ◌+◌, ◌-◌, ◌≤◌, ◌==◌, ◌&&◌, ◌||◌, Bool, true, false, not, [], ◌∷◌, length, take, drop, get_or, nat_eq, refl, sym, ap, subst, ◌∙◌, arith, rules}
 use Rattle.std.proofs.lemmas.Bool.{and_parts, and_right, eqb-true}
 use Rattle.std.proofs.lemmas.List.{get_or-drop, length-drop}
 use Rattle.std.proofs.lemmas.Str.{IsCharBoundary-after_ascii, IsUtf8-drop}
 use Rattle.std.specs.List.{starts_with}
-use Rattle.std.specs.Prelude.{IfOk, Result}
 use Rattle.std.specs.Str.{IsUtf8, IsCharBoundary}
 use Rattle.starlark_grammar.specs.Words.{Text}
 use Rattle.starlark_grammar.specs.declared.class.Quote.{Quote}
@@ -136,11 +135,6 @@ pub line_literal : (mode : Mode) (literal : Literal) (begin len : ℕ) (text : T
     → pieces.literal mode literal.kind literal.opening begin text ≡ fault 0 UnfinishedStringLiteral (begin + len)
 line_literal mode literal begin len text same line =
     rw (line, same) (ap (λ f. fault 0 f (begin + body_len (body_at literal text))) (unfinished_line mode literal.kind literal.opening text (stops_unplain literal text line)))
-
--- what holds of each good result
-pub if_ok : {A E : Type 0} (P Q : A → Type 0) (result : Result A E) → ((value : A) → P value → Q value) → IfOk result P → IfOk result Q
-if_ok P Q (Ok value) more h = more value h
-if_ok P Q (Err e) more h = tt
 
 -- a character boundary is after two more quotes
 pub triple_edge : (text : Text) (quote : Quote) → IsUtf8 text → starts_with nat_eq text (quote_byte quote ∷ quote_byte quote ∷ []) ≡ true → IsCharBoundary text 2

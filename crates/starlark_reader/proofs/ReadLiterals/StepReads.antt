@@ -4,8 +4,9 @@ use Rattle.starlark_grammar.specs.Items.{closing_quotes}
 use Rattle.starlark_grammar.specs.Tokens.{Opening}
 use Rattle.starlark_words.specs.Inner.Reads.{AreReads, more_reads}
 use Rattle.starlark_reader.specs.Inner.ReadBounds.{AreFaultReads, AreWordReads, IsFaultAt, is_tab_error}
-use Rattle.starlark_reader.specs.declared.literal.pieces.Step.{Step}
-use Rattle.starlark_reader.specs.declared.literal.pieces.Step.TheVariants as step
+use Rattle.starlark_reader.specs.Inner.StepViews as step
+use Rattle.starlark_reader.specs.Inner.StepViews.{ReadStep, fault_step}
+use Rattle.starlark_token.specs.declared.lexeme_error.LexemeError.{LexemeError}
 
 -- a literal is closed by one quote or by three
 pub closing_some : (opening : Opening) → (1 ≤ length (closing_quotes opening)) × (length (closing_quotes opening) ≤ 3)
@@ -15,10 +16,8 @@ closing_some opening = by_quotes opening.is_triple refl
     by_quotes true e = rw e (omega arith, omega arith)
     by_quotes false e = rw e (omega arith, omega arith)
 
-pub fault_reads : (passed factor more line extra begin end : ℕ) (step : Step) (before after : ℕ) → IsFaultAt begin end step → passed ≤ end → AreReads (begin - passed) (factor * (end - passed) + extra) before after → AreWordReads passed factor more line extra step before after
-fault_reads passed factor more line extra begin end (step.Fault from fault to) before after is later reads = rw (is.2, is.0, is.1) (reads, later)
-fault_reads passed factor more line extra begin end (step.Token token len) before after is later reads = absurd is
-fault_reads passed factor more line extra begin end (step.Text value chunk) before after is later reads = absurd is
+pub fault_reads : (passed factor more line extra begin end : ℕ) (found : ℕ × LexemeError × ℕ) (before after : ℕ) → IsFaultAt begin end found → passed ≤ end → AreReads (begin - passed) (factor * (end - passed) + extra) before after → AreWordReads passed factor more line extra (fault_step found) before after
+fault_reads passed factor more line extra begin end found before after is later reads = rw (is.2, is.0, is.1) (reads, later)
 
 -- the reads of a body, with those of its first `run` bytes, which were known
 pub body_reads : (run len least stopped extra spare before between after : ℕ) → run ≤ len → AreReads run (8 * run + spare) before between → AreReads (len - run + least) (8 * (len - run) + stopped + extra) between after
@@ -34,7 +33,7 @@ pub split_reads : (len run before after : ℕ) → AreReads (len + run) (5 * len
 split_reads len run before after reads = (max (after - 8 * run) (more_reads before len), (omega (arith, reads.0), omega (arith, reads.1)), (omega (arith, reads.0), omega (arith, reads.1)))
 
 -- the reads after an opener of one quote, with the two bytes that determine that
-pub single_reads : (passed : ℕ) (step : Step) (before between after : ℕ) → between ≡ more_reads before 2 → AreWordReads passed 9 0 0 6 step between after → AreWordReads passed 9 2 0 8 step before after
+pub single_reads : (passed : ℕ) (step : ReadStep) (before between after : ℕ) → between ≡ more_reads before 2 → AreWordReads passed 9 0 0 6 step between after → AreWordReads passed 9 2 0 8 step before after
 single_reads passed (step.Token token len) before between after told reads = ((omega (arith, told, reads.0.0), omega (arith, told, reads.0.1)), reads.1)
 single_reads passed (step.Fault begin fault end) before between after told reads = by_fault (is_tab_error fault) reads
   where
@@ -44,7 +43,7 @@ single_reads passed (step.Fault begin fault end) before between after told reads
 single_reads passed (step.Text value chunk) before between after told reads = absurd reads
 
 -- the reads after an opener of three quotes
-pub triple_reads : (passed : ℕ) (step : Step) (before between after : ℕ) → between ≡ more_reads before 2 → AreWordReads (passed + 2) 9 0 0 6 step between after → AreWordReads passed 9 2 0 8 step before after
+pub triple_reads : (passed : ℕ) (step : ReadStep) (before between after : ℕ) → between ≡ more_reads before 2 → AreWordReads (passed + 2) 9 0 0 6 step between after → AreWordReads passed 9 2 0 8 step before after
 triple_reads passed (step.Token token len) before between after told reads = ((omega (arith, told, reads.0.0, reads.1), omega (arith, told, reads.0.1, reads.1)), omega (arith, reads.1))
 triple_reads passed (step.Fault begin fault end) before between after told reads = by_fault (is_tab_error fault) reads
   where

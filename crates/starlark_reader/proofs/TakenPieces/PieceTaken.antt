@@ -1,5 +1,5 @@
 -- What a reader does with the piece at its offset.
-use Rattle.std.proofs.Common.{rules, ◌≡◌, ◌≢◌, ℕ, ◌+◌, ◌-◌, ◌≤◌, ◌==◌, Bool, true, false, List, [], ◌∷◌, length, drop, refl, sym, ap, ◌∙◌, subst, arith, append-nil, get_or, take, None}
+use Rattle.std.proofs.Common.{rules, ◌≡◌, ◌≢◌, ℕ, ◌+◌, ◌-◌, ◌^◌, ◌<◌, ◌≤◌, ◌==◌, Bool, true, false, List, [], ◌∷◌, length, drop, refl, sym, ap, ◌∙◌, subst, arith, append-nil, get_or, take, None}
 use Rattle.std.specs.Prelude.{⊤, ◌++◌, IfOk, Ok, Err, Result, Option, Vec, if◌then◌else◌}
 use Rattle.std.specs.Str.{IsCharBoundary, IsUtf8}
 use Rattle.std.proofs.Math.Bool.{and-false}
@@ -33,7 +33,7 @@ use Rattle.starlark_token.specs.Lexemes.{shown_lexeme}
 use Rattle.starlark_reader.specs.Inner.StepViews.{IsPlainText, IsStep, text_step}
 use Rattle.starlark_reader.specs.Inner.Nesting.{Represents, is_fstring_start, keeps_nesting, mode_view}
 use Rattle.starlark_reader.specs.declared.literal.chunks.Chunk.{Chunk}
-use Rattle.starlark_reader.specs.declared.literal.pieces.Step.TheVariants as step
+use Rattle.starlark_reader.specs.Inner.StepViews as step
 use Rattle.starlark_reader.specs.declared.reader.Stage.{Stage}
 use Rattle.starlark_token.specs.declared.tokens.Token.TheVariants as token
 use Rattle.starlark_grammar.specs.Depths.{is_balanced, mode_after}
@@ -42,10 +42,11 @@ use Rattle.starlark_grammar.specs.Pieces as pieces
 use Rattle.starlark_grammar.specs.Pieces.{Piece, Situation, Stands, Step, step_at}
 use Rattle.starlark_grammar.specs.Reading.{History, next_step, situation}
 use Rattle.starlark_reader.specs.Inner.Pending.{IsIdle}
+use Rattle.starlark_token.specs.declared.lexeme_error.LexemeError.{LexemeError}
 use Rattle.starlark_token.specs.declared.tokens.Token.{Token}
 use Rattle.starlark_words.specs.declared.scanner.word.Word.{Word}
 use Rattle.starlark_reader.specs.Inner.PieceViews.{IsAfter, is_code, nothing_of}
-use Rattle.starlark_reader.specs.Inner.Reader.{IsAhead, IsAheadAfter, IsAheadPast, IsBangHere, IsPlainTextHere, IsStateAfter, IsRead, IsReadPast, IsReady, IsTokenOf, IsWordHere, before_view, left_here, silent_sort, step_here}
+use Rattle.starlark_reader.specs.Inner.Reader.{IsAhead, IsAheadAfter, IsAheadPast, IsAtStep, IsBangHere, IsPlainTextHere, IsStateAfter, IsRead, IsReadPast, IsReady, IsTokenOf, IsWordHere, Takes, before_view, left_here, silent_sort, step_here}
 use Rattle.starlark_reader.specs.Inner.StepViews.{IsDigitAt}
 use Rattle.starlark_token.specs.TokenViews.{TokenView, Whole, token_view}
 use Rattle.starlark_reader.specs.declared.nesting.LexerMode.{LexerMode}
@@ -55,8 +56,8 @@ use Rattle.starlark_reader.specs.declared.reader.Before.TheVariants as before
 use Rattle.starlark_reader.specs.declared.reader.Reader.{Reader}
 use Rattle.starlark_reader.specs.declared.reader.Stage.TheVariants as stage
 use Rattle.starlark_reader.proofs.TakenPieces.CodePlaces.{bang_at, in_text, word_at, word_class, word_cut, word_len, word_some}
-use Rattle.starlark_reader.proofs.TakenPieces.Here.{piece_here, shown_own}
-use Rattle.starlark_reader.proofs.TakenPieces.Taken.{none_before, past_ahead, read_ahead, took_past}
+use Rattle.starlark_reader.proofs.TakenPieces.Here.{fault_here, piece_here, shown_own}
+use Rattle.starlark_reader.proofs.TakenPieces.Taken.{failed, none_before, past_ahead, read_ahead, took_past}
 use Rattle.starlark_reader.proofs.TakenMargins.Waiting.{HandsPast, hands_none, passes_one}
 
 -- whether the piece right before is a skipped one
@@ -275,6 +276,17 @@ line_end_step text history reader len counts kept here is =
     word_read text history reader (record { class = class.LineEnd; len = len }) kept here
     ∙ ap (λ n. if pieces.counts (mode_after history.tokens) (is_balanced history.tokens) then pieces.line_end n (open_widths history.widths) (drop len (drop reader.at text)) else pieces.piece n []) (word_len (drop reader.at text) class.LineEnd len (sym here.front))
     ∙ ap (λ (b : Bool). if b then pieces.line_end len (open_widths history.widths) (drop len (drop reader.at text)) else pieces.piece len []) (sym (is history.tokens kept.nesting))
+
+-- the reader stops at the fault of the step at its offset
+module _ (old : Reader) (begin end : ℕ) (fault : LexemeError) where
+  pub refused_fits : IsAtStep old (λ history found. IsStep found (step.Fault begin fault end)) → (old.at + begin < 2 ^ 64) × (old.at + end < 2 ^ 64)
+  refused_fits here =
+      let inside = fault_here old.text.now here.stands.0 old (record { begin = begin; node = here.stands.2.0; end = end }) here.stands.1 here.stands.2.2 in
+      (omega (arith, inside.0, inside.1, here.text.fits), omega (arith, inside.1, here.text.fits))
+
+  pub refused_read : IsIdle old.text.now old.pending → Takes old (λ history found. IsStep found (step.Fault begin fault end)) None (record old { stage = stage.Fault (old.at + begin) fault (old.at + end) })
+  refused_read idle = λ history kept stands.
+      failed old.text.now history old _ (record { begin = begin; node = stands.0; end = end }) fault kept stands.2 stands.1 refl (hands_none old.text.now old.pending idle) (record { at = refl; nesting = refl; levels = refl; before = refl })
 
 -- what is left after the reader's offset
 pub left_onward : (text : Text) (reader : Reader) (lexemes : List (Spanned TokenView)) (fault : Option (Spanned Fault)) → reader.stage ≡ stage.Onward → IsAhead text reader reader.stage lexemes fault → IsAhead text reader stage.Onward lexemes fault

@@ -18,14 +18,13 @@ use Rattle.starlark_words.specs.Inner.Reads.{AreReads, more_reads}
 use Rattle.starlark_reader.specs.Inner.Lookaheads.{IsTextRun}
 use Rattle.starlark_reader.specs.Inner.Nesting.{Represents}
 use Rattle.starlark_reader.specs.Inner.Pending.{IsIdle, owed}
-use Rattle.starlark_reader.specs.Inner.StepViews.{IsStep}
+use Rattle.starlark_reader.specs.Inner.StepViews.{IsStep, ReadStep}
 use Rattle.starlark_reader.specs.Inner.ReadBounds.{AreStepReads, HasLookedHere, HasRead, HasReadAt, IsMarginRead, IsPassed, IsPassedBy, LeavesReads}
 use Rattle.starlark_reader.proofs.TakenPieces.Here.{fault_here}
 use Rattle.starlark_reader.proofs.TakenPieces.RepairReads.{moved_repair}
 use Rattle.starlark_reader.proofs.TakenPieces.SearchReads.{fault_restart, step_search}
 use Rattle.starlark_reader.specs.declared.literal.chunks.Chunk.{Chunk}
-use Rattle.starlark_reader.specs.declared.literal.pieces.Step.{Step}
-use Rattle.starlark_reader.specs.declared.literal.pieces.Step.TheVariants as steps
+use Rattle.starlark_reader.specs.Inner.StepViews as steps
 use Rattle.starlark_reader.specs.declared.reader.Reader.{Reader}
 use Rattle.starlark_reader.specs.declared.reader.Stage.{Stage}
 use Rattle.starlark_reader.specs.declared.reader.Stage.TheVariants as stages
@@ -41,7 +40,7 @@ onward_reads text len before old new has read passed =
     subst (HasReadAt text new) (sym passed.1) (omega (arith, has.0, read.0, passed.0.0, passed.0.1), omega (arith, has.1, read.1, passed.0.0, passed.0.1, passed.0.2))
 
 -- the reads after a token or an f-string text, or at a fault
-pub step_reads : (text : Text) (before : ℕ) (history : History) (step : Step) (old new : Reader) → IsStateAfter text history old → IsStep (step_here text history old) step
+pub step_reads : (text : Text) (before : ℕ) (history : History) (step : ReadStep) (old new : Reader) → IsStateAfter text history old → IsStep (step_here text history old) step
     → IsReadBefore before old.at (owed old.pending) → AreStepReads 0 10 (next_line (drop old.at text) 0) 10 step before old.reads → LeavesReads 0 (drop old.at text) step before old.reads → IsPassed old step new → HasRead text new
 step_reads text before history (steps.Token token len) old new kept stands has read leaves passed = onward_reads text len before old new has (omega (arith, read.0.0), omega (arith, read.0.1)) passed
 step_reads text before history (steps.Text value chunk) old new kept stands has read leaves passed = onward_reads text (chunk.len + chunk.stop_len) before old new has (omega (arith, read.0.0), omega (arith, read.0.1)) passed

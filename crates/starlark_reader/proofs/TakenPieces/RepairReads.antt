@@ -21,9 +21,8 @@ use Rattle.starlark_reader.proofs.NextLines.{front_run}
 use Rattle.starlark_reader.specs.Inner.ReadBounds.{AreStepReads, LeavesReads, is_tab_error, is_tab_view}
 use Rattle.starlark_words.specs.Inner.Reads.{AreReads}
 use Rattle.starlark_token.specs.declared.lexeme_error.LexemeError.{LexemeError}
-use Rattle.starlark_reader.specs.Inner.StepViews.{IsStep}
-use Rattle.starlark_reader.specs.declared.literal.pieces.Step.{Step}
-use Rattle.starlark_reader.specs.declared.literal.pieces.Step.TheVariants as steps
+use Rattle.starlark_reader.specs.Inner.StepViews.{IsStep, ReadStep}
+use Rattle.starlark_reader.specs.Inner.StepViews as steps
 
 -- what the bound says of a step of the grammar
 abbrev pub Leaves : (spent : ℕ) → Text → grammar.Step → (before after : ℕ) → Type 0
@@ -31,7 +30,7 @@ Leaves spent text stands before after =
     (fault : Spanned Fault) → stands ≡ Fails fault → may_keep fault.node ≡ true → after + spent + (repair_end text fault - fault.begin) + 1 ≤ before + 10 * (repair_end text fault - fault.begin)
 
 -- so it says it of the step of the code
-pub step_leaves : (spent : ℕ) (text : Text) (stands : grammar.Step) (step : Step) (before after : ℕ) → IsStep stands step → Leaves spent text stands before after → LeavesReads spent text step before after
+pub step_leaves : (spent : ℕ) (text : Text) (stands : grammar.Step) (step : ReadStep) (before after : ℕ) → IsStep stands step → Leaves spent text stands before after → LeavesReads spent text step before after
 step_leaves spent text stands (steps.Token token len) before after is leaves = tt
 step_leaves spent text stands (steps.Text value chunk) before after is leaves = tt
 step_leaves spent text stands (steps.Fault begin fault end) before after is leaves = λ node view keeps.
@@ -39,7 +38,7 @@ step_leaves spent text stands (steps.Fault begin fault end) before after is leav
     let same : is.0 ≡ node = cc in
     leaves (record { begin = begin; node = node; end = end }) (is.2 ∙ ap (λ node. grammar.fault begin node end) same) keeps
 
-pub no_repair : (spent : ℕ) (text : Text) (stands : grammar.Step) (step : Step) (before after : ℕ) → IsStep stands step → step_keeps stands ≡ false → LeavesReads spent text step before after
+pub no_repair : (spent : ℕ) (text : Text) (stands : grammar.Step) (step : ReadStep) (before after : ℕ) → IsStep stands step → step_keeps stands ≡ false → LeavesReads spent text step before after
 no_repair spent text stands step before after is none = step_leaves spent text stands step before after is (λ fault e keeps. let some : step_keeps stands ≡ true = ap step_keeps e ∙ keeps in cc)
 
 -- no text of an f-string is such a fault
@@ -93,14 +92,14 @@ front_repair n text fault = by (is_tab fault.node)
     by false = omega arith
 
 -- the reads of a word's step, with those of the word itself
-pub front_leaves : (n spent : ℕ) (text : Text) (it : Step) (before between after : ℕ) → between ≤ before + spent → LeavesReads spent (take n text) it between after → LeavesReads 0 text it before after
+pub front_leaves : (n spent : ℕ) (text : Text) (it : ReadStep) (before between after : ℕ) → between ≤ before + spent → LeavesReads spent (take n text) it between after → LeavesReads 0 text it before after
 front_leaves n spent text (steps.Token token len) before between after read leaves = tt
 front_leaves n spent text (steps.Text value chunk) before between after read leaves = tt
 front_leaves n spent text (steps.Fault begin fault end) before between after read leaves = λ node view keeps.
     omega (arith, read, leaves node view keeps, front_repair n text (record { begin = begin; node = node; end = end }))
 
 -- the same text, with reads before
-pub none_leave : (spent : ℕ) (text : Text) (it : Step) (before between after : ℕ) → between ≤ before + spent → LeavesReads spent text it between after → LeavesReads 0 text it before after
+pub none_leave : (spent : ℕ) (text : Text) (it : ReadStep) (before between after : ℕ) → between ≤ before + spent → LeavesReads spent text it between after → LeavesReads 0 text it before after
 none_leave spent text (steps.Token token len) before between after read leaves = tt
 none_leave spent text (steps.Text value chunk) before between after read leaves = tt
 none_leave spent text (steps.Fault begin fault end) before between after read leaves = λ node view keeps. omega (arith, read, leaves node view keeps)

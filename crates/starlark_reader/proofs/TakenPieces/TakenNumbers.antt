@@ -18,7 +18,7 @@ use Rattle.starlark_words.specs.declared.scanner.word.Word.{Word}
 use Rattle.starlark_reader.specs.Inner.Nesting.{is_fstring_start, keeps_nesting}
 use Rattle.starlark_reader.specs.Inner.Reader.{IsStateAfter, IsWordHere, step_here}
 use Rattle.starlark_reader.specs.Inner.StepViews.{IsDigitAt, IsStep, number_of}
-use Rattle.starlark_reader.specs.declared.literal.pieces.Step.TheVariants as step
+use Rattle.starlark_reader.specs.Inner.StepViews as step
 use Rattle.starlark_reader.specs.declared.reader.Reader.{Reader}
 use Rattle.starlark_reader.proofs.TakenPieces.CodePlaces.{word_class, word_len}
 use Rattle.starlark_reader.proofs.TakenPieces.PieceTaken.{word_read}

@@ -23,8 +23,7 @@ use Rattle.starlark_reader.specs.declared.nesting.LexerMode.{LexerMode}
 use Rattle.starlark_reader.specs.declared.nesting.LexerMode.TheVariants as modes
 use Rattle.starlark_reader.specs.Inner.ReadBounds.{AreWordReads, HasRead, IsPassed, LeavesReads}
 use Rattle.starlark_reader.specs.Inner.Reader.{IsInCode, IsSound, IsStateAfter, IsWordHere, step_here}
-use Rattle.starlark_reader.specs.Inner.StepViews.{IsStep}
-use Rattle.starlark_reader.specs.declared.literal.pieces.Step.{Step}
+use Rattle.starlark_reader.specs.Inner.StepViews.{IsStep, ReadStep}
 use Rattle.starlark_reader.specs.declared.reader.Reader.{Reader}
 use Rattle.starlark_reader.proofs.TakenPieces.SameTexts.{state_here}
 use Rattle.starlark_reader.proofs.NextLines.{front_line}
@@ -35,14 +34,14 @@ use Rattle.starlark_reader.proofs.TakenPieces.ReaderReads.{IsReadBefore, state_r
 use Rattle.starlark_reader.proofs.TakenPieces.RepairReads.{front_leaves}
 
 -- the step of the word is the step at the reader's offset
-pub step_of_word : (text : Text) (history : History) (reader : Reader) (word : Word) (front : Text) (step : Step) → IsStateAfter text history reader → IsWordHere text reader word → front ≡ take word.len (drop reader.at text)
+pub step_of_word : (text : Text) (history : History) (reader : Reader) (word : Word) (front : Text) (step : ReadStep) → IsStateAfter text history reader → IsWordHere text reader word → front ≡ take word.len (drop reader.at text)
     → ((s : Situation) (remainder : Text) → IsStep (word_step s word.class front remainder) step) → IsStep (step_here text history reader) step
 step_of_word text history reader word front step kept here e is =
     let whole = word_read text history reader word kept here in
     subst (λ stands. IsStep stands step) (ap (λ (t : Text). word_step (situation history) word.class t (drop word.len (drop reader.at text))) e ∙ sym whole) (is (situation history) (drop word.len (drop reader.at text)))
 
 -- its reads are within the bound
-pub word_step_reads : (text : Text) (before between after : ℕ) (history : History) (word : Word) (step : Step) (old new : Reader) → IsStateAfter text history old → IsWordHere text old word → IsStep (step_here text history old) step
+pub word_step_reads : (text : Text) (before between after : ℕ) (history : History) (word : Word) (step : ReadStep) (old new : Reader) → IsStateAfter text history old → IsWordHere text old word → IsStep (step_here text history old) step
     → IsReadBefore before old.at (owed old.pending) → AreReads word.len (5 * word.len + 3) before between → AreWordReads word.len 9 2 (next_line (take word.len (drop old.at text)) 0) 8 step between after
     → LeavesReads (5 * word.len + 3) (take word.len (drop old.at text)) step between after → IsPassed (record old { reads = after }) step new → HasRead text new
 word_step_reads text before between after history word step old new kept here is has read more leaves passed =
@@ -52,7 +51,7 @@ word_step_reads text before between after history word step old new kept here is
     (front_leaves word.len (5 * word.len + 3) rest step before between after (omega (arith, read.1)) leaves) passed
 
 -- a string or bytes literal is the step at its opener
-pub literal_here : (text : Text) (history : History) (reader : Reader) (kind : LiteralKind) (is_raw : Bool) (quote : Quote) (len : ℕ) (mode : LexerMode) (remainder : Text) (step : Step) → IsStateAfter text history reader
+pub literal_here : (text : Text) (history : History) (reader : Reader) (kind : LiteralKind) (is_raw : Bool) (quote : Quote) (len : ℕ) (mode : LexerMode) (remainder : Text) (step : ReadStep) → IsStateAfter text history reader
     → IsWordHere text reader (record { class = class.Opener kind is_raw quote; len = len }) → ((tokens : List Token) → Represents tokens reader.nesting → mode_view mode ≡ mode_after tokens)
     → remainder ≡ drop len (drop reader.at text) → IsStep (opener (mode_view mode) kind (opening_of is_raw quote remainder) len remainder) step → IsStep (step_here text history reader) step
 unfolding situation

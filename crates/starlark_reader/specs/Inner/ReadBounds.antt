@@ -9,8 +9,8 @@ use Rattle.starlark_token.specs.Lexemes.{fault_view}
 use Rattle.starlark_token.specs.declared.lexeme_error.LexemeError.{LexemeError}
 use Rattle.starlark_words.specs.Inner.Reads.{AreReads, more_reads}
 use Rattle.starlark_reader.specs.Searches.{search_reads}
-use Rattle.starlark_reader.specs.declared.literal.pieces.Step.{Step}
-use Rattle.starlark_reader.specs.declared.literal.pieces.Step.TheVariants as step
+use Rattle.starlark_reader.specs.Inner.StepViews as step
+use Rattle.starlark_reader.specs.Inner.StepViews.{ReadStep}
 use Rattle.starlark_reader.specs.declared.reader.Reader.{Reader}
 use Rattle.starlark_reader.specs.declared.reader.Stage.{Stage}
 use Rattle.starlark_reader.specs.declared.reader.Stage.TheVariants as stage
@@ -26,25 +26,24 @@ is_tab_error error = is_tab_view (fault_view error)
 
 -- reads of a step after its first `passed` bytes: at most `factor` a byte; those of a fault are of
 -- each byte before it and of bytes up to its end, and those of a tab's fault of the first `line` bytes
-abbrev pub AreStepReads : (passed factor line extra : ℕ) → Step → (before after : ℕ) → Type 0
+abbrev pub AreStepReads : (passed factor line extra : ℕ) → ReadStep → (before after : ℕ) → Type 0
 AreStepReads passed factor line extra (step.Token token len) before after = AreReads (len - passed) (factor * (len - passed)) before after × (passed < len)
 AreStepReads passed factor line extra (step.Text value chunk) before after = AreReads (chunk.len + chunk.stop_len - passed) (factor * (chunk.len + chunk.stop_len - passed)) before after × (passed < chunk.len + chunk.stop_len)
 AreStepReads passed factor line extra (step.Fault begin fault end) before after = AreReads begin (if is_tab_error fault then 5 * line + 3 else factor * end + extra) before after
 
 -- the step takes a whole word of `len` bytes, or is a fault from there on that ends after them, and
 -- no tab's
-abbrev pub IsOfWord : ℕ → Step → Type 0
+abbrev pub IsOfWord : ℕ → ReadStep → Type 0
 IsOfWord len (step.Token token taken) = taken ≡ len
 IsOfWord len (step.Text value chunk) = ⊥
 IsOfWord len (step.Fault begin fault end) = (begin ≡ 0) × (len ≤ end) × (is_tab_error fault ≡ false)
 
--- the step is a fault from one offset to another, and no tab's
-abbrev pub IsFaultAt : ℕ → ℕ → Step → Type 0
-IsFaultAt from to (step.Fault begin fault end) = (begin ≡ from) × (end ≡ to) × (is_tab_error fault ≡ false)
-IsFaultAt from to step = ⊥
+-- the fault is from one offset to another, and no tab's
+abbrev pub IsFaultAt : ℕ → ℕ → ℕ × LexemeError × ℕ → Type 0
+IsFaultAt begin end found = (found.0 ≡ begin) × (found.2 ≡ end) × (is_tab_error found.1 ≡ false)
 
 -- the step is the fault of a tab here
-abbrev pub IsTabFault : Step → Type 0
+abbrev pub IsTabFault : ReadStep → Type 0
 IsTabFault (step.Fault begin fault end) = (begin ≡ 0) × (is_tab_error fault ≡ true)
 IsTabFault step = ⊥
 
@@ -55,7 +54,7 @@ AreFaultReads true passed line begin end most before after = AreReads 0 0 before
 AreFaultReads false passed line begin end most before after = AreReads (begin - passed) most before after × (passed ≤ end)
 
 -- reads of a token or a fault after its word of `passed` bytes, which may be all of it
-abbrev pub AreWordReads : (passed factor more line extra : ℕ) → Step → (before after : ℕ) → Type 0
+abbrev pub AreWordReads : (passed factor more line extra : ℕ) → ReadStep → (before after : ℕ) → Type 0
 AreWordReads passed factor more line extra (step.Token token len) before after = AreReads (len - passed) (factor * (len - passed) + more) before after × (passed ≤ len)
 AreWordReads passed factor more line extra (step.Text value chunk) before after = ⊥
 AreWordReads passed factor more line extra (step.Fault begin fault end) before after = AreFaultReads (is_tab_error fault) passed line begin end (factor * (end - passed) + extra) before after
@@ -66,7 +65,7 @@ AtFault begin fault end P = (node : Fault) → fault_view fault ≡ Some node �
 
 -- reads up to a fault that may keep its line, after `spent` others, leave one for each byte of its
 -- repair and one more: all are at most ten for each of these bytes
-abbrev pub LeavesReads : (spent : ℕ) → Text → Step → (before after : ℕ) → Type 0
+abbrev pub LeavesReads : (spent : ℕ) → Text → ReadStep → (before after : ℕ) → Type 0
 LeavesReads spent text (step.Fault begin fault end) before after =
     AtFault begin fault end (λ spanned. may_keep spanned.node ≡ true → after + spent + (repair_end text spanned - begin) + 1 ≤ before + 10 * (repair_end text spanned - begin))
 LeavesReads spent text step before after = ⊤
@@ -94,7 +93,7 @@ abbrev pub HasStarted : (len : ℕ) → Reader → Reader → Type 0
 HasStarted len old new = (old.at + len ≤ new.at) × (new.at ≤ old.at + len + 2) × (new.stage ≡ stage.Onward) × (owed new.pending ≤ owed old.pending) × AreReads 2 2 old.reads new.reads
 
 -- the reader advanced past the step, or stopped at its fault, and read nothing
-abbrev pub IsPassed : Reader → Step → Reader → Type 0
+abbrev pub IsPassed : Reader → ReadStep → Reader → Type 0
 IsPassed old (step.Token token len) new = IsPassedBy (old.at + len) old new × (new.stage ≡ stage.Onward)
 IsPassed old (step.Text value chunk) new = IsPassedBy (old.at + (chunk.len + chunk.stop_len)) old new × (new.stage ≡ stage.Onward)
 IsPassed old (step.Fault begin fault end) new = IsPassedBy old.at old new × (new.stage ≡ stage.Fault (old.at + begin) fault (old.at + end))

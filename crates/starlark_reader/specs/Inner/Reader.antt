@@ -233,16 +233,6 @@ IsOver now = ⊥
 abbrev pub IsAtEnd : Text → Reader → Type 0
 IsAtEnd text reader = IsIdle text reader.pending × IsOver reader.stage
 
--- whether nothing was read, …
-abbrev pub is_begin : Stage → Bool
-is_begin stage.Begin = true
-is_begin now = false
-
--- … or some pieces, and more come
-abbrev pub is_onward : Stage → Bool
-is_onward stage.Onward = true
-is_onward now = false
-
 -- whether a fault was reached
 abbrev pub is_fault : Stage → Bool
 is_fault (stage.Fault begin fault end) = true

@@ -5,11 +5,10 @@ ghost use Rattle.starlark_words.specs.Inner.LiteralViews.{fstring_literal};
 ghost use Rattle.starlark_words.specs.Inner.PlainRuns.{IsRun};
 ghost use Rattle.starlark_words.specs.Inner.Reads.{AreReads};
 ghost use Rattle.starlark_reader.specs.Inner.ReadBounds.{AreStepReads};
-ghost use Rattle.starlark_reader.specs.Inner.StepViews.{IsPlainText, IsStep};
+ghost use Rattle.starlark_reader.specs.Inner.StepViews.{IsPlainText, IsStep, chunk_step};
 ghost use Rattle.starlark_grammar.specs.Inner.Openings.{opening_view};
 ghost use Rattle.starlark_grammar.specs.Pieces as grammar;
 
-use super::pieces::Step;
 use starlark_grammar::class::Opening;
 use starlark_token::lexeme_error::LexemeError;
 use starlark_words::reads::ReadCounter;
@@ -17,18 +16,18 @@ use starlark_words::scanner::LiteralKind;
 use starlark_words::{Body, Literal, LiteralValue, Stop, closing_len, plain_chunk_len, read_body};
 use std::alloc::{AllocError, Global};
 
-/// The f-string text up to its first stop: an expression, the closing quotes, or a fault. Its first `run`
-/// bytes are known.
+/// The value of the f-string text up to an expression or the closing quotes, and its length; or the
+/// fault in it, between two offsets. Its first `run` bytes are known.
 pub(crate) fn chunk_from(
     reads: &mut ReadCounter,
     alloc: Global,
     opening: Opening,
     run: usize,
     text: &str,
-) -> Result<Step, AllocError>
+) -> Result<Result<(String, Chunk), (usize, LexemeError, usize)>, AllocError>
     requires run { IsRun (fstring_literal (opening_view opening)) text.now run }
-    ensures step { IfOk result (IsStep (grammar.chunk (opening_view opening) text.now)) }
-    ensures reads { IfOk result (λ step. (before : ℕ) → AreReads run (8 * run + 4) before reads.old → AreStepReads 0 10 0 10 step before reads.new) }
+    ensures step { IfOk result (λ found. IsStep (grammar.chunk (opening_view opening) text.now) (chunk_step found)) }
+    ensures reads { IfOk result (λ found. (before : ℕ) → AreReads run (8 * run + 4) before reads.old → AreStepReads 0 10 0 10 (chunk_step found) before reads.new) }
 {
     let literal = Literal {
         kind: LiteralKind::FString,
@@ -43,42 +42,32 @@ pub(crate) fn chunk_from(
         unreachable!()
     };
     match stop {
-        Stop::OpeningBrace => Ok(Step::Text {
-            value,
-            chunk: Chunk {
+        Stop::OpeningBrace => {
+            let chunk = Chunk {
                 len: text_len,
                 before_expression: true,
                 stop_len: 1,
-            },
-        }),
-        Stop::Closing => Ok(Step::Text {
-            value,
-            chunk: Chunk {
+            };
+            Ok(Ok((value, chunk)))
+        }
+        Stop::Closing => {
+            let chunk = Chunk {
                 len: text_len,
                 before_expression: false,
                 stop_len: closing_len(opening),
-            },
-        }),
-        Stop::ClosingBrace => Ok(Step::Fault {
-            begin: text_len,
-            fault: LexemeError::InvalidInput(String::from_str(alloc, "}")?),
-            end: text_len + 1,
-        }),
-        Stop::BadEscape { len, last } => Ok(Step::Fault {
-            begin: text_len + (len - last),
-            fault: LexemeError::InvalidEscapeSequence(String::from_str(alloc, "\\")?),
-            end: text_len + len,
-        }),
-        Stop::Line => Ok(Step::Fault {
-            begin: 0,
-            fault: LexemeError::UnfinishedStringLiteral,
-            end: text_len + 1,
-        }),
-        Stop::Ended => Ok(Step::Fault {
-            begin: 0,
-            fault: LexemeError::UnfinishedStringLiteral,
-            end: text.len(),
-        }),
+            };
+            Ok(Ok((value, chunk)))
+        }
+        Stop::ClosingBrace => {
+            let fault = LexemeError::InvalidInput(String::from_str(alloc, "}")?);
+            Ok(Err((text_len, fault, text_len + 1)))
+        }
+        Stop::BadEscape { len, last } => {
+            let fault = LexemeError::InvalidEscapeSequence(String::from_str(alloc, "\\")?);
+            Ok(Err((text_len + (len - last), fault, text_len + len)))
+        }
+        Stop::Line => Ok(Err((0, LexemeError::UnfinishedStringLiteral, text_len + 1))),
+        Stop::Ended => Ok(Err((0, LexemeError::UnfinishedStringLiteral, text.len()))),
     }
 }
 

@@ -1,7 +1,7 @@
 //! String and bytes literals as lexemes.
 
 ghost use Rattle.std.specs.Prelude.{◌≡◌, ◌+◌, ◌*◌, ◌<◌, ◌^◌, ℕ, Some, false, length, not, IfOk};
-ghost use Rattle.starlark_reader.specs.Inner.StepViews.{IsStep};
+ghost use Rattle.starlark_reader.specs.Inner.StepViews.{IsStep, fault_step, literal_step};
 ghost use Rattle.starlark_reader.specs.Inner.Nesting.{mode_view};
 ghost use Rattle.starlark_reader.specs.Inner.ReadBounds.{AreWordReads, IsFaultAt, is_tab_error};
 ghost use Rattle.starlark_words.specs.Inner.Reads.{AreReads, more_reads};
@@ -12,7 +12,6 @@ ghost use Rattle.starlark_grammar.specs.Inner.Openings.{opening_view};
 ghost use Rattle.starlark_grammar.specs.Pieces as grammar;
 ghost use Rattle.starlark_token.specs.TokenViews.{fstring_quote_view};
 
-use super::chunks::Chunk;
 use crate::nesting::LexerMode;
 use starlark_grammar::class::Opening;
 use starlark_token::fstring_style::FStringQuote;
@@ -22,25 +21,6 @@ use starlark_words::reads::ReadCounter;
 use starlark_words::scanner::{LiteralKind, Quote};
 use starlark_words::{Literal, LiteralValue, Stop, closing_len, read_body};
 use std::alloc::{AllocError, Global};
-
-/// A step at an offset: a token, an f-string text with its end, or a fault. Offsets and lengths are
-/// in bytes, from there on. An f-string text whose value is empty yields no token.
-#[derive(Drop)]
-pub enum Step {
-    Token {
-        token: Token,
-        len: usize,
-    },
-    Text {
-        value: String,
-        chunk: Chunk,
-    },
-    Fault {
-        begin: usize,
-        fault: LexemeError,
-        end: usize,
-    },
-}
 
 /// Whether a text has no backslash and no CR, and no LF where the literal may not have one.
 fn is_plain(opening: Opening, text: &[u8]) -> bool
@@ -77,29 +57,30 @@ fn unfinished(
 }
 
 /// The fault of a bad escape at byte `begin`. `read` is the text of the escape after its backslash.
-fn escape_fault(alloc: Global, begin: usize, read: &str) -> Result<Step, AllocError>
+fn escape_fault(
+    alloc: Global,
+    begin: usize,
+    read: &str,
+) -> Result<(usize, LexemeError, usize), AllocError>
     requires { begin + 1 + length read.now < 2 ^ 64 }
-    ensures step { IfOk result (IsStep (grammar.escape_fault begin read.now)) }
+    ensures step { IfOk result (λ fault. IsStep (grammar.escape_fault begin read.now) (fault_step fault)) }
     ensures fault { IfOk result (IsFaultAt begin (begin + 1 + length read.now)) }
 {
     if read.is_empty() {
-        return Ok(Step::Fault {
-            begin,
-            fault: LexemeError::EmptyEscapeSequence,
-            end: begin + 1,
-        });
+        return Ok((begin, LexemeError::EmptyEscapeSequence, begin + 1));
     }
     let text = String::from_str(alloc, read)?;
-    Ok(Step::Fault {
+    Ok((
         begin,
-        fault: LexemeError::InvalidEscapeSequence(text),
-        end: begin + 1 + read.len(),
-    })
+        LexemeError::InvalidEscapeSequence(text),
+        begin + 1 + read.len(),
+    ))
 }
 
-/// A string or bytes literal. Its opening has `len` bytes, and `remainder` is the text after it, of which
-/// `run` bytes are known.
-// Inlined: as a call, its step is copied from memory (2 % of escapes).
+/// The token of a string or bytes literal and its length in bytes, or its fault between two
+/// offsets. Its opening has `len` bytes, and `remainder` is the text after it, of which `run` bytes
+/// are known.
+// Inlined: as a call, its result is copied from memory (2 % of escapes).
 #[inline(always)]
 pub(crate) fn literal_piece(
     reads: &mut ReadCounter,
@@ -109,44 +90,30 @@ pub(crate) fn literal_piece(
     len: usize,
     run: usize,
     remainder: &str,
-) -> Result<Step, AllocError>
+) -> Result<Result<(Token, usize), (usize, LexemeError, usize)>, AllocError>
     requires fits { len + length remainder.now < 2 ^ 64 }
     requires run { IsRun (literal_view literal) remainder.now run }
-    ensures step { IfOk result (IsStep (grammar.literal (mode_view mode) literal.kind (opening_view literal.opening) len remainder.now)) }
-    ensures reads { IfOk result (λ step. (before : ℕ) → AreReads run (8 * run) before reads.old → AreWordReads len 9 0 0 6 step before reads.new) }
+    ensures step { IfOk result (λ found. IsStep (grammar.literal (mode_view mode) literal.kind (opening_view literal.opening) len remainder.now) (literal_step found)) }
+    ensures reads { IfOk result (λ found. (before : ℕ) → AreReads run (8 * run) before reads.old → AreWordReads len 9 0 0 6 (literal_step found) before reads.new) }
 {
     let body = read_body(reads, alloc, literal, run, remainder)?;
     match body.stop {
         Stop::Closing => {
             let len = len + body.len + closing_len(literal.opening);
             match body.value {
-                LiteralValue::Text(text) => Ok(Step::Token {
-                    token: Token::String(text),
-                    len,
-                }),
-                LiteralValue::Bytes(bytes) => Ok(Step::Token {
-                    token: Token::Bytes(bytes),
-                    len,
-                }),
+                LiteralValue::Text(text) => Ok(Ok((Token::String(text), len))),
+                LiteralValue::Bytes(bytes) => Ok(Ok((Token::Bytes(bytes), len))),
             }
         }
         Stop::BadEscape { len: read, .. } => {
-            escape_fault(
-                alloc,
-                len + body.len,
-                &remainder[body.len + 1..body.len + read],
-            )
+            let escape = &remainder[body.len + 1..body.len + read];
+            Ok(Err(escape_fault(alloc, len + body.len, escape)?))
         }
-        Stop::Line => Ok(Step::Fault {
-            begin: 0,
-            fault: LexemeError::UnfinishedStringLiteral,
-            end: len + body.len,
-        }),
-        _ => Ok(Step::Fault {
-            begin: 0,
-            fault: unfinished(reads, mode, literal, remainder),
-            end: len + remainder.len(),
-        }),
+        Stop::Line => Ok(Err((0, LexemeError::UnfinishedStringLiteral, len + body.len))),
+        _ => {
+            let fault = unfinished(reads, mode, literal, remainder);
+            Ok(Err((0, fault, len + remainder.len())))
+        }
     }
 }
 

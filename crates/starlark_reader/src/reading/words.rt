@@ -3,7 +3,6 @@
 ghost use Rattle.std.specs.Prelude.{◌≡◌, Some, true, IfOk};
 ghost use Rattle.starlark_words.specs.Inner.ScannedWords.{is_number};
 ghost use Rattle.starlark_reader.specs.Inner.StepViews.{number_of};
-ghost use Rattle.starlark_grammar.specs.Tokens as tokens;
 ghost use Rattle.starlark_grammar.specs.Words.{class_in, language};
 ghost use Rattle.starlark_token.specs.TokenViews.{Whole, token_view};
 

@@ -29,8 +29,8 @@ use Rattle.starlark_syntax.specs.Lexer.{HasReadToFault, LexerView, is_ended_by, 
 use Rattle.starlark_syntax.specs.declared.error.kinds.ErrorKind.{ErrorKind}
 use Rattle.starlark_syntax.specs.PlainLexemes.{IsPlainIn, plain_view}
 use Rattle.starlark_syntax.specs.declared.lexer_state.LexerState.{LexerState}
-use Rattle.starlark_syntax.specs.declared.lexer_state.Waiting.{Waiting}
-use Rattle.starlark_syntax.specs.declared.lexer_state.Waiting.TheVariants as waiting
+use Rattle.starlark_syntax.specs.declared.lexer_state.Advance.{Advance}
+use Rattle.starlark_syntax.specs.declared.lexer_state.Advance.TheVariants as advance
 use Rattle.starlark_text.specs.declared.or_memory.OrMemory.{OrMemory}
 use Rattle.starlark_text.specs.declared.or_memory.OrMemory.TheVariants.{Error, Memory}
 use Rattle.starlark_syntax.specs.declared.plain_lexeme.PlainKind.{PlainKind}
@@ -214,16 +214,16 @@ abbrev pub plain_mark : PlainKind → (begin end : ℕ) → PlainLexeme
 plain_mark it begin end = record { kind = it; begin = begin; end = end; value_begin = end; value_end = end }
 
 -- what the fast path tells of what was passed without lookahead in code, between two offsets
-abbrev pub passed_as : Waiting → (begin end : ℕ) → Result (Option PlainLexeme) AllocError
-passed_as waiting.Nothing begin end = Ok None
-passed_as waiting.Indent begin end = Ok (Some (plain_mark kind.Indent begin end))
-passed_as waiting.Dedent begin end = Ok (Some (plain_mark kind.Dedent begin end))
-passed_as waiting.FStringText begin end = Ok (Some (plain_fstring_text begin end))
-passed_as waiting.FStringExprStart begin end = Ok (Some (plain_mark kind.FStringExprStart begin end))
-passed_as waiting.FStringEnd begin end = Ok (Some (plain_mark kind.FStringEnd begin end))
-passed_as waiting.Comment begin end = Ok (Some (plain_comment begin end))
-passed_as waiting.Layout begin end = Ok None
-passed_as waiting.OutOfMemory begin end = Err alloc_error
+abbrev pub passed_as : Advance → (begin end : ℕ) → Result (Option PlainLexeme) AllocError
+passed_as advance.Nothing begin end = Ok None
+passed_as advance.Indent begin end = Ok (Some (plain_mark kind.Indent begin end))
+passed_as advance.Dedent begin end = Ok (Some (plain_mark kind.Dedent begin end))
+passed_as advance.FStringText begin end = Ok (Some (plain_fstring_text begin end))
+passed_as advance.FStringExprStart begin end = Ok (Some (plain_mark kind.FStringExprStart begin end))
+passed_as advance.FStringEnd begin end = Ok (Some (plain_mark kind.FStringEnd begin end))
+passed_as advance.Comment begin end = Ok (Some (plain_comment begin end))
+passed_as advance.Layout begin end = Ok None
+passed_as advance.OutOfMemory begin end = Err alloc_error
 
 -- how much is left to pass
 abbrev pub left_to_pass : LexerState → ℕ
@@ -240,9 +240,9 @@ pub record HasGoneOn (old new : LexerState) : Type 0 where
   pub less : left_to_pass new < left_to_pass old
 
 -- What was passed without lookahead in code: the next lexeme, or what has none.
-abbrev pub HasPassedWaiting : LexerState → Waiting → LexerState → Type 0
-HasPassedWaiting old waiting.Layout new = HasGoneOn old new
-HasPassedWaiting old it new = HasPassedNext old (passed_as it new.passed_begin new.passed_end) new
+abbrev pub HasAdvanced : LexerState → Advance → LexerState → Type 0
+HasAdvanced old advance.Layout new = HasGoneOn old new
+HasAdvanced old it new = HasPassedNext old (passed_as it new.passed_begin new.passed_end) new
 
 -- The lexer is at a word in code, which the scanner has found, and has spent no other lookahead.
 pub record IsAtWord (state : LexerState) (word : Word) : Type 0 where
@@ -275,16 +275,12 @@ abbrev pub plain_string : (begin opener end : ℕ) → PlainLexeme
 plain_string begin opener end = record { kind = kind.String; begin = begin; end = end; value_begin = begin + opener; value_end = end - 1 }
 
 -- the kind is that of a pending token
-abbrev pub IsOfMark : Waiting → TokenView → Type 0
-IsOfMark waiting.Indent view = view ≡ Whole grammar.Indent
-IsOfMark waiting.Dedent view = view ≡ Whole grammar.Dedent
-IsOfMark waiting.FStringExprStart view = view ≡ Whole grammar.FStringExprStart
-IsOfMark waiting.FStringEnd view = view ≡ Whole grammar.FStringEnd
+abbrev pub IsOfMark : Advance → TokenView → Type 0
+IsOfMark advance.Indent view = view ≡ Whole grammar.Indent
+IsOfMark advance.Dedent view = view ≡ Whole grammar.Dedent
+IsOfMark advance.FStringExprStart view = view ≡ Whole grammar.FStringExprStart
+IsOfMark advance.FStringEnd view = view ≡ Whole grammar.FStringEnd
 IsOfMark it view = ⊥
-
-abbrev pub is_layout : Waiting → Bool
-is_layout waiting.Layout = true
-is_layout it = false
 
 -- A plain lexeme that was passed is an item, or there was out of memory in its place, which ends the lexer.
 abbrev pub HasTaken : LexerState → PlainLexeme → Option (Result (ℕ × Token × ℕ) (OrMemory (Diagnosed ErrorKind))) → LexerState → Type 0

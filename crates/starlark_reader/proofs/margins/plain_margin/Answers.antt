@@ -11,6 +11,3 @@ returns-then-next-gt35-clause-margin c = search (rules, content_plain)
 
 pub returns-then-next-eq10-clause-margin : goal.returns-then-next-eq10-clause-margin
 returns-then-next-eq10-clause-margin c = search (rules, line_end_first)
-
-pub returns-then-next-eq34-clause-margin : goal.returns-then-next-eq34-clause-margin
-returns-then-next-eq34-clause-margin c = search (rules, content_plain)

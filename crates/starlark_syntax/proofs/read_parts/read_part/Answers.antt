@@ -41,7 +41,7 @@ returns-in-Some-meeting_at-clause-met c =
     let reached : c.cut-place.result ≡ Some c.in-Some-meeting_at.meeting.at = c.in-Some-meeting_at.ensures.place in
     let before : IsCutBefore text c.in-Some-meeting_at.meeting.at (length (left_in c.next.new.self)) = subst (λ (t : Text). IsCutBefore t c.in-Some-meeting_at.meeting.at (length (left_in c.next.new.self))) same (subst (λ (found : Option ℕ). IfSome found (λ at. IsCutBefore c.next.new.self.reader.text.now at (length (left_in c.next.new.self)))) reached kept) in
     let last : c.push_cut.new.cuts.items ≡ c.loop-item.cuts.items ++ cuts_at (Some c.in-Some-meeting_at.meeting.at) (length c.push.new.self.items) = c.in_ok-push_cut.ensures ∙ ap (λ n. c.loop-item.cuts.items ++ cuts_at c.cut-place.result n) counted ∙ ap (λ (found : Option ℕ). c.loop-item.cuts.items ++ cuts_at found (length c.push.new.self.items)) reached in (
-      subst (λ (t : Text). IsMet t c.args.known.text.now c.args.known.cuts.now c.in-Some-meeting_at.meeting) same c.in-Some-meeting_at.ensures.met,
+      subst (λ (t : Text). IsMet t c.args.known.now c.args.known_cuts.now c.in-Some-meeting_at.meeting) same c.in-Some-meeting_at.ensures.met,
       met_front text c.next.new.self c.loop-item.cuts.items c.in-Some-meeting_at.meeting.at _ pushed.collected before pushed.cuts last,
     )
 

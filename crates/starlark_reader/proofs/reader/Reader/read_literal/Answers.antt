@@ -1,4 +1,4 @@
-use Rattle.std.proofs.Common.{◌≡◌, ◌≢◌, subst, arith, ◌+◌, ◌*◌, ℕ, ap, drop, false, refl, sym, take, true, ◌∙◌}
+use Rattle.std.proofs.Common.{◌≡◌, ◌≢◌, subst, arith, ◌+◌, ◌*◌, ℕ, ap, drop, false, None, Option, Some, refl, sym, take, true, ◌∙◌}
 use Rattle.starlark_grammar.proofs.Repairs.Faults.{opener_lost}
 use Rattle.starlark_grammar.specs.AfterFaults.{next_line}
 use Rattle.starlark_grammar.specs.Front.{language_front}
@@ -6,8 +6,11 @@ use Rattle.starlark_grammar.specs.Pieces as grammar
 use Rattle.starlark_grammar.specs.Tokens as grammar_tokens
 use Rattle.starlark_grammar.specs.declared.class.Class.{Class}
 use Rattle.starlark_grammar.specs.declared.class.Class.TheVariants as class
-use Rattle.starlark_reader.specs.Inner.Reader.{IsWordHere}
+use Rattle.starlark_reader.specs.Inner.Reader.{IsAtStep, IsStateAfter, IsWordHere, Takes, TakesNext, step_here}
 use Rattle.starlark_words.specs.declared.scanner.word.Word.{Word}
+use Rattle.starlark_grammar.specs.Reading.{History}
+use Rattle.starlark_token.specs.declared.tokens.Token.{Token}
+use Rattle.starlark_reader.specs.declared.reader.Reader.{Reader}
 use Rattle.starlark_reader.specs.Inner.Lookaheads.{IsOpened}
 use Rattle.starlark_reader.specs.Inner.Nesting.{mode_view}
 use Rattle.starlark_reader.proofs.ReadLiterals.LiteralPieces.{opener_literal, triple_edge}
@@ -16,8 +19,9 @@ use Rattle.starlark_words.proofs.LiteralBodies.PlainBodies.{empty_run, no_run_be
 use Rattle.starlark_words.specs.Inner.LiteralViews.{single_literal}
 use Rattle.starlark_words.specs.Inner.PlainRuns.{IsRun}
 use Rattle.starlark_words.specs.Inner.Reads.{AreReads, more_reads}
-use Rattle.starlark_reader.specs.Inner.ReadBounds.{AreWordReads}
-use Rattle.starlark_reader.specs.Inner.StepViews.{IsStep}
+use Rattle.starlark_reader.specs.Inner.ReadBounds.{AreWordReads, HasRead, IsPassed}
+use Rattle.starlark_reader.specs.Inner.StepViews as steps
+use Rattle.starlark_reader.specs.Inner.StepViews.{IsStep, ReadStep, literal_step}
 use Rattle.starlark_grammar.specs.Inner.Openings.{opening_view}
 use Rattle.starlark_grammar.specs.declared.class.LiteralKind.TheVariants.{FString as OfFString}
 use Rattle.starlark_grammar.specs.declared.class.Opening.{Opening}
@@ -25,12 +29,13 @@ use Rattle.starlark_reader.proofs.TakenMargins.Waiting.{after_error}
 use Rattle.starlark_reader.proofs.TakenPieces.CodePlaces.{word_cut}
 use Rattle.starlark_reader.proofs.TakenPieces.NextLexeme.{onward_something}
 use Rattle.starlark_reader.proofs.TakenPieces.PieceReads.{opener_reads}
+use Rattle.starlark_reader.proofs.TakenPieces.PieceTaken.{refused_fits, refused_read}
 use Rattle.starlark_reader.proofs.TakenPieces.ReaderReads.{state_reads}
 use Rattle.starlark_reader.proofs.TakenPieces.RepairReads.{no_repair}
 use Rattle.starlark_reader.proofs.TakenPieces.SameTexts.{state_here, taken_here}
 use Rattle.starlark_reader.proofs.TakenPieces.WordSteps.{literal_here, word_step_reads}
 use Rattle.starlark_reader.proofs.reader.Reader.read_literal.Goals as goal
-use Rattle.starlark_reader.proofs.reader.Reader.read_literal.Goals.{After-range_from, In_ok-step, then-opening, else-opening}
+use Rattle.starlark_reader.proofs.reader.Reader.read_literal.Goals.{After-range_from, In_ok-found, then-opening, else-opening}
 
 -- two more quotes, or none, follow the opener
 two_quotes : (opening : Opening) (quotes : ℕ) → opening.is_triple ≡ true → quotes ≡ 2 → quotes ≡ grammar.more_quotes (opening_view opening)
@@ -69,71 +74,99 @@ literal_piece-requires c =
           record { fits = omega (arith, w.quotes-is, c.range_from.ensures.len, c.range_from-remainder.ensures.len, c.range_from-rest.ensures.len); run = rw (c.range_from.ensures.value, w.quotes-is, is, sym triple ∙ w.if-opening.false) opened.1 }
     ]
 
+-- what is known where the literal was read
+abbrev Known : In_ok-found → Type 0
+Known c = (c.in-Opener.kind ≢ OfFString) × IsRun (single_literal c.in-Opener.kind c.in-Opener.is_raw c.in-Opener.quote) c.range_from-remainder.result.now c.args.run
+
 -- the step that was read
-read_step : (c : In_ok-step) → (c.in-Opener.kind ≢ OfFString) × IsRun (single_literal c.in-Opener.kind c.in-Opener.is_raw c.in-Opener.quote) c.range_from-remainder.result.now c.args.run → IsStep (grammar.opener (mode_view c.mode-mode.result) c.in-Opener.kind (grammar.opening_of c.in-Opener.is_raw c.in-Opener.quote c.range_from-remainder.result.now) c.args.opener.len c.range_from-remainder.result.now) c.in_ok-step.step
+read_step : (c : In_ok-found) → Known c → IsStep (grammar.opener (mode_view c.mode-mode.result) c.in-Opener.kind (grammar.opening_of c.in-Opener.is_raw c.in-Opener.quote c.range_from-remainder.result.now) c.args.opener.len c.range_from-remainder.result.now) (literal_step c.in_ok-found.found)
 read_step c opened =
     let opening = c.opening_of-opening.result in
     let more : c.if-opening.quotes ≡ grammar.more_quotes (opening_view opening) = elim c.if-opening.branch [
       | then-opening w ↦ two_quotes opening c.if-opening.quotes w.if-opening.true w.quotes-is
       | else-opening w ↦ no_quotes opening c.if-opening.quotes w.if-opening.false w.quotes-is
     ] in
-    rw (← c.opening_of-opening.ensures.opening, opener_literal (mode_view c.mode-mode.result) c.in-Opener.kind (opening_view opening) c.args.opener.len c.if-opening.quotes c.range_from-remainder.result.now c.range_from.result.now opened.0 more c.range_from.ensures.value) c.in_ok-step.ensures.step
+    rw (← c.opening_of-opening.ensures.opening, opener_literal (mode_view c.mode-mode.result) c.in-Opener.kind (opening_view opening) c.args.opener.len c.if-opening.quotes c.range_from-remainder.result.now c.range_from.result.now opened.0 more c.range_from.ensures.value) c.in_ok-found.ensures.step
+
+-- it is the step at the reader's offset
+read_here : (c : In_ok-found) → Known c → (history : History) → IsStateAfter c.args.self.now.text.now history c.args.self.now → IsStep (step_here c.args.self.now.text.now history c.args.self.now) (literal_step c.in_ok-found.found)
+read_here c opened history kept =
+    let old = c.args.self.now in
+    let stands = subst (λ (it : Class). IsWordHere old.text.now old (record { class = it; len = c.args.opener.len })) c.in-Opener.is c.requires.found.0 in
+    let remainder : c.range_from-remainder.result.now ≡ drop c.args.opener.len (drop old.at old.text.now) = c.range_from-remainder.ensures.value ∙ ap (drop c.args.opener.len) c.range_from-rest.ensures.value in
+    literal_here old.text.now history old c.in-Opener.kind c.in-Opener.is_raw c.in-Opener.quote c.args.opener.len c.mode-mode.result c.range_from-remainder.result.now (literal_step c.in_ok-found.found) kept stands c.mode-mode.ensures remainder (read_step c opened)
 
 -- its reads
-step_reads : (c : In_ok-step) → (c.in-Opener.kind ≢ OfFString) × IsRun (single_literal c.in-Opener.kind c.in-Opener.is_raw c.in-Opener.quote) c.range_from-remainder.result.now c.args.run → (before : ℕ) → AreReads c.args.run (8 * c.args.run) before c.args.self.now.reads → AreWordReads c.args.opener.len 9 2 0 8 c.in_ok-step.step before c.literal_piece.new.reads
+step_reads : (c : In_ok-found) → Known c → (before : ℕ) → AreReads c.args.run (8 * c.args.run) before c.args.self.now.reads → AreWordReads c.args.opener.len 9 2 0 8 (literal_step c.in_ok-found.found) before c.literal_piece.new.reads
 step_reads c opened = λ before read.
     let triple = ap (λ (opening : grammar_tokens.Opening). opening.is_triple) c.opening_of-opening.ensures.opening in
-    let step = c.in_ok-step.step in
+    let step = literal_step c.in_ok-found.found in
     elim c.if-opening.branch [
       | then-opening w ↦
           let none = no_run_before_quotes c.in-Opener.kind c.in-Opener.is_raw c.in-Opener.quote c.range_from-remainder.result.now c.args.run opened.1 (sym triple ∙ w.if-opening.true) in
-          triple_reads c.args.opener.len step before c.opening_of-opening.new.reads _ (omega (arith, c.opening_of-opening.ensures.reads, none, read.0, read.1)) (rw w.quotes-is at (c.in_ok-step.ensures.reads c.opening_of-opening.new.reads (omega arith, omega arith)))
+          triple_reads c.args.opener.len step before c.opening_of-opening.new.reads _ (omega (arith, c.opening_of-opening.ensures.reads, none, read.0, read.1)) (rw w.quotes-is at (c.in_ok-found.ensures.reads c.opening_of-opening.new.reads (omega arith, omega arith)))
       | else-opening w ↦
           let same : c.args.opener.len + c.if-opening.quotes ≡ c.args.opener.len = omega (arith, w.quotes-is) in
-          single_reads c.args.opener.len step before (more_reads before 2) _ refl (rw same at (c.in_ok-step.ensures.reads (more_reads before 2) (rw c.opening_of-opening.ensures.reads (later_reads c.args.run (8 * c.args.run) before c.args.self.now.reads read))))
+          single_reads c.args.opener.len step before (more_reads before 2) _ refl (rw same at (c.in_ok-found.ensures.reads (more_reads before 2) (rw c.opening_of-opening.ensures.reads (later_reads c.args.run (8 * c.args.run) before c.args.self.now.reads read))))
     ]
 
-pub returns-in_err-step-clause-memory : goal.returns-in_err-step-clause-memory
-returns-in_err-step-clause-memory c = after_error c.from_residual.result _ (λ lexemes fault ahead. onward_something c.args.self.now.text.now c.args.self.now lexemes fault c.requires.found.0.idle c.requires.found.0.stage ahead)
+pub returns-in_err-found-clause-memory : goal.returns-in_err-found-clause-memory
+returns-in_err-found-clause-memory c = after_error c.from_residual.result _ (λ lexemes fault ahead. onward_something c.args.self.now.text.now c.args.self.now lexemes fault c.requires.found.0.idle c.requires.found.0.stage ahead)
 
-pub take-requires : goal.take-requires
-take-requires c =
-    let stands = subst (λ (it : Class). IsWordHere c.args.self.now.text.now c.args.self.now (record { class = it; len = c.args.opener.len })) c.in-Opener.is c.requires.found.0 in
+-- the reader after the literal was read, and the step
+abbrev at_literal : In_ok-found → Reader
+at_literal c = record c.args.self.now { reads = c.literal_piece.new.reads }
+
+step_at : (c : In_ok-found) → Known c → (step : ReadStep) → literal_step c.in_ok-found.found ≡ step → IsAtStep (at_literal c) (λ history stands. IsStep stands step)
+step_at c opened step is =
     let old = c.args.self.now in
     let left = state_here old c.requires.sound c.requires.found.0.stage in
-    let remainder : c.range_from-remainder.result.now ≡ drop c.args.opener.len (drop old.at old.text.now) = c.range_from-remainder.ensures.value ∙ ap (drop c.args.opener.len) c.range_from-rest.ensures.value in
-    record {
-      text = c.requires.sound.text;
-      stage = c.requires.found.0.stage;
-      stands = (left.0, state_reads old.text.now left.0 old c.literal_piece.new.reads left.1, literal_here old.text.now left.0 old c.in-Opener.kind c.in-Opener.is_raw c.in-Opener.quote c.args.opener.len c.mode-mode.result c.range_from-remainder.result.now c.in_ok-step.step left.1 stands c.mode-mode.ensures remainder (read_step (goal.at.take-requires c).In_ok-step (opened_at (goal.at.take-requires c).After-range_from)));
-      idle = c.requires.found.0.idle;
-    }
+    record { text = c.requires.sound.text; stage = c.requires.found.0.stage; stands = (left.0, state_reads old.text.now left.0 old c.literal_piece.new.reads left.1, rw is at (read_here c opened left.0 left.1)); idle = c.requires.found.0.idle }
 
-pub returns-clause-ahead : goal.returns-clause-ahead
-returns-clause-ahead c =
-    let stands = subst (λ (it : Class). IsWordHere c.args.self.now.text.now c.args.self.now (record { class = it; len = c.args.opener.len })) c.in-Opener.is c.requires.found.0 in
+ahead : (c : In_ok-found) → Known c → (step : ReadStep) (given : Option (ℕ × Token × ℕ)) (new : Reader) → literal_step c.in_ok-found.found ≡ step → Takes (at_literal c) (λ history stands. IsStep stands step) given new → TakesNext c.args.self.now given new
+ahead c opened step given new is takes =
     let old = c.args.self.now in
-    let remainder : c.range_from-remainder.result.now ≡ drop c.args.opener.len (drop old.at old.text.now) = c.range_from-remainder.ensures.value ∙ ap (drop c.args.opener.len) c.range_from-rest.ensures.value in
-    taken_here old c.take.result c.take.new.self c.requires.found.0.stage c.requires.found.0.idle (λ history kept.
-    c.take.ensures.read history (state_reads old.text.now history old c.literal_piece.new.reads kept)
-    (literal_here old.text.now history old c.in-Opener.kind c.in-Opener.is_raw c.in-Opener.quote c.args.opener.len c.mode-mode.result c.range_from-remainder.result.now c.in_ok-step.step kept stands c.mode-mode.ensures remainder (read_step (goal.at.returns-clause-ahead c).In_ok-step (opened_at (goal.at.returns-clause-ahead c).After-range_from))))
+    taken_here old given new c.requires.found.0.stage c.requires.found.0.idle (λ history kept. takes history (state_reads old.text.now history old c.literal_piece.new.reads kept) (rw is at (read_here c opened history kept)))
 
-pub returns-clause-reads : goal.returns-clause-reads
-returns-clause-reads c =
-    let stands = subst (λ (it : Class). IsWordHere c.args.self.now.text.now c.args.self.now (record { class = it; len = c.args.opener.len })) c.in-Opener.is c.requires.found.0 in
+reads_after : (c : In_ok-found) → Known c → (step : ReadStep) (new : Reader) → literal_step c.in_ok-found.found ≡ step → IsPassed (at_literal c) step new → HasRead c.args.self.now.text.now new
+reads_after c opened step new is passed =
     let old = c.args.self.now in
+    let stands = subst (λ (it : Class). IsWordHere old.text.now old (record { class = it; len = c.args.opener.len })) c.in-Opener.is c.requires.found.0 in
     let peeked = c.requires.found.2 in
     let text = old.text.now in
     let left = state_here old c.requires.sound c.requires.found.0.stage in
     let word : Word = record { class = class.Opener c.in-Opener.kind c.in-Opener.is_raw c.in-Opener.quote; len = c.args.opener.len } in
     let front = take c.args.opener.len (drop old.at text) in
-    let step = c.in_ok-step.step in
-    let remainder : c.range_from-remainder.result.now ≡ drop c.args.opener.len (drop old.at text) = c.range_from-remainder.ensures.value ∙ ap (drop c.args.opener.len) c.range_from-rest.ensures.value in
-    let is = literal_here text left.0 old c.in-Opener.kind c.in-Opener.is_raw c.in-Opener.quote c.args.opener.len c.mode-mode.result c.range_from-remainder.result.now step left.1 stands c.mode-mode.ensures remainder (read_step (goal.at.returns-clause-reads c).In_ok-step (opened_at (goal.at.returns-clause-reads c).After-range_from)) in
     let mode = mode_view c.mode-mode.result in
     let opening = grammar.opening_of c.in-Opener.is_raw c.in-Opener.quote c.range_from-remainder.result.now in
     let parts = split_reads c.args.opener.len c.args.run peeked.0 old.reads peeked.2 in
-    word_step_reads text peeked.0 parts.0 c.literal_piece.new.reads left.0 word step old c.take.new.self left.1 stands is peeked.1 parts.1
-    (opener_reads c.args.opener.len (next_line front 0) step parts.0 c.literal_piece.new.reads (step_reads (goal.at.returns-clause-reads c).In_ok-step (opened_at (goal.at.returns-clause-reads c).After-range_from) parts.0 parts.2))
-    (no_repair (5 * c.args.opener.len + 3) front (grammar.opener mode c.in-Opener.kind opening c.args.opener.len c.range_from-remainder.result.now) step parts.0 c.literal_piece.new.reads (read_step (goal.at.returns-clause-reads c).In_ok-step (opened_at (goal.at.returns-clause-reads c).After-range_from)) (opener_lost mode c.in-Opener.kind opening c.args.opener.len c.range_from-remainder.result.now))
-    c.take.ensures.passed
+    word_step_reads text peeked.0 parts.0 c.literal_piece.new.reads left.0 word step old new left.1 stands (rw is at (read_here c opened left.0 left.1)) peeked.1 parts.1
+    (opener_reads c.args.opener.len (next_line front 0) step parts.0 c.literal_piece.new.reads (rw is at (step_reads c opened parts.0 parts.2)))
+    (no_repair (5 * c.args.opener.len + 3) front (grammar.opener mode c.in-Opener.kind opening c.args.opener.len c.range_from-remainder.result.now) step parts.0 c.literal_piece.new.reads (rw is at (read_step c opened)) (opener_lost mode c.in-Opener.kind opening c.args.opener.len c.range_from-remainder.result.now))
+    passed
+
+pub take_token-requires : goal.take_token-requires
+take_token-requires c = step_at (goal.at.take_token-requires c).In_ok-found (opened_at (goal.at.take_token-requires c).After-range_from) _ (ap literal_step c.in-Ok.is)
+
+pub returns-in-Ok-clause-ahead : goal.returns-in-Ok-clause-ahead
+returns-in-Ok-clause-ahead c =
+    ahead (goal.at.returns-in-Ok-clause-ahead c).In_ok-found (opened_at (goal.at.returns-in-Ok-clause-ahead c).After-range_from) _ (Some c.take_token.result) c.take_token.new.self (ap literal_step c.in-Ok.is) c.take_token.ensures.read
+
+pub returns-in-Ok-clause-reads : goal.returns-in-Ok-clause-reads
+returns-in-Ok-clause-reads c =
+    reads_after (goal.at.returns-in-Ok-clause-reads c).In_ok-found (opened_at (goal.at.returns-in-Ok-clause-reads c).After-range_from) _ c.take_token.new.self (ap literal_step c.in-Ok.is) (c.take_token.ensures.taken.1, c.take_token.ensures.taken.2)
+
+pub refuse-requires : goal.refuse-requires
+refuse-requires c =
+    let fits = refused_fits _ c.in-Err.begin c.in-Err.end c.in-Err.fault (step_at (goal.at.refuse-requires c).In_ok-found (opened_at (goal.at.refuse-requires c).After-range_from) _ (ap literal_step c.in-Err.is)) in
+    record { begin = fits.0; end = fits.1 }
+
+pub returns-in-Err-clause-ahead : goal.returns-in-Err-clause-ahead
+returns-in-Err-clause-ahead c =
+    let at = (goal.at.returns-in-Err-clause-ahead c).In_ok-found in
+    ahead at (opened_at (goal.at.returns-in-Err-clause-ahead c).After-range_from) (steps.Fault c.in-Err.begin c.in-Err.fault c.in-Err.end) None c.refuse.new.self (ap literal_step c.in-Err.is)
+    (rw c.refuse.ensures (refused_read (at_literal at) c.in-Err.begin c.in-Err.end c.in-Err.fault c.requires.found.0.idle))
+
+pub returns-in-Err-clause-reads : goal.returns-in-Err-clause-reads
+returns-in-Err-clause-reads c =
+    reads_after (goal.at.returns-in-Err-clause-reads c).In_ok-found (opened_at (goal.at.returns-in-Err-clause-reads c).After-range_from) (steps.Fault c.in-Err.begin c.in-Err.fault c.in-Err.end) c.refuse.new.self (ap literal_step c.in-Err.is) (rw c.refuse.ensures ((refl, refl, omega arith), refl))

@@ -9,19 +9,18 @@ use Rattle.starlark_grammar.specs.Tokens.{InvalidInput}
 use Rattle.starlark_token.specs.declared.lexeme_error.LexemeError.TheVariants as errors
 use Rattle.starlark_reader.specs.Inner.ReadBounds.{AreStepReads, HasRead}
 use Rattle.starlark_reader.specs.Inner.Reader.{IsStateAfter, step_here}
-use Rattle.starlark_reader.specs.Inner.StepViews.{IsStep}
-use Rattle.starlark_reader.specs.declared.literal.pieces.Step.{Step}
-use Rattle.starlark_reader.specs.declared.literal.pieces.Step.TheVariants as step
+use Rattle.starlark_reader.specs.Inner.StepViews.{IsStep, ReadStep}
+use Rattle.starlark_reader.specs.Inner.StepViews as step
 use Rattle.starlark_reader.proofs.TakenMargins.Waiting.{after_error}
 use Rattle.starlark_reader.proofs.TakenPieces.NextLexeme.{onward_something}
 use Rattle.starlark_reader.proofs.TakenPieces.PieceReads.{none_reads}
 use Rattle.starlark_reader.proofs.TakenPieces.ReaderReads.{state_reads, step_reads}
 use Rattle.starlark_reader.proofs.TakenPieces.RepairReads.{character_leaves, none_leave}
 use Rattle.starlark_reader.proofs.TakenPieces.SameTexts.{at_step, keeps_takes, state_here, taken_here}
-use Rattle.starlark_reader.proofs.TakenPieces.PieceTaken.{bang_step}
+use Rattle.starlark_reader.proofs.TakenPieces.PieceTaken.{bang_step, refused_fits, refused_read}
 use Rattle.starlark_reader.proofs.TakenPieces.WordSteps.{character_some, none_here}
 use Rattle.starlark_reader.proofs.reader.Reader.read_wordless.Goals as goal
-use Rattle.starlark_reader.proofs.reader.Reader.read_wordless.Goals.{After-take-arg-1}
+use Rattle.starlark_reader.proofs.reader.Reader.read_wordless.Goals.{In_ok-from_str}
 
 pub take_token-requires : goal.take_token-requires
 take_token-requires c =
@@ -40,17 +39,17 @@ pub returns-in_err-from_str-clause-memory : goal.returns-in_err-from_str-clause-
 returns-in_err-from_str-clause-memory c = after_error c.from_residual.result _ (λ lexemes fault ahead. onward_something c.args.self.now.text.now c.args.self.now lexemes fault c.requires.code.idle c.requires.code.stage ahead)
 
 -- the text here isn't empty
-some : (c : After-take-arg-1) → 0 < length (drop c.bang_stands.new.self.at c.bang_stands.new.self.text.now)
+some : (c : In_ok-from_str) → 0 < length (drop c.bang_stands.new.self.at c.bang_stands.new.self.text.now)
 some c =
     let mid = c.bang_stands.new.self in
     let left = state_here mid c.bang_stands.ensures.sound c.bang_stands.ensures.code.stage in
     omega (arith, c.requires.some, left.1.inside, length-drop mid.at mid.text.now, c.bang_stands.ensures.lookahead.0, ap (λ t. length t.now) c.bang_stands.ensures.text)
 
-abbrev wrong : After-take-arg-1 → Step
+abbrev wrong : In_ok-from_str → ReadStep
 wrong c = step.Fault 0 (errors.InvalidInput c.in_ok-from_str.field-0) c.character_len-end.result
 
 -- its first character is the fault here
-is_wrong : (c : After-take-arg-1) (history : History) → IsStateAfter c.bang_stands.new.self.text.now history c.bang_stands.new.self → IsStep (step_here c.bang_stands.new.self.text.now history c.bang_stands.new.self) (wrong c)
+is_wrong : (c : In_ok-from_str) (history : History) → IsStateAfter c.bang_stands.new.self.text.now history c.bang_stands.new.self → IsStep (step_here c.bang_stands.new.self.text.now history c.bang_stands.new.self) (wrong c)
 is_wrong c history kept =
     let mid = c.bang_stands.new.self in
     let text = mid.text.now in
@@ -61,28 +60,30 @@ is_wrong c history kept =
     let len : c.character_len-end.result ≡ length (first_character (drop mid.at text)) = c.character_len-end.ensures.whole ∙ ap (λ t. length (first_character t)) c.range_from-rest.ensures.value in
     (InvalidInput (string_bytes c.in_ok-from_str.field-0), refl, here ∙ rw (value, len) refl)
 
-pub take-requires : goal.take-requires
-take-requires c =
+pub refuse-requires : goal.refuse-requires
+refuse-requires c =
     let mid = c.bang_stands.new.self in
     let code = c.bang_stands.ensures.code in
     let left = state_here mid c.bang_stands.ensures.sound code.stage in
-    record {
+    let fits = refused_fits (record mid { reads = c.character_len-end.new.self }) 0 c.character_len-end.result (errors.InvalidInput c.in_ok-from_str.field-0) (record {
       text = c.bang_stands.ensures.sound.text;
       stage = code.stage;
-      stands = (left.0, state_reads mid.text.now left.0 mid c.character_len-end.new.self left.1, is_wrong (goal.at.take-requires c).After-take-arg-1 left.0 left.1);
+      stands = (left.0, state_reads mid.text.now left.0 mid c.character_len-end.new.self left.1, is_wrong (goal.at.refuse-requires c).In_ok-from_str left.0 left.1);
       idle = code.idle;
-    }
+    }) in
+    record { begin = fits.0; end = fits.1 }
 
 pub returns-clause-ahead : goal.returns-clause-ahead
 returns-clause-ahead c =
     let mid = c.bang_stands.new.self in
     let code = c.bang_stands.ensures.code in
-    keeps_takes c.args.self.now mid c.take.new.self c.bang_stands.ensures.text c.bang_stands.ensures.ahead c.take.result (taken_here mid c.take.result c.take.new.self code.stage code.idle (λ history kept.
-    c.take.ensures.read history (state_reads mid.text.now history mid c.character_len-end.new.self kept) (is_wrong (goal.at.returns-clause-ahead c).After-take-arg-1 history kept)))
+    let read = refused_read (record mid { reads = c.character_len-end.new.self }) 0 c.character_len-end.result (errors.InvalidInput c.in_ok-from_str.field-0) code.idle in
+    keeps_takes c.args.self.now mid c.refuse.new.self c.bang_stands.ensures.text c.bang_stands.ensures.ahead None (taken_here mid None c.refuse.new.self code.stage code.idle (λ history kept.
+    rw c.refuse.ensures (read history (state_reads mid.text.now history mid c.character_len-end.new.self kept) (is_wrong (goal.at.returns-clause-ahead c).In_ok-from_str history kept))))
 
 pub returns-clause-reads : goal.returns-clause-reads
 returns-clause-reads c = λ before has read.
-    let at = (goal.at.returns-clause-reads c).After-take-arg-1 in
+    let at = (goal.at.returns-clause-reads c).In_ok-from_str in
     let old = c.args.self.now in
     let mid = c.bang_stands.new.self in
     let text = mid.text.now in
@@ -95,5 +96,5 @@ returns-clause-reads c = λ before has read.
     let counted : AreStepReads 0 1 0 0 (wrong at) mid.reads after = search rules in
     let reads = none_reads rest (wrong at) before old.reads after (some at) read (omega (arith, looked.3.0, counted.0), omega (arith, looked.3.1, counted.1)) in
     let leaves = none_leave 3 rest (wrong at) before old.reads after (omega (arith, read.1)) (character_leaves rest end (errors.InvalidInput c.in_ok-from_str.field-0) old.reads mid.reads after (omega (arith, character_some rest (some at), c.character_len-end.ensures.whole, ap (λ t. length (first_character t)) c.range_from-rest.ensures.value)) looked.3 refl counted) in
-    subst (λ t. HasRead t c.take.new.self) (ap (λ t. t.now) c.bang_stands.ensures.text)
-    (step_reads text before left.0 (wrong at) (record mid { reads = after }) c.take.new.self (state_reads text left.0 mid after left.1) is (omega (arith, has.0, looked.0), omega (arith, has.1, looked.0, looked.2)) reads leaves c.take.ensures.passed)
+    subst (λ t. HasRead t c.refuse.new.self) (ap (λ t. t.now) c.bang_stands.ensures.text)
+    (step_reads text before left.0 (wrong at) (record mid { reads = after }) c.refuse.new.self (state_reads text left.0 mid after left.1) is (omega (arith, has.0, looked.0), omega (arith, has.1, looked.0, looked.2)) reads leaves (rw c.refuse.ensures ((refl, refl, omega arith), refl)))

@@ -1,8 +1,9 @@
-use Rattle.std.proofs.Common.{◌≡◌, ◌+◌, ◌*◌, ◌<◌, ℕ, Some, ap, arith, drop, false, length, refl, rules, sym, take, true, ◌∙◌}
+use Rattle.std.proofs.Common.{◌≡◌, ◌+◌, ◌*◌, ◌<◌, ℕ, None, Some, ap, arith, drop, false, length, refl, rules, sym, take, true, ◌∙◌}
 use Rattle.std.proofs.Math.Nat.{sub-zero}
 use Rattle.starlark_grammar.specs.AfterFaults.{is_tab, next_line}
 use Rattle.starlark_grammar.specs.Front.{language_front}
 use Rattle.starlark_grammar.specs.Pieces as grammar
+use Rattle.starlark_grammar.specs.Reading.{History}
 use Rattle.starlark_grammar.specs.Tokens as tokens
 use Rattle.starlark_grammar.specs.Tokens.{InvalidTab, ReservedKeyword, StartsZero}
 use Rattle.starlark_grammar.specs.Words.{Text, class_in, language}
@@ -11,14 +12,16 @@ use Rattle.starlark_grammar.specs.declared.class.Class.TheVariants as class
 use Rattle.starlark_token.specs.Lexemes.{fault_view}
 use Rattle.starlark_token.specs.declared.lexeme_error.LexemeError.{LexemeError}
 use Rattle.starlark_token.specs.declared.lexeme_error.LexemeError.TheVariants as error
-use Rattle.starlark_reader.specs.declared.literal.pieces.Step.TheVariants as steps
+use Rattle.starlark_reader.specs.Inner.StepViews as steps
 use Rattle.starlark_reader.specs.Inner.ReadBounds.{AreWordReads, LeavesReads, is_tab_error}
+use Rattle.starlark_reader.specs.Inner.Reader.{IsStateAfter, step_here}
 use Rattle.starlark_reader.specs.Inner.StepViews.{IsFaultWord, IsStep}
 use Rattle.starlark_reader.proofs.NextLines.{tabs_line}
 use Rattle.starlark_reader.proofs.TakenMargins.Waiting.{after_error}
 use Rattle.starlark_reader.proofs.TakenPieces.CodePlaces.{word_class, word_cut, word_len, word_some}
 use Rattle.starlark_reader.proofs.TakenPieces.NextLexeme.{onward_something}
 use Rattle.starlark_reader.proofs.TakenPieces.PieceReads.{tabs_reads, word_reads}
+use Rattle.starlark_reader.proofs.TakenPieces.PieceTaken.{refused_fits, refused_read}
 use Rattle.starlark_reader.proofs.TakenPieces.RepairReads.{step_leaves, tabs_leave, word_leaves}
 use Rattle.starlark_reader.proofs.TakenPieces.SameTexts.{at_step, state_here, taken_here}
 use Rattle.starlark_reader.proofs.TakenPieces.WordSteps.{step_of_word, word_step_reads}
@@ -79,16 +82,21 @@ refused c =
           rw (w.fault-is, ← len, reserved_only c.args.word.class word fault w.in_default.not-Tabs w.in_default.not-Decimal) (whole_refused class.Reserved word (error.ReservedKeyword w.in_ok-text-in_default.text) (ReservedKeyword word) some (ap (λ text. Some (ReservedKeyword text)) w.in_ok-text-in_default.ensures.ok) (λ s remainder. refl) refl refl)
     ]
 
-pub take-requires : goal.take-requires
-take-requires c =
+-- the step at the reader's offset
+stops : (c : Joined-word) (history : History) → IsStateAfter c.args.self.now.text.now history c.args.self.now → IsStep (step_here c.args.self.now.text.now history c.args.self.now) (steps.Fault 0 c.match-word.fault.0 c.match-word.fault.1)
+stops c history kept =
     let front : c.range-text.result.now ≡ take c.args.word.len (drop c.args.self.now.at c.args.self.now.text.now) = c.range-text.ensures.value ∙ ap (λ n. take n c.range_from-rest.result.now) (sub-zero _) ∙ ap (take c.args.word.len) c.range_from-rest.ensures.value in
-    at_step c.args.self.now _ c.requires.sound c.requires.stands.stage c.requires.stands.idle (λ history kept. step_of_word c.args.self.now.text.now history c.args.self.now c.args.word c.range-text.result.now (steps.Fault 0 c.match-word.fault.0 c.match-word.fault.1) kept c.requires.stands front (refused (goal.at.take-requires c).Joined-word).step)
+    step_of_word c.args.self.now.text.now history c.args.self.now c.args.word c.range-text.result.now (steps.Fault 0 c.match-word.fault.0 c.match-word.fault.1) kept c.requires.stands front (refused c).step
+
+pub refuse-requires : goal.refuse-requires
+refuse-requires c =
+    let fits = refused_fits _ _ _ _ (at_step c.args.self.now _ c.requires.sound c.requires.stands.stage c.requires.stands.idle (stops (goal.at.refuse-requires c).Joined-word)) in
+    record { begin = fits.0; end = fits.1 }
 
 pub returns-clause-ahead : goal.returns-clause-ahead
 returns-clause-ahead c =
-    let front : c.range-text.result.now ≡ take c.args.word.len (drop c.args.self.now.at c.args.self.now.text.now) = c.range-text.ensures.value ∙ ap (λ n. take n c.range_from-rest.result.now) (sub-zero _) ∙ ap (take c.args.word.len) c.range_from-rest.ensures.value in
-    taken_here c.args.self.now c.take.result c.take.new.self c.requires.stands.stage c.requires.stands.idle (λ history kept.
-    c.take.ensures.read history kept (step_of_word c.args.self.now.text.now history c.args.self.now c.args.word c.range-text.result.now (steps.Fault 0 c.match-word.fault.0 c.match-word.fault.1) kept c.requires.stands front (refused (goal.at.returns-clause-ahead c).Joined-word).step))
+    let read = refused_read c.args.self.now _ _ _ c.requires.stands.idle in
+    taken_here c.args.self.now None c.refuse.new.self c.requires.stands.stage c.requires.stands.idle (λ history kept. rw c.refuse.ensures (read history kept (stops (goal.at.returns-clause-ahead c).Joined-word history kept)))
 
 pub returns-clause-reads : goal.returns-clause-reads
 returns-clause-reads c = λ before has read.
@@ -98,7 +106,7 @@ returns-clause-reads c = λ before has read.
     let left = state_here old c.requires.sound c.requires.stands.stage in
     let step = steps.Fault 0 c.match-word.fault.0 c.match-word.fault.1 in
     let given = refused (goal.at.returns-clause-reads c).Joined-word in
-    let is = step_of_word old.text.now left.0 old c.args.word c.range-text.result.now step left.1 c.requires.stands front given.step in
+    let is = stops (goal.at.returns-clause-reads c).Joined-word left.0 left.1 in
     let len : length c.range-text.result.now ≡ c.args.word.len = ap (λ (t : Text). length t) front ∙ word_len rest c.args.word.class c.args.word.len (sym c.requires.stands.front) in
     let more : AreWordReads c.args.word.len 9 2 (next_line (take c.args.word.len rest) 0) 8 step old.reads old.reads = rw (len, front) at (given.reads old.reads) in
-    word_step_reads old.text.now before old.reads old.reads left.0 c.args.word step old c.take.new.self left.1 c.requires.stands is has read more (rw (len, front) at (given.leaves old.reads)) c.take.ensures.passed
+    word_step_reads old.text.now before old.reads old.reads left.0 c.args.word step old c.refuse.new.self left.1 c.requires.stands is has read more (rw (len, front) at (given.leaves old.reads)) (rw c.refuse.ensures ((refl, refl, omega arith), refl))

@@ -121,8 +121,8 @@ returns-clause-reads c =
 
 pub read_part-requires-clause-cuts : goal.read_part-requires-clause-cuts
 read_part-requires-clause-cuts c =
-    known_inside c.old.inside.text.now c.after-known.result.text.now c.old.inside.cuts.items c.after-known.result.cuts.now c.begin_of-begin.result.cuts c.is_some.result c.after-known.ensures.text
-    (λ e. c.after-known.ensures.cuts e ∙ ap (drop c.begin_of-begin.result.cuts) c.deref-2.ensures.value) c.after-known.ensures.none c.old.invariant.2
+    known_inside c.old.inside.text.now c.as_bytes.result.now c.old.inside.cuts.items c.cuts_to_meet-cuts.result.now c.begin_of-begin.result.cuts c.is_some.result (λ e. c.as_bytes.ensures.value)
+    (λ e. c.cuts_to_meet-cuts.ensures.cuts e ∙ ap (drop c.begin_of-begin.result.cuts) c.deref-2.ensures.value) c.cuts_to_meet-cuts.ensures.none c.old.invariant.2
 
 -- Where lexing met the old text
 
@@ -136,14 +136,14 @@ same_is : (c : In-Some) → take c.args.from c.old.inside.text.now ≡ take c.ar
 same_is c = ap (λ (v : LexedView). take c.args.from v.text) c.old.view_is ∙ c.requires.same
 
 -- what `read_part` says of a meeting
-met_is : (c : In-Some) → IsMet c.new.result.reader.text.now c.after-known.result.text.now c.after-known.result.cuts.now c.in-Some.meeting × IsReadPartTo c.new.result.reader.text.now c.in-Some.meeting.at (part_view c.in-Ok.part)
-met_is c = subst (λ (met : Option Meeting). IfSome met (λ meeting. IsMet c.new.result.reader.text.now c.after-known.result.text.now c.after-known.result.cuts.now meeting × IsReadPartTo c.new.result.reader.text.now meeting.at (part_view c.in-Ok.part))) c.in-Some.is c.in-Ok.ensures.met
+met_is : (c : In-Some) → IsMet c.new.result.reader.text.now c.as_bytes.result.now c.cuts_to_meet-cuts.result.now c.in-Some.meeting × IsReadPartTo c.new.result.reader.text.now c.in-Some.meeting.at (part_view c.in-Ok.part)
+met_is c = subst (λ (met : Option Meeting). IfSome met (λ meeting. IsMet c.new.result.reader.text.now c.as_bytes.result.now c.cuts_to_meet-cuts.result.now meeting × IsReadPartTo c.new.result.reader.text.now meeting.at (part_view c.in-Ok.part))) c.in-Some.is c.in-Ok.ensures.met
 
 put_is : (c : In-Some) → IsPutIn c.old.inside.text.now (drop c.begin_of-begin.result.at c.args.edited.now) c.old.inside.lexemes.items c.old.inside.cuts.items c.begin_of-begin.result (part_view c.in-Ok.part) c.in-Some.meeting
 put_is c =
     let begin = begin_is c in
-    let met = met_known c.new.result.reader.text.now c.old.inside.text.now c.after-known.result.text.now c.old.inside.cuts.items c.after-known.result.cuts.now c.begin_of-begin.result.cuts c.in-Some.meeting c.is_some.result c.after-known.ensures.text
-    (λ e. c.after-known.ensures.cuts e ∙ ap (drop c.begin_of-begin.result.cuts) c.deref-2.ensures.value) c.after-known.ensures.none (met_is c).0 in
+    let met = met_known c.new.result.reader.text.now c.old.inside.text.now c.as_bytes.result.now c.old.inside.cuts.items c.cuts_to_meet-cuts.result.now c.begin_of-begin.result.cuts c.in-Some.meeting c.is_some.result (λ e. c.as_bytes.ensures.value)
+    (λ e. c.cuts_to_meet-cuts.ensures.cuts e ∙ ap (drop c.begin_of-begin.result.cuts) c.deref-2.ensures.value) c.cuts_to_meet-cuts.ensures.none (met_is c).0 in
     record {
       from = c.args.from;
       lexed = c.old.invariant.3.1.lexemes;

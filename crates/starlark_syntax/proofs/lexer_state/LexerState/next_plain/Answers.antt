@@ -7,7 +7,7 @@ use Rattle.starlark_syntax.proofs.FoundWords.{HasPassedSince, at_word, faulty_ma
 use Rattle.starlark_reader.specs.declared.reader.Reader.{Reader}
 use Rattle.starlark_reader.proofs.TakenPieces.WordsPassed.{gap_passed, step_in_code, step_taken, word_inside_text}
 use Rattle.starlark_syntax.proofs.LexerStates.{IsGoingOn}
-use Rattle.starlark_syntax.proofs.PlainLexemes.{waits_lexeme}
+use Rattle.starlark_syntax.proofs.PlainLexemes.{advances_lexeme}
 use Rattle.starlark_syntax.proofs.LexerReads.{fault_counts, newline_counts, pending_counts}
 use Rattle.starlark_syntax.proofs.lexer_state.LexerState.next_plain.Goals.{After-step_over, in-Newline, in-Pending, in_default-class-via-in-Opener+in_default, in_default-class-via-in_default}
 use Rattle.starlark_syntax.proofs.lexer_state.LexerState.next_plain.Goals as goal
@@ -35,7 +35,7 @@ look_further-requires c =
 
 pub returns-in_default-look_further : goal.returns-in_default-look_further
 returns-in_default-look_further c =
-    let passed = waits_lexeme (record c.loop-self.self { reader = c.common_word.new.self }) c.look_further.result c.look_further.new.self c.in_default-look_further.not-Layout c.look_further.ensures in
+    let passed = advances_lexeme (record c.loop-self.self { reader = c.common_word.new.self }) c.look_further.result c.look_further.new.self c.in_default-look_further.not-Layout c.look_further.ensures in
     let since = passed_since c.args.self.now c.loop-self.self c.common_word.new.self _ c.look_further.new.self c.loop-self.invariant (still_going c.loop-self.self c.loop-self.invariant.lexing (sym c.is_nothing.ensures ∙ c.if-not-is_nothing.false)) c.common_word.ensures.text passed in
     rw c.lexeme-in_default-look_further.ensures (record { ended = since.ended; passed = since.passed; lexing = since.lexing; after = since.after })
 

@@ -10,7 +10,7 @@ use Rattle.starlark_reader.proofs.TakenPieces.WordsPassed.{text_edges, text_end_
 use Rattle.starlark_reader.proofs.TakenPieces.SameTexts.{keeps_passes, keeps_takes}
 use Rattle.starlark_syntax.proofs.LexerStates.{lexing_sound, same_lexing}
 use Rattle.starlark_syntax.proofs.LexerReads.{all_read, found_out, peeked_first, peeked_taken}
-use Rattle.starlark_syntax.proofs.PlainLexemes.{fstring_text_shown, lexeme_waits, mark_counted, mark_passed, mark_waits, plain_inside, waiting_in_memory}
+use Rattle.starlark_syntax.proofs.PlainLexemes.{fstring_text_shown, lexeme_advances, mark_counted, mark_passed, mark_advances, plain_inside, advance_in_memory}
 use Rattle.starlark_syntax.specs.declared.plain_lexeme.PlainKind.TheVariants as kind
 use Rattle.starlark_token.specs.TokenViews.{TokenView, token_view}
 use Rattle.starlark_reader.specs.declared.lookahead.Found.TheVariants as found
@@ -68,8 +68,8 @@ returns-then-found-eq0 c =
     let read = peeked_taken c.args.self.now.reader.text.now (plain.len + 3) (6 * plain.len + 4) (plain.len + plain.stop_len) c.plain_text.new.self c.take_chunk_end-begin.new.self peeked (omega (arith, some.1)) (omega (arith, some.0)) c.take_chunk_end-begin.ensures.passed in
     let lexeme = c.take_chunk_end-begin.result in
     let count = mark_counted c.of_mark.result (token_view lexeme.1) lexeme.0 lexeme.2 c.of_mark.ensures in
-    let memory = waiting_in_memory c.of_mark.result (token_view lexeme.1) lexeme.0 lexeme.2 c.of_mark.ensures in
-    lexeme_waits c.args.self.now c.of_mark.result _ (mark_waits c.of_mark.result (token_view lexeme.1) c.of_mark.ensures) (record {
+    let memory = advance_in_memory c.of_mark.result (token_view lexeme.1) lexeme.0 lexeme.2 c.of_mark.ensures in
+    lexeme_advances c.args.self.now c.of_mark.result _ (mark_advances c.of_mark.result (token_view lexeme.1) c.of_mark.ensures) (record {
       passed = mark_passed c.args.self.now c.of_mark.result lexeme _ c.requires.lexing.0.fits inv.0 c.requires.lexing.0.utf8 c.of_mark.ensures is;
       lexing = past_lexing c.args.self.now _ _ c.args.self.now.word c.args.self.now.run c.found_after-self.result (c.take_chunk_end-begin.ensures.text ∙ c.plain_text.ensures.text) c.requires.lexing.0 c.requires.going is (found_out c.args.self.now.reader.text.now c.take_chunk_end-begin.new.self c.args.self.now.word c.args.self.now.run c.found_after-self.result c.found_after-self.ensures is.2.is_pending read);
       after = rw (c.take_chunk_end-begin.ensures.text, c.plain_text.ensures.text, c.requires.going, count, memory) refl;

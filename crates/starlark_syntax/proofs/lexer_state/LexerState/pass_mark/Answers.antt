@@ -3,7 +3,7 @@ use Rattle.starlark_reader.specs.Inner.ReadBounds.{HasRead}
 use Rattle.starlark_reader.proofs.TakenPieces.NextLexeme.{mark_next}
 use Rattle.starlark_syntax.proofs.FoundWords.{one_more_fits, past_lexing}
 use Rattle.starlark_syntax.proofs.LexerReads.{all_read, found_out}
-use Rattle.starlark_syntax.proofs.PlainLexemes.{lexeme_waits, mark_counted, mark_passed, mark_waits, waiting_in_memory}
+use Rattle.starlark_syntax.proofs.PlainLexemes.{lexeme_advances, mark_counted, mark_passed, mark_advances, advance_in_memory}
 use Rattle.starlark_token.specs.TokenViews.{token_view}
 use Rattle.starlark_syntax.proofs.lexer_state.LexerState.pass_mark.Goals as goal
 
@@ -23,8 +23,8 @@ returns-clause-passed c = λ some.
     let read = all_read c.args.self.now.reader.text.now c.args.self.now.reader c.args.self.now.word c.args.self.now.run c.args.self.now.found c.requires.all (c.requires.lexing.3 c.requires.going) in
     let has : HasRead text new = search (rules, read) in
     let count = mark_counted c.of_mark.result (token_view c.in-Some.token) c.in-Some.begin c.in-Some.end c.of_mark.ensures in
-    let memory = waiting_in_memory c.of_mark.result (token_view c.in-Some.token) c.in-Some.begin c.in-Some.end c.of_mark.ensures in
-    lexeme_waits c.args.self.now c.of_mark.result _ (mark_waits c.of_mark.result (token_view c.in-Some.token) c.of_mark.ensures) (record {
+    let memory = advance_in_memory c.of_mark.result (token_view c.in-Some.token) c.in-Some.begin c.in-Some.end c.of_mark.ensures in
+    lexeme_advances c.args.self.now c.of_mark.result _ (mark_advances c.of_mark.result (token_view c.in-Some.token) c.of_mark.ensures) (record {
       passed = mark_passed c.args.self.now c.of_mark.result (c.in-Some.begin, c.in-Some.token, c.in-Some.end) _ c.requires.lexing.0.fits inv.0 c.requires.lexing.0.utf8 c.of_mark.ensures is;
       lexing = past_lexing c.args.self.now _ _ c.args.self.now.word c.args.self.now.run c.found_after-self.result refl c.requires.lexing.0 c.requires.going is (found_out c.args.self.now.reader.text.now new c.args.self.now.word c.args.self.now.run c.found_after-self.result c.found_after-self.ensures is.2.is_pending has);
       after = rw (c.requires.going, count, memory) refl;

@@ -8,8 +8,8 @@ use Rattle.starlark_syntax.specs.Inner.LexerStates.{HasGoneOn, IsLexing}
 use Rattle.starlark_syntax.specs.declared.lexer_state.LexerState.{LexerState}
 use Rattle.starlark_syntax.proofs.FoundWords.{first_margin}
 use Rattle.starlark_syntax.proofs.LexerReads.{all_read, found_out}
-use Rattle.starlark_syntax.proofs.lexer_state.LexerState.pass_waiting.Goals as goal
-use Rattle.starlark_syntax.proofs.lexer_state.LexerState.pass_waiting.Goals.{in-All, in_default, in-Nothing-found_after, in_default-found_after-2, in_default-found_after}
+use Rattle.starlark_syntax.proofs.lexer_state.LexerState.advance_outside_code.Goals as goal
+use Rattle.starlark_syntax.proofs.lexer_state.LexerState.advance_outside_code.Goals.{in-All, in_default, in-Nothing-found_after, in_default-found_after-2, in_default-found_after}
 
 pub returns : goal.returns
 returns c =
