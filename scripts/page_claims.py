@@ -53,7 +53,7 @@ DONE = re.compile(
     r"|\b(?:is|are|has|have)(?:n't| no| not| none| nothing)\b[^.:;|]*\byet\b"
 )
 RECIPE = re.compile(r"^### One more operator.*?(?=^#|\Z)", re.MULTILINE | re.DOTALL)
-OPERATOR = re.compile(r'"([^"\w]{3})" (\w+),')
+OPERATOR = re.compile(r'"([^"\w]{3})" (\w+) = ')
 FUNCTION = re.compile(
     r"((?:^[ \t]*(?:#\[|//)[^\n]*\n)*)^[^\n/]*\bfn (\w+)(.*?)(?:^\s*(?:requires|ensures)\b|\{|;\n)",
     re.MULTILINE | re.DOTALL,

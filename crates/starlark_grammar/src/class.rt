@@ -112,7 +112,8 @@ pub enum Class {
 /// Hands the table of symbols, keywords and reserved words to a macro, after some arguments.
 ///
 /// Words stand by their length in bytes. Reserved words follow the keywords of their length. Each
-/// text is there as bytes and as a string, since no macro makes one of the other.
+/// text is there as bytes and as a string, since no macro makes one of the other. After a name is the
+/// number of its kind, which never changes: a new row has the next one.
 #[macro_export]
 macro_rules! terminals {
     ($with:ident!($($arguments:tt)*)) => {
@@ -120,90 +121,90 @@ macro_rules! terminals {
             ($($arguments)*)
             symbols {
                 1 {
-                    [b','] "," Comma,
-                    [b';'] ";" Semicolon,
-                    [b':'] ":" Colon,
-                    [b'='] "=" Equal,
-                    [b'<'] "<" LessThan,
-                    [b'>'] ">" GreaterThan,
-                    [b'-'] "-" Minus,
-                    [b'+'] "+" Plus,
-                    [b'*'] "*" Star,
-                    [b'%'] "%" Percent,
-                    [b'/'] "/" Slash,
-                    [b'.'] "." Dot,
-                    [b'&'] "&" Ampersand,
-                    [b'|'] "|" Pipe,
-                    [b'^'] "^" Caret,
-                    [b'~'] "~" Tilde,
-                    [b'['] "[" OpeningSquare,
-                    [b'{'] "{" OpeningCurly,
-                    [b'('] "(" OpeningRound,
-                    [b']'] "]" ClosingSquare,
-                    [b'}'] "}" ClosingCurly,
-                    [b')'] ")" ClosingRound,
+                    [b','] "," Comma = 31,
+                    [b';'] ";" Semicolon = 32,
+                    [b':'] ":" Colon = 33,
+                    [b'='] "=" Equal = 46,
+                    [b'<'] "<" LessThan = 47,
+                    [b'>'] ">" GreaterThan = 48,
+                    [b'-'] "-" Minus = 49,
+                    [b'+'] "+" Plus = 50,
+                    [b'*'] "*" Star = 51,
+                    [b'%'] "%" Percent = 52,
+                    [b'/'] "/" Slash = 53,
+                    [b'.'] "." Dot = 55,
+                    [b'&'] "&" Ampersand = 56,
+                    [b'|'] "|" Pipe = 57,
+                    [b'^'] "^" Caret = 58,
+                    [b'~'] "~" Tilde = 61,
+                    [b'['] "[" OpeningSquare = 68,
+                    [b'{'] "{" OpeningCurly = 69,
+                    [b'('] "(" OpeningRound = 70,
+                    [b']'] "]" ClosingSquare = 71,
+                    [b'}'] "}" ClosingCurly = 72,
+                    [b')'] ")" ClosingRound = 73,
                 }
                 2 {
-                    [b'+', b'='] "+=" PlusEqual,
-                    [b'-', b'='] "-=" MinusEqual,
-                    [b'*', b'='] "*=" StarEqual,
-                    [b'/', b'='] "/=" SlashEqual,
-                    [b'%', b'='] "%=" PercentEqual,
-                    [b'=', b'='] "==" EqualEqual,
-                    [b'!', b'='] "!=" BangEqual,
-                    [b'<', b'='] "<=" LessEqual,
-                    [b'>', b'='] ">=" GreaterEqual,
-                    [b'&', b'='] "&=" AmpersandEqual,
-                    [b'|', b'='] "|=" PipeEqual,
-                    [b'^', b'='] "^=" CaretEqual,
-                    [b'*', b'*'] "**" StarStar,
-                    [b'/', b'/'] "//" SlashSlash,
-                    [b'<', b'<'] "<<" LessLess,
-                    [b'>', b'>'] ">>" GreaterGreater,
-                    [b'-', b'>'] "->" MinusGreater,
+                    [b'+', b'='] "+=" PlusEqual = 34,
+                    [b'-', b'='] "-=" MinusEqual = 35,
+                    [b'*', b'='] "*=" StarEqual = 36,
+                    [b'/', b'='] "/=" SlashEqual = 37,
+                    [b'%', b'='] "%=" PercentEqual = 39,
+                    [b'=', b'='] "==" EqualEqual = 40,
+                    [b'!', b'='] "!=" BangEqual = 41,
+                    [b'<', b'='] "<=" LessEqual = 42,
+                    [b'>', b'='] ">=" GreaterEqual = 43,
+                    [b'&', b'='] "&=" AmpersandEqual = 62,
+                    [b'|', b'='] "|=" PipeEqual = 63,
+                    [b'^', b'='] "^=" CaretEqual = 64,
+                    [b'*', b'*'] "**" StarStar = 44,
+                    [b'/', b'/'] "//" SlashSlash = 54,
+                    [b'<', b'<'] "<<" LessLess = 59,
+                    [b'>', b'>'] ">>" GreaterGreater = 60,
+                    [b'-', b'>'] "->" MinusGreater = 45,
                 }
                 3 {
-                    [b'/', b'/', b'='] "//=" SlashSlashEqual,
-                    [b'<', b'<', b'='] "<<=" LessLessEqual,
-                    [b'>', b'>', b'='] ">>=" GreaterGreaterEqual,
-                    [b'.', b'.', b'.'] "..." Ellipsis,
+                    [b'/', b'/', b'='] "//=" SlashSlashEqual = 38,
+                    [b'<', b'<', b'='] "<<=" LessLessEqual = 65,
+                    [b'>', b'>', b'='] ">>=" GreaterGreaterEqual = 66,
+                    [b'.', b'.', b'.'] "..." Ellipsis = 67,
                 }
             }
             names {
                 2 {
-                    b"in" "in" In,
-                    b"if" "if" If,
-                    b"or" "or" Or,
+                    b"in" "in" In = 24,
+                    b"if" "if" If = 23,
+                    b"or" "or" Or = 28,
                     ; b"as" "as", b"is" "is"
                 }
                 3 {
-                    b"for" "for" For,
-                    b"def" "def" Def,
-                    b"not" "not" Not,
-                    b"and" "and" And,
+                    b"for" "for" For = 22,
+                    b"def" "def" Def = 19,
+                    b"not" "not" Not = 27,
+                    b"and" "and" And = 16,
                     ; b"del" "del", b"try" "try"
                 }
                 4 {
-                    b"load" "load" Load,
-                    b"else" "else" Else,
-                    b"elif" "elif" Elif,
-                    b"pass" "pass" Pass,
+                    b"load" "load" Load = 26,
+                    b"else" "else" Else = 21,
+                    b"elif" "elif" Elif = 20,
+                    b"pass" "pass" Pass = 29,
                     ; b"from" "from", b"with" "with"
                 }
                 5 {
-                    b"break" "break" Break,
+                    b"break" "break" Break = 17,
                     ; b"async" "async", b"await" "await", b"class" "class", b"raise" "raise", b"while" "while", b"yield" "yield"
                 }
                 6 {
-                    b"return" "return" Return,
-                    b"lambda" "lambda" Lambda,
+                    b"return" "return" Return = 30,
+                    b"lambda" "lambda" Lambda = 25,
                     ; b"assert" "assert", b"except" "except", b"global" "global", b"import" "import"
                 }
                 7 {
                     ; b"finally" "finally"
                 }
                 8 {
-                    b"continue" "continue" Continue,
+                    b"continue" "continue" Continue = 18,
                     ; b"nonlocal" "nonlocal"
                 }
             }
@@ -212,26 +213,28 @@ macro_rules! terminals {
 }
 
 /// A `match` whose arms for keywords and symbols an arm's macro writes, after the other arms. It is
-/// given `"keyword"` or `"symbol"`, the name of the variant, and the text.
+/// given `"keyword"` or `"symbol"`, the name of the variant, the text, and the number.
 #[macro_export]
 macro_rules! match_terminals {
     (($of:expr, $type:ident, $arm:ident, { $($arms:tt)* })
-    symbols { $($len:literal { $($bytes:tt $text:literal $symbol:ident,)* })* }
+    symbols { $($len:literal { $($bytes:tt $text:literal $symbol:ident = $number:literal,)* })* }
     names { $($name_len:literal {
-        $($name:literal $word:literal $keyword:ident,)*;
+        $($name:literal $word:literal $keyword:ident = $keyword_number:literal,)*;
         $($reserved:literal $reserved_text:literal),*
     })* }) => {
         match $of {
             $($arms)*
-            $($($type::$symbol => $arm!("symbol" $symbol $text),)*)*
-            $($($type::$keyword => $arm!("keyword" $keyword $word),)*)*
+            $($($type::$symbol => $arm!("symbol" $symbol $text $number),)*)*
+            $($($type::$keyword => $arm!("keyword" $keyword $word $keyword_number),)*)*
         }
     };
 }
 
 /// The rows of symbols, by length.
 macro_rules! symbol_rows {
-    (() symbols { $($len:literal { $($bytes:tt $text:literal $name:ident,)* })* } names $names:tt) => {
+    (() symbols { $($len:literal {
+        $($bytes:tt $text:literal $name:ident = $number:literal,)*
+    })* } names $names:tt) => {
         ($([$(($bytes, Class::Fixed(Terminal::$name)),)*],)*)
     };
 }
@@ -239,7 +242,8 @@ macro_rules! symbol_rows {
 /// The rows of keywords and reserved words, by length.
 macro_rules! name_rows {
     (() symbols $symbols:tt names { $($len:literal {
-        $($bytes:literal $text:literal $name:ident,)*; $($reserved:literal $word:literal),*
+        $($bytes:literal $text:literal $name:ident = $number:literal,)*;
+        $($reserved:literal $word:literal),*
     })* }) => {
         ($([
             $((*$bytes, Class::Fixed(Terminal::$name)),)*
@@ -247,6 +251,23 @@ macro_rules! name_rows {
         ],)*)
     };
 }
+
+/// The rows of keywords and symbols with their names and numbers.
+macro_rules! kind_rows {
+    (() symbols { $($len:literal { $($bytes:tt $text:literal $symbol:ident = $number:literal,)* })* }
+    names { $($name_len:literal {
+        $($name:literal $word:literal $keyword:ident = $keyword_number:literal,)*;
+        $($reserved:literal $reserved_text:literal),*
+    })* }) => {
+        [
+            $($((Terminal::$symbol, stringify!($symbol), $number),)*)*
+            $($((Terminal::$keyword, stringify!($keyword), $keyword_number),)*)*
+        ]
+    };
+}
+
+/// The symbols and keywords with the names and the numbers of their kinds.
+pub const KINDS: [(Terminal, &str, u16); 58] = terminals!(kind_rows!());
 
 /// The symbols with their classes: those of one byte, of two, and of three.
 pub const SYMBOLS: (

@@ -1,9 +1,11 @@
 -- Names and printed forms of tokens.
-use Rattle.std.specs.Prelude.{[], ◌++◌, if◌then◌else◌, length, slice_index, Option, Some, codes}
+use Rattle.std.specs.Prelude.{[], ◌++◌, if◌then◌else◌, length, map, slice_index, unwrap_or, Option, Some, codes}
 use Rattle.std.specs.Char.{is_ascii_alphabetic}
+use Rattle.std.specs.Map.{lookup}
 use Rattle.std.specs.Fmt.{decimal, debug_str, ◌++?◌}
 use Rattle.starlark_grammar.specs.PrintedWords.{word_of}
-use Rattle.starlark_grammar.specs.declared.class.Terminal.TheVariants as terminal
+use Rattle.starlark_grammar.specs.contracts.class.TerminalPartialEq.TheImpl as terminals
+use Rattle.starlark_grammar.specs.declared.class.TheConstants.{KINDS}
 use Rattle.starlark_grammar.specs.Words.{Text}
 use Rattle.starlark_grammar.specs.declared.class.Terminal.{Terminal}
 use Rattle.starlark_grammar.specs.declared.class.Quote.{Quote}
@@ -14,66 +16,9 @@ use Rattle.starlark_grammar.specs.Tokens as grammar
 use Rattle.starlark_token.specs.TokenInts.{integer_text}
 use Rattle.starlark_token.specs.TokenViews.{TokenView, Whole, Tabs, Reserved, Opener, Decimal, Hexadecimal, Binary, Octal}
 
--- the names of keywords and symbols
+-- the name of a keyword or symbol: that in its row
 unfoldable pub terminal_kind : Terminal → Text
-terminal_kind terminal.And = codes "And"
-terminal_kind terminal.Break = codes "Break"
-terminal_kind terminal.Continue = codes "Continue"
-terminal_kind terminal.Def = codes "Def"
-terminal_kind terminal.Elif = codes "Elif"
-terminal_kind terminal.Else = codes "Else"
-terminal_kind terminal.For = codes "For"
-terminal_kind terminal.If = codes "If"
-terminal_kind terminal.In = codes "In"
-terminal_kind terminal.Lambda = codes "Lambda"
-terminal_kind terminal.Load = codes "Load"
-terminal_kind terminal.Not = codes "Not"
-terminal_kind terminal.Or = codes "Or"
-terminal_kind terminal.Pass = codes "Pass"
-terminal_kind terminal.Return = codes "Return"
-terminal_kind terminal.Comma = codes "Comma"
-terminal_kind terminal.Semicolon = codes "Semicolon"
-terminal_kind terminal.Colon = codes "Colon"
-terminal_kind terminal.PlusEqual = codes "PlusEqual"
-terminal_kind terminal.MinusEqual = codes "MinusEqual"
-terminal_kind terminal.StarEqual = codes "StarEqual"
-terminal_kind terminal.SlashEqual = codes "SlashEqual"
-terminal_kind terminal.SlashSlashEqual = codes "SlashSlashEqual"
-terminal_kind terminal.PercentEqual = codes "PercentEqual"
-terminal_kind terminal.EqualEqual = codes "EqualEqual"
-terminal_kind terminal.BangEqual = codes "BangEqual"
-terminal_kind terminal.LessEqual = codes "LessEqual"
-terminal_kind terminal.GreaterEqual = codes "GreaterEqual"
-terminal_kind terminal.StarStar = codes "StarStar"
-terminal_kind terminal.MinusGreater = codes "MinusGreater"
-terminal_kind terminal.Equal = codes "Equal"
-terminal_kind terminal.LessThan = codes "LessThan"
-terminal_kind terminal.GreaterThan = codes "GreaterThan"
-terminal_kind terminal.Minus = codes "Minus"
-terminal_kind terminal.Plus = codes "Plus"
-terminal_kind terminal.Star = codes "Star"
-terminal_kind terminal.Percent = codes "Percent"
-terminal_kind terminal.Slash = codes "Slash"
-terminal_kind terminal.SlashSlash = codes "SlashSlash"
-terminal_kind terminal.Dot = codes "Dot"
-terminal_kind terminal.Ampersand = codes "Ampersand"
-terminal_kind terminal.Pipe = codes "Pipe"
-terminal_kind terminal.Caret = codes "Caret"
-terminal_kind terminal.LessLess = codes "LessLess"
-terminal_kind terminal.GreaterGreater = codes "GreaterGreater"
-terminal_kind terminal.Tilde = codes "Tilde"
-terminal_kind terminal.AmpersandEqual = codes "AmpersandEqual"
-terminal_kind terminal.PipeEqual = codes "PipeEqual"
-terminal_kind terminal.CaretEqual = codes "CaretEqual"
-terminal_kind terminal.LessLessEqual = codes "LessLessEqual"
-terminal_kind terminal.GreaterGreaterEqual = codes "GreaterGreaterEqual"
-terminal_kind terminal.Ellipsis = codes "Ellipsis"
-terminal_kind terminal.OpeningSquare = codes "OpeningSquare"
-terminal_kind terminal.OpeningCurly = codes "OpeningCurly"
-terminal_kind terminal.OpeningRound = codes "OpeningRound"
-terminal_kind terminal.ClosingSquare = codes "ClosingSquare"
-terminal_kind terminal.ClosingCurly = codes "ClosingCurly"
-terminal_kind terminal.ClosingRound = codes "ClosingRound"
+terminal_kind terminal = unwrap_or (lookup ((terminals.ghosts).eq terminal) (map (λ row. (row.0, row.1.now)) KINDS)) []
 
 -- the names of the tokens of the grammar
 unfoldable pub whole_kind : grammar.Token → Text

@@ -13,17 +13,17 @@ use std::fmt;
 
 /// The name of the variant of a keyword or symbol.
 macro_rules! name_of {
-    ($sort:literal $name:ident $text:literal) => { stringify!($name) };
+    ($sort:literal $name:ident $text:literal $number:literal) => { stringify!($name) };
 }
 
 /// The printed text of a keyword or symbol.
 macro_rules! text_of {
-    ($sort:literal $name:ident $text:literal) => { concat!($sort, " '", $text, "'") };
+    ($sort:literal $name:ident $text:literal $number:literal) => { concat!($sort, " '", $text, "'") };
 }
 
 /// A copy of a keyword or symbol.
 macro_rules! copy_of {
-    ($sort:literal $name:ident $text:literal) => { Ok(Token::$name) };
+    ($sort:literal $name:ident $text:literal $number:literal) => { Ok(Token::$name) };
 }
 
 /// A token, with its value where it has one.

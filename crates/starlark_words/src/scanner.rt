@@ -1,7 +1,8 @@
 //! Finds the longest word at the front of a text.
 
-ghost use Rattle.std.specs.Prelude.{◌≡◌, ◌≢◌, false, ◌<◌, ◌≤◌, ◌+◌, ◌-◌, ◌*◌, ◌^◌, IfSome, None, Some, length};
+ghost use Rattle.std.specs.Prelude.{◌≡◌, ◌≢◌, false, ◌<◌, ◌≤◌, ◌+◌, ◌-◌, ◌*◌, ◌^◌, IfSome, None, Some, length, nat_eq};
 ghost use Rattle.std.specs.Option.{option_map};
+ghost use Rattle.std.specs.List.{prefix_len};
 ghost use Rattle.starlark_grammar.specs.Front.{language_front};
 ghost use Rattle.starlark_words.specs.Inner.Reads.{AreReads, more_reads};
 ghost use Rattle.starlark_words.specs.Inner.ScannedWords.{begins_mark, begins_number, is_common, peeked_len, word_len, word_view};
@@ -34,6 +35,7 @@ fn begins_number(text: &[u8]) -> bool
 /// Length of the run of spaces at the front of a text. `word_after` counts their reads.
 #[inline(always)]
 pub fn gap_len(text: &str) -> usize
+    ensures value { result ≡ prefix_len (nat_eq 32) text.now }
     ensures word { 0 < result → language_front text.now ≡ Some (class.Skipped, result) }
     ensures bang { 0 < result → is_bang text.now ≡ false }
     ensures within { result ≤ length text.now }

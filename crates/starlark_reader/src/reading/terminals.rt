@@ -11,7 +11,7 @@ use starlark_words::scanner::Terminal;
 
 /// The token of a keyword or symbol.
 macro_rules! token_of {
-    ($sort:literal $name:ident $text:literal) => { Token::$name };
+    ($sort:literal $name:ident $text:literal $number:literal) => { Token::$name };
 }
 
 /// The token of a keyword or symbol by itself, whatever the lexer mode.

@@ -35,7 +35,7 @@ const LISTED_LEN: usize = 8;
 /// The bits of the lengths of the words that begin with a letter, by its last five bits.
 macro_rules! lengths_by {
     (($letter:literal) symbols $symbols:tt names { $($len:literal {
-        $($bytes:literal $text:literal $keyword:ident,)*;
+        $($bytes:literal $text:literal $keyword:ident = $number:literal,)*;
         $($reserved:literal $word:literal),*
     })* }) => {
         0 $(
@@ -74,7 +74,7 @@ fn may_be_listed(name: &[u8]) -> bool
 /// A `match` of a name on the keywords and reserved words.
 macro_rules! listing_in {
     (($name:ident) symbols $symbols:tt names { $($len:literal {
-        $($bytes:literal $text:literal $keyword:ident,)*;
+        $($bytes:literal $text:literal $keyword:ident = $number:literal,)*;
         $($reserved:literal $word:literal),*
     })* }) => {
         match $name {

@@ -17,6 +17,9 @@ spaces c =
     after_first c.as_bytes-bytes.result.now c.uncounted_spaces_len.result c.if-bytes-ne32.false (rw take_rest at c.uncounted_spaces_len.ensures.value)
     ∙ ap (prefix_len (nat_eq 32)) c.as_bytes-bytes.ensures.value
 
+pub returns-clause-value : goal.returns-clause-value
+returns-clause-value c = spaces c
+
 pub returns-clause-word : goal.returns-clause-word
 returns-clause-word c = front_spaces c.args.text.now (1 + c.uncounted_spaces_len.result) (spaces c)
 
