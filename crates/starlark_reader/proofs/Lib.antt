@@ -4,7 +4,7 @@
 -- ReadLiterals/LiteralPieces, Chunks: whole literals: text, bytes and f-string texts as pieces.
 -- TakenMargins/Blanks, MarginLines, PlainMargins: blanks: one pass over a margin; margins of spaces alone.
 -- TakenMargins/Pending: comments: the comment of a line, and of a range of lines.
--- TakenMargins/Waiting: pending lexemes: those that are still to be returned.
+-- TakenMargins/PendingLexemes: pending lexemes: those that are still to be returned.
 -- TakenMargins/Indents, LaidMargins: indents: `Indent` and `Dedent` by the open widths; what a margin does.
 -- TakenMargins/TakenWidths: indentation stack: what the greatest widths say of all, since they rise.
 -- OpenBrackets/BracketCounts: brackets: bracket depth, one token further.

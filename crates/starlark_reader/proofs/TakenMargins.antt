@@ -3,7 +3,7 @@ pub mod MarginLines
 pub mod Blanks
 pub mod PlainMargins
 pub mod Pending
-pub mod Waiting
+pub mod PendingLexemes
 pub mod Indents
 pub mod LaidMargins
 pub mod TakenWidths

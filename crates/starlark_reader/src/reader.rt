@@ -17,7 +17,7 @@ ghost use Rattle.starlark_grammar.specs.declared.class.Class.TheVariants as clas
 ghost use Rattle.starlark_grammar.specs.declared.class.LiteralKind.TheVariants as kind;
 ghost use Rattle.starlark_reader.specs.Inner.Pending.{IsCommentIn, IsIdle, IsMark, IsPending, comment_lexeme, owed, pending_lexemes};
 ghost use Rattle.starlark_reader.specs.Inner.MarginCuts.{IsCutBefore};
-ghost use Rattle.starlark_reader.specs.Inner.ReadBounds.{HasStarted, HasLooked, HasLookedHere, HasRead, HasReadAt, HasReadLast, IsMarginRead, IsPassedBy, IsTaken};
+ghost use Rattle.starlark_reader.specs.Inner.ReadBounds.{HasStarted, HasScanned, HasScannedHere, HasRead, HasReadAt, HasReadLast, IsMarginRead, IsPassedBy, IsTaken};
 ghost use Rattle.starlark_reader.specs.Inner.Reader.{HasSomething, IsText, IsAtLineEnd, IsAtStep, IsLineEndStep, IsSound, KeepsAhead, PassesNext, Takes, TakesNext, has_read_none, is_fault, IsAhead, IsAheadAfter, IsAtCode, IsBangHere, IsInCode, IsInFlatMargin, IsReached, IsStateAfter, IsStateAtFault, IsAtEnd, IsLast, IsPlainTextHere, IsRead, IsReadPast, IsReady, IsTokenOf, IsWordHere, before_view, chunk_lexemes, fstring_text_lexeme, left_here, left_to_read, name_lexeme, newline_of, step_here, text_lexeme};
 ghost use Rattle.starlark_reader.specs.Inner.PieceViews.{IsLineEnd};
 ghost use Rattle.starlark_reader.specs.Inner.Lookaheads.{HasPeeked, IsFound, IsTextRun};
@@ -211,7 +211,7 @@ impl<'a> Reader<'a> {
     /// Takes the margin found after a newline of `len` bytes that counts. Returns the outcome, and stops
     /// at the fault, where the margin has one. Its reads are counted before.
     #[inline(always)]
-    fn lay_margin(&mut self, len: usize, margin: Margin) -> Result<LineEnd, AllocError>
+    fn put_margin(&mut self, len: usize, margin: Margin) -> Result<LineEnd, AllocError>
         requires line_end { IsAtLineEnd self.old len }
         requires margin { IsMargin (margin_of (drop (self.old.at + len) self.old.text.now)) margin }
         requires within { self.old.at + len + (margin.at + margin.blanks) ≤ length self.old.text.now }
@@ -236,7 +236,7 @@ impl<'a> Reader<'a> {
     /// stops at the fault, where the margin has one.
     // A call: so a newline before a plain margin saves no registers (8 % of blank lines).
     #[inline(never)]
-    fn lay_long_margin(&mut self, len: usize) -> Result<LineEnd, AllocError>
+    fn put_long_margin(&mut self, len: usize) -> Result<LineEnd, AllocError>
         requires { IsAtLineEnd self.old len }
         ensures text { self.new.text ≡ self.old.text }
         ensures read { IfOk result (λ line_end. Takes self.old (IsLineEndStep self.old len) (newline_of line_end self.old.at len) self.new) }
@@ -246,12 +246,12 @@ impl<'a> Reader<'a> {
     {
         let begin = self.at + len;
         let margin = margin_of(&mut self.reads, &self.text[begin..]);
-        self.lay_margin(len, margin)
+        self.put_margin(len, margin)
     }
 
     /// Reads a newline of `len` bytes that counts, and the margin of `width` spaces alone after it,
     /// which content follows. Returns the outcome, and stops at the fault, where the margin has one.
-    // Not `lay_long_margin`: the known width is 2 % of deep indentation.
+    // Not `put_long_margin`: the known width is 2 % of deep indentation.
     #[inline(never)]
     fn change_width(&mut self, len: usize, width: usize) -> Result<LineEnd, AllocError>
         requires line_end { IsAtLineEnd self.old len }
@@ -264,13 +264,13 @@ impl<'a> Reader<'a> {
         ensures counts { IfOk result (λ line_end. (line_end ≢ LineEnd.Passed) × (line_end ≢ LineEnd.Newline)) }
     {
         self.reads.count_run(width + 1);
-        self.lay_margin(len, Margin::of_spaces(width))
+        self.put_margin(len, Margin::of_spaces(width))
     }
 
     /// Reads a newline of `len` bytes that counts, and the margin after it. Returns the outcome, and
     /// stops at the fault, where the margin has one.
     #[inline(always)]
-    fn lay_line_end(&mut self, len: usize) -> Result<LineEnd, AllocError>
+    fn put_line_end(&mut self, len: usize) -> Result<LineEnd, AllocError>
         requires { IsAtLineEnd self.old len }
         ensures text { self.new.text ≡ self.old.text }
         ensures read { IfOk result (λ line_end. Takes self.old (IsLineEndStep self.old len) (newline_of line_end self.old.at len) self.new) }
@@ -281,7 +281,7 @@ impl<'a> Reader<'a> {
     {
         let begin = self.at + len;
         let Some(margin) = plain_margin(&self.text[begin..]) else {
-            return self.lay_long_margin(len);
+            return self.put_long_margin(len);
         };
         if !keeps_widths(&self.levels, margin) {
             return self.change_width(len, margin.width);
@@ -353,6 +353,7 @@ impl<'a> Reader<'a> {
         ensures value { (history : History) → IsStateAfter self.old.text.now history self.old → result ≡ (is_settled history && ends_with nat_eq self.old.text.now (codes "\n")) }
         ensures least { self.old.reads < 2 ^ 64 - 1 → self.old.reads ≤ self.new.reads }
         ensures most { self.new.reads ≤ self.old.reads + 1 }
+        ensures same { self.new ≡ record self.old { reads = self.new.reads } }
     {
         let is_settled = matches!(self.before, Before::Layout)
             && self.nesting.counts_line_ends()
@@ -526,8 +527,8 @@ impl<'a> Reader<'a> {
         ensures comment { IfSome result (λ word. word.class ≢ class.Comment) }
         ensures none { result ≡ None → begins is_name_start (drop self.new.at self.new.text.now) ≡ false }
         ensures rest { result ≡ None → begins_mark (drop self.new.at self.new.text.now) ≡ false }
-        ensures lookahead { IfSome result (λ word. HasLooked word.len ((5 * word.len - 4) + 2) self.old self.new) }
-        ensures peeked { result ≡ None → HasLooked (peeked_len (drop self.new.at self.new.text.now)) (peeked_len (drop self.new.at self.new.text.now)) self.old self.new }
+        ensures lookahead { IfSome result (λ word. HasScanned word.len ((5 * word.len - 4) + 2) self.old self.new) }
+        ensures peeked { result ≡ None → HasScanned (peeked_len (drop self.new.at self.new.text.now)) (peeked_len (drop self.new.at self.new.text.now)) self.old self.new }
     {
         let gap = gap_len(&self.text[self.at..]);
         if gap > 0 {
@@ -537,7 +538,7 @@ impl<'a> Reader<'a> {
     }
 
     /// The word at the offset, where `common_word` has found none; `None` if no word begins there.
-    #[tactic(auto, using(crate::proofs::TakenPieces::ReaderReads::reads_ahead, crate::proofs::TakenPieces::SameTexts::looked_sound))]
+    #[tactic(auto, using(crate::proofs::TakenPieces::ReaderReads::reads_ahead, crate::proofs::TakenPieces::SameTexts::scanned_sound))]
     #[inline(always)]
     pub fn unnamed_word(&mut self) -> Option<Word>
         requires sound { IsSound self.old }
@@ -550,7 +551,7 @@ impl<'a> Reader<'a> {
         ensures stands { IfSome result (IsWordHere self.new.text.now self.new) }
         ensures none { result ≡ None → language_front (drop self.new.at self.new.text.now) ≡ None }
         ensures class { begins_mark (drop self.old.at self.old.text.now) ≡ false → IfSome result (λ word. is_common word.class ≡ false) }
-        ensures lookahead { HasLookedHere (word_len result - peeked_len (drop self.old.at self.old.text.now)) (5 * word_len result + 3 - peeked_len (drop self.old.at self.old.text.now)) self.old self.new }
+        ensures lookahead { HasScannedHere (word_len result - peeked_len (drop self.old.at self.old.text.now)) (5 * word_len result + 3 - peeked_len (drop self.old.at self.old.text.now)) self.old self.new }
     {
         unnamed_word(&mut self.reads, &self.text[self.at..])
     }
@@ -565,7 +566,7 @@ impl<'a> Reader<'a> {
         ensures ahead { KeepsAhead self.old self.new }
         ensures code { IsAtCode self.new.text.now self.new }
         ensures stands { result ≡ true → IsBangHere self.new.text.now self.new }
-        ensures lookahead { HasLookedHere 2 2 self.old self.new }
+        ensures lookahead { HasScannedHere 2 2 self.old self.new }
         ensures other { result ≡ false → (history : History) → IsStateAfter self.new.text.now history self.new → (grammar.takes_bang (mode_after history.tokens) history.before && grammar.is_bang (drop self.new.at self.new.text.now)) ≡ false }
     {
         let front = self.reads.front(self.text[self.at..].as_bytes(), 2);
@@ -593,7 +594,7 @@ impl<'a> Reader<'a> {
         ensures onward { IfOk result (λ line_end. line_end ≡ LineEnd.Newline → (self.new.stage ≡ Stage.Onward) × IsInCode self.new × ((text : Text) → pending_lexemes text self.new.pending ≡ [])) }
     {
         if self.nesting.counts_line_ends() {
-            return self.lay_line_end(len);
+            return self.put_line_end(len);
         }
         self.step_over(len, Before::Other);
         Ok(LineEnd::Passed)
@@ -602,7 +603,7 @@ impl<'a> Reader<'a> {
     /// Length in bytes of the next literal's body, if it has no escapes and one quote closes it.
     /// Its opener has `len` bytes. For any other literal, the error is the length of the run
     /// without escapes at its start.
-    #[tactic(auto, using(crate::proofs::TakenPieces::ReaderReads::reads_ahead, crate::proofs::TakenPieces::SameTexts::looked_sound))]
+    #[tactic(auto, using(crate::proofs::TakenPieces::ReaderReads::reads_ahead, crate::proofs::TakenPieces::SameTexts::scanned_sound))]
     #[inline(always)]
     pub fn plain_body_len(
         &mut self,
@@ -618,8 +619,8 @@ impl<'a> Reader<'a> {
         ensures ahead { KeepsAhead self.old self.new }
         ensures stands { IsWordHere self.new.text.now self.new (record { class = class.Opener kind is_raw quote; len = len }) }
         ensures plain { IfOk result (λ body. IsPlainBody kind is_raw quote (drop len (drop self.new.at self.new.text.now)) body) }
-        ensures lookahead { IfOk result (λ body. HasLookedHere (body + 1) (6 * body + 3) self.old self.new) }
-        ensures other { IfErr result (λ run. IsRun (single_literal kind is_raw quote) (drop len (drop self.new.at self.new.text.now)) run × HasLookedHere run (6 * run + 3) self.old self.new) }
+        ensures lookahead { IfOk result (λ body. HasScannedHere (body + 1) (6 * body + 3) self.old self.new) }
+        ensures other { IfErr result (λ run. IsRun (single_literal kind is_raw quote) (drop len (drop self.new.at self.new.text.now)) run × HasScannedHere run (6 * run + 3) self.old self.new) }
     {
         let rest = &self.text[self.at..];
         plain_body_len(&mut self.reads, kind, is_raw, quote, &rest[len..])
@@ -678,7 +679,7 @@ impl<'a> Reader<'a> {
 
     /// The f-string text that comes next, if it has no escapes. Else the error is the
     /// length in bytes of the run without these at its start. `None` outside of f-string text.
-    #[tactic(auto, using(crate::proofs::TakenPieces::ReaderReads::reads_ahead, crate::proofs::TakenPieces::SameTexts::looked_sound))]
+    #[tactic(auto, using(crate::proofs::TakenPieces::ReaderReads::reads_ahead, crate::proofs::TakenPieces::SameTexts::scanned_sound))]
     #[inline(always)]
     pub fn plain_text(&mut self) -> Option<Result<Chunk, usize>>
         requires sound { IsSound self.old }
@@ -690,8 +691,8 @@ impl<'a> Reader<'a> {
         ensures none { result ≡ None → (self.new ≡ self.old) × IsInCode self.old }
         ensures stands { IfSome result (λ found. IfOk found (λ plain. IsPlainTextHere self.new.text.now self.new plain)) }
         ensures some { IfSome result (λ found. IfOk found (λ plain. (0 < plain.stop_len) × (plain.stop_len ≤ 3))) }
-        ensures lookahead { IfSome result (λ found. IfOk found (λ plain. HasLookedHere (plain.len + 3) (6 * plain.len + 4) self.old self.new)) }
-        ensures other { IfSome result (λ found. IfErr found (λ run. IsTextRun self.new.text.now run self.new × HasLookedHere run (6 * run + 4) self.old self.new)) }
+        ensures lookahead { IfSome result (λ found. IfOk found (λ plain. HasScannedHere (plain.len + 3) (6 * plain.len + 4) self.old self.new)) }
+        ensures other { IfSome result (λ found. IfErr found (λ run. IsTextRun self.new.text.now run self.new × HasScannedHere run (6 * run + 4) self.old self.new)) }
     {
         let LexerMode::InText(opening) = self.nesting.mode() else {
             return None;

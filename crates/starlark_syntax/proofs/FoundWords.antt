@@ -13,7 +13,7 @@ use Rattle.starlark_grammar.specs.declared.class.Class.TheVariants as class
 use Rattle.starlark_grammar.proofs.Order.Inside.{lexemes_few}
 use Rattle.starlark_reader.specs.Inner.Pending.{pending_lexemes}
 use Rattle.starlark_reader.specs.Inner.Reader.{IsAhead, IsAheadAfter, IsAheadPast, IsAtCode, IsAtEnd, HasSomething, IsInCode, IsSomething, IsSound, IsText, IsWordHere, KeepsAhead, TakesNext, left_to_read, newline_if}
-use Rattle.starlark_reader.specs.Inner.ReadBounds.{HasLooked, HasLookedHere, HasRead, IsMarginRead, IsTaken}
+use Rattle.starlark_reader.specs.Inner.ReadBounds.{HasRead, HasScanned, HasScannedHere, IsMarginRead, IsTaken}
 use Rattle.starlark_reader.specs.declared.reader.Reader.{Reader}
 use Rattle.starlark_reader.specs.declared.reader.Stage.TheVariants as stages
 use Rattle.starlark_reader.proofs.TakenPieces.PieceTaken.{left_onward}
@@ -21,8 +21,8 @@ use Rattle.starlark_reader.proofs.TakenPieces.ReaderReads.{line_reads}
 use Rattle.starlark_syntax.proofs.LexerItems.{one_more}
 use Rattle.starlark_syntax.proofs.LexerReads.{goes_on, most_few, nothing_found, nothing_is, nothing_kept, peeked_after, peeked_more, peeked_taken, word_inside}
 use Rattle.starlark_syntax.proofs.LexerStates.{IsGoingOn, same_lexing, same_text}
-use Rattle.starlark_syntax.proofs.PlainLexemes.{newline_passed, passed_same}
-use Rattle.starlark_syntax.specs.Inner.LexerStates.{HasGoneOn, HasPassed, HasPassedNext, IsAtWord, IsLexing, IsLexingIn, IsReadNext, IsTakenNext, IsUnnamed, StateView, is_out_of_memory, left_in, left_to_pass, passed_count, plain_mark, view_of}
+use Rattle.starlark_syntax.proofs.PlainLexemes.{newline_passed, told_same}
+use Rattle.starlark_syntax.specs.Inner.LexerStates.{HasGoneOn, HasTold, HasToldNext, IsAtWord, IsLexing, IsLexingIn, IsReadNext, IsTakenNext, IsUnnamed, StateView, is_out_of_memory, left_in, left_to_pass, plain_mark, told_count, view_of}
 use Rattle.starlark_reader.specs.Inner.Lookaheads.{HasPeeked, IsFound, is_nothing, is_slow, most_peeked}
 use Rattle.starlark_syntax.specs.declared.lexer_state.LexerState.{LexerState}
 use Rattle.starlark_reader.specs.declared.lookahead.Found.{Found}
@@ -91,15 +91,15 @@ pub still_going : (state : LexerState) → IsLexing state → is_nothing state.f
 still_going state lexing nothing = (nothing_found state.reader.text.now state.reader state.has_ended state.word state.run state.found nothing lexing.2 lexing.3).0
 
 -- the scanner has found a word
-pub at_word : (state : LexerState) (mid : Reader) (word : Word) → mid.text ≡ state.reader.text → IsLexing state → is_nothing state.found ≡ true → HasLooked word.len ((5 * word.len - 4) + 2) state.reader mid → KeepsAhead state.reader mid → IsWordHere mid.text.now mid word
+pub at_word : (state : LexerState) (mid : Reader) (word : Word) → mid.text ≡ state.reader.text → IsLexing state → is_nothing state.found ≡ true → HasScanned word.len ((5 * word.len - 4) + 2) state.reader mid → KeepsAhead state.reader mid → IsWordHere mid.text.now mid word
     → IsAtWord (record state { reader = mid }) word
-at_word state mid word same lexing nothing looked keeps stands =
+at_word state mid word same lexing nothing scanned keeps stands =
     let text = ap (λ t. t.now) same in
     let quick = nothing_found state.reader.text.now state.reader state.has_ended state.word state.run state.found nothing lexing.2 lexing.3 in
     let inv = lexing.1 quick.0 in
     let here = subst (λ (t : Text). IsAhead t mid mid.stage (drop state.yielded_count (map shown_lexeme (outcome t).lexemes)) (outcome t).fault) (sym text) (keeps _ _ inv.1) in
     let inside = word_inside mid.text.now mid _ _ word.class word.len stands.stage here (sym stands.front) in
-    let peeked = peeked_after state.reader.text.now word.len ((5 * word.len - 4) + 2) (5 * word.len - 2) state.reader mid quick.1.stage quick.2 looked (omega (arith, inside.0)) in
+    let peeked = peeked_after state.reader.text.now word.len ((5 * word.len - 4) + 2) (5 * word.len - 2) state.reader mid quick.1.stage quick.2 scanned (omega (arith, inside.0)) in
     record {
       text = rw same lexing.0;
       going = quick.0;
@@ -114,9 +114,9 @@ pub word_sound : (state : LexerState) (word : Word) → IsAtWord state word → 
 word_sound state word at = record { text = at.text; ready = (_, _, at.ahead) }
 
 -- where the first two bytes tell no word
-pub unnamed_here : (state : LexerState) (mid : Reader) → mid.text ≡ state.reader.text → IsLexing state → is_nothing state.found ≡ true → HasLooked (peeked_len (drop mid.at mid.text.now)) (peeked_len (drop mid.at mid.text.now)) state.reader mid → KeepsAhead state.reader mid → IsAtCode mid.text.now mid → begins is_name_start (drop mid.at mid.text.now) ≡ false → begins_mark (drop mid.at mid.text.now) ≡ false
+pub unnamed_here : (state : LexerState) (mid : Reader) → mid.text ≡ state.reader.text → IsLexing state → is_nothing state.found ≡ true → HasScanned (peeked_len (drop mid.at mid.text.now)) (peeked_len (drop mid.at mid.text.now)) state.reader mid → KeepsAhead state.reader mid → IsAtCode mid.text.now mid → begins is_name_start (drop mid.at mid.text.now) ≡ false → begins_mark (drop mid.at mid.text.now) ≡ false
     → IsUnnamed (record state { reader = mid })
-unnamed_here state mid same lexing nothing looked keeps code unnamed marks =
+unnamed_here state mid same lexing nothing scanned keeps code unnamed marks =
     let text = ap (λ t. t.now) same in
     let quick = nothing_found state.reader.text.now state.reader state.has_ended state.word state.run state.found nothing lexing.2 lexing.3 in
     let inv = lexing.1 quick.0 in
@@ -129,12 +129,12 @@ unnamed_here state mid same lexing nothing looked keeps code unnamed marks =
       unnamed = unnamed;
       marks = marks;
       lookahead = nothing_is state.found nothing;
-      read = let len = peeked_len (drop mid.at mid.text.now) in subst (λ (t : Text). HasPeeked t len len mid) (sym text) (peeked_after state.reader.text.now len len len state.reader mid quick.1.stage quick.2 looked (omega arith));
+      read = let len = peeked_len (drop mid.at mid.text.now) in subst (λ (t : Text). HasPeeked t len len mid) (sym text) (peeked_after state.reader.text.now len len len state.reader mid quick.1.stage quick.2 scanned (omega arith));
     }
 
 -- what was found is stored, where the fast path doesn't pass it
 pub word_stored : (state : LexerState) (reader : Reader) (word : Word) → reader.text ≡ state.reader.text → IsText state.reader.text.now → state.has_ended ≡ false → state.yielded_count ≤ length (outcome state.reader.text.now).lexemes → IsAhead state.reader.text.now reader reader.stage (left_in state) (outcome state.reader.text.now).fault
-    → IsWordHere state.reader.text.now reader word → is_slow word.class ≡ true → HasPeeked state.reader.text.now word.len (most_peeked word) reader → HasPassedNext state (Ok None) (record state { reader = reader; found = found.Word; word = word })
+    → IsWordHere state.reader.text.now reader word → is_slow word.class ≡ true → HasPeeked state.reader.text.now word.len (most_peeked word) reader → HasToldNext state (Ok None) (record state { reader = reader; found = found.Word; word = word })
 word_stored state reader word same text going few ahead here slow peeked =
     let none : state.yielded_count + 0 ≡ state.yielded_count = omega (arith) in
     record {
@@ -143,7 +143,7 @@ word_stored state reader word same text going few ahead here slow peeked =
       after = rw (same, going, none) refl;
     }
 
-pub word_found : (state : LexerState) (word : Word) → IsAtWord state word → is_slow word.class ≡ true → HasPassedNext state (Ok None) (record state { found = found.Word; word = word })
+pub word_found : (state : LexerState) (word : Word) → IsAtWord state word → is_slow word.class ≡ true → HasToldNext state (Ok None) (record state { found = found.Word; word = word })
 word_found state word at slow =
     word_stored state state.reader word refl at.text at.going at.few at.ahead at.stands slow (at.read.0, at.read.1, (at.read.2.0, omega (arith, at.read.2.1, (most_few word).0)))
 
@@ -153,12 +153,12 @@ pub word_here : (state : LexerState) (word : Word) → IsLexing state → state.
 word_here state word lexing going is same = subst (λ w. IsWordHere state.reader.text.now state.reader w × (is_slow w.class ≡ true) × HasPeeked state.reader.text.now w.len (most_peeked w) state.reader) same (subst (IsFound state.reader.text.now state.reader state.word state.run) is (lexing.3 going))
 
 -- so it is after a literal without escapes
-pub plain_after : {A E : Type 0} (taken : Result A E) (old mid new : Reader) (len body : ℕ) → mid.text ≡ old.text → new.text ≡ mid.text → HasPeeked old.text.now len (5 * len - 2) old → HasLookedHere (body + 1) (6 * body + 3) old mid
+pub plain_after : {A E : Type 0} (taken : Result A E) (old mid new : Reader) (len body : ℕ) → mid.text ≡ old.text → new.text ≡ mid.text → HasPeeked old.text.now len (5 * len - 2) old → HasScannedHere (body + 1) (6 * body + 3) old mid
     → OnOk taken (IsAtCode new.text.now new) → OnOk taken (IsTaken (len + body + 1) mid new) → OnOk taken (IsAtCode new.text.now new × HasRead new.text.now new)
-plain_after (Ok given) old mid new len body same again peeked looked code passed =
-    let more = peeked_more old.text.now len (5 * len - 2) (body + 1) (6 * body + 3) (len + body + 1) (5 * len + 6 * body + 3) old mid peeked looked (omega arith) (omega arith) in
+plain_after (Ok given) old mid new len body same again peeked scanned code passed =
+    let more = peeked_more old.text.now len (5 * len - 2) (body + 1) (6 * body + 3) (len + body + 1) (5 * len + 6 * body + 3) old mid peeked scanned (omega arith) (omega arith) in
     (code, subst (λ (t : Text). HasRead t new) (sym (ap (λ t. t.now) (again ∙ same))) (peeked_taken old.text.now (len + body + 1) (5 * len + 6 * body + 3) (len + body + 1) mid new more (omega arith) (omega arith) (passed.1, passed.2)))
-plain_after (Err error) old mid new len body same again peeked looked code passed = tt
+plain_after (Err error) old mid new len body same again peeked scanned code passed = tt
 
 -- the measure while the reader goes on
 pub left_on : (text : Text) (reader : Reader) → reader.stage ≡ stages.Onward → left_to_read text reader reader.stage ≡ length text - reader.at + 2
@@ -213,7 +213,7 @@ margin_read state len new at margin =
 -- after which lexemes may be pending
 pub pending_newline : (state : LexerState) (len : ℕ) (new : Reader) → new.text ≡ state.reader.text → IsAtWord state (record { class = class.LineEnd; len = len }) → IsCharBoundary state.reader.text.now (state.reader.at + len) → IsMarginRead state.reader.text.now len state.reader new new.stage
     → IsAheadAfter state.reader.text.now (newline_if true state.reader.at len) new (left_in state) (outcome state.reader.text.now).fault
-    → HasPassedNext state (Ok (Some (plain_mark kind.Newline state.reader.at (state.reader.at + len)))) (record state { reader = new; yielded_count = state.yielded_count + 1; found = found.All })
+    → HasToldNext state (Ok (Some (plain_mark kind.Newline state.reader.at (state.reader.at + len)))) (record state { reader = new; yielded_count = state.yielded_count + 1; found = found.All })
 pending_newline state len new same at last margin is = record {
   passed = newline_passed state state state.reader new len (refl, refl) at.text.fits at.stands.stage at.ahead last is;
   lexing = past_lexing state _ new state.word state.run found.All same at.text at.going is (margin_read state len new at margin);
@@ -223,7 +223,7 @@ pending_newline state len new same at last margin is = record {
 -- after which none is pending
 pub plain_newline : (state : LexerState) (len : ℕ) (new : Reader) → new.text ≡ state.reader.text → IsAtWord state (record { class = class.LineEnd; len = len }) → IsCharBoundary state.reader.text.now (state.reader.at + len) → IsMarginRead state.reader.text.now len state.reader new new.stage
     → (new.stage ≡ stages.Onward) × IsInCode new × ((text : Text) → pending_lexemes text new.pending ≡ []) → IsAheadAfter state.reader.text.now (newline_if true state.reader.at len) new (left_in state) (outcome state.reader.text.now).fault
-    → HasPassedNext state (Ok (Some (plain_mark kind.Newline state.reader.at (state.reader.at + len)))) (record state { reader = new; yielded_count = state.yielded_count + 1 })
+    → HasToldNext state (Ok (Some (plain_mark kind.Newline state.reader.at (state.reader.at + len)))) (record state { reader = new; yielded_count = state.yielded_count + 1 })
 plain_newline state len new same at last margin onward is =
     let code : IsAtCode state.reader.text.now new = record { stage = onward.0; idle = (is.2.is_pending, onward.2 state.reader.text.now); code = onward.1 } in
     record {
@@ -234,7 +234,7 @@ plain_newline state len new same at last margin onward is =
 
 -- the margin after a newline has a fault
 pub faulty_margin : (state : LexerState) (len : ℕ) (new : Reader) → new.text ≡ state.reader.text → IsAtWord state (record { class = class.LineEnd; len = len }) → IsMarginRead state.reader.text.now len state.reader new new.stage
-    → IsAhead state.reader.text.now new new.stage (left_in state) (outcome state.reader.text.now).fault → IsAtEnd state.reader.text.now new → HasPassedNext state (Ok None) (record state { reader = new; found = found.All })
+    → IsAhead state.reader.text.now new new.stage (left_in state) (outcome state.reader.text.now).fault → IsAtEnd state.reader.text.now new → HasToldNext state (Ok None) (record state { reader = new; found = found.All })
 faulty_margin state len new same at margin ahead end =
     let none : state.yielded_count + 0 ≡ state.yielded_count = omega (arith) in
     record {
@@ -244,19 +244,19 @@ faulty_margin state len new same at margin ahead end =
     }
 
 -- what the fast path passed after what has no lexeme, it passed of the lexer before that
-pub record HasPassedSince (first : LexerState) (found : Result (Option PlainLexeme) AllocError) (new : LexerState) : Type 0 where
+pub record HasToldSince (first : LexerState) (found : Result (Option PlainLexeme) AllocError) (new : LexerState) : Type 0 where
   pub ended : first.has_ended ≡ true → (found ≡ (Ok None)) × (new ≡ first)
-  pub passed : first.has_ended ≡ false → HasPassed first found new
+  pub passed : first.has_ended ≡ false → HasTold first found new
   pub lexing : IsLexing new
-  pub after : view_of new ≡ record (view_of first) { yielded_count = first.yielded_count + passed_count found; has_ended = first.has_ended || is_out_of_memory found; reads = new.reader.reads }
+  pub after : view_of new ≡ record (view_of first) { yielded_count = first.yielded_count + told_count found; has_ended = first.has_ended || is_out_of_memory found; reads = new.reader.reads }
 
-pub passed_since : (first state : LexerState) (reader : Reader) (found : Result (Option PlainLexeme) AllocError) (new : LexerState) → IsGoingOn first state → state.has_ended ≡ false → reader.text ≡ state.reader.text → HasPassedNext (record state { reader = reader }) found new → HasPassedSince first found new
-passed_since first state reader found new on going same is =
+pub told_since : (first state : LexerState) (reader : Reader) (found : Result (Option PlainLexeme) AllocError) (new : LexerState) → IsGoingOn first state → state.has_ended ≡ false → reader.text ≡ state.reader.text → HasToldNext (record state { reader = reader }) found new → HasToldSince first found new
+told_since first state reader found new on going same is =
     let before = same_text first state reader on same in
     let goes : first.has_ended ≡ false = sym (ap (λ (v : StateView). v.has_ended) on.same) ∙ going in
     record {
       ended = λ ended. (let both : true ≡ false = sym ended ∙ goes in cc);
-      passed = λ on. passed_same first (record state { reader = reader }) found new before is.passed;
+      passed = λ on. told_same first (record state { reader = reader }) found new before is.passed;
       lexing = is.lexing;
       after = rw (goes, sym before.0, sym before.1) is.after;
     }

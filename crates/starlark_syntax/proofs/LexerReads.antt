@@ -16,7 +16,7 @@ use Rattle.starlark_words.specs.declared.scanner.word.Word.{Word}
 use Rattle.starlark_reader.specs.Inner.Lookaheads.{HasPeeked, IsFound, IsOpened, IsTextRun, is_nothing, is_opener, is_slow, most_peeked}
 use Rattle.starlark_reader.specs.Inner.Pending.{IsPending, owed}
 use Rattle.starlark_reader.specs.Inner.Reader.{IsAhead, IsAtCode, IsAtEnd, IsInCode, IsOver, IsWordHere}
-use Rattle.starlark_reader.specs.Inner.ReadBounds.{HasLooked, HasLookedHere, HasRead, HasReadAt, HasStarted, IsPassedBy}
+use Rattle.starlark_reader.specs.Inner.ReadBounds.{HasRead, HasReadAt, HasScanned, HasScannedHere, HasStarted, IsPassedBy}
 use Rattle.starlark_reader.specs.declared.lookahead.Found.{Found}
 use Rattle.starlark_reader.specs.declared.lookahead.Found.TheVariants as found
 use Rattle.starlark_reader.specs.declared.reader.LineEnd.{LineEnd}
@@ -28,7 +28,7 @@ use Rattle.starlark_reader.proofs.TakenPieces.CodePlaces.{word_len, word_some}
 use Rattle.starlark_reader.proofs.TakenPieces.PieceTaken.{left_onward}
 use Rattle.starlark_reader.proofs.TakenPieces.ReaderReads.{onward_reads}
 use Rattle.starlark_reader.proofs.TakenPieces.SameTexts.{over_code, over_reads}
-use Rattle.starlark_syntax.specs.Inner.Looked.{GoesOn, IsFoundInCode, IsFoundOut}
+use Rattle.starlark_syntax.specs.Inner.FoundKinds.{GoesOn, IsFoundInCode, IsFoundOut}
 
 -- a word where a reader is has a byte at least, and lies inside of the text
 pub word_inside : (text : Text) (reader : Reader) (lexemes : List (Spanned TokenView)) (fault : Option (Spanned Fault)) (class : Class) (len : ℕ) → reader.stage ≡ stages.Onward → IsAhead text reader reader.stage lexemes fault
@@ -51,21 +51,21 @@ peeked_len_few text = go (get_or text 1 0 == get_or text 0 0)
     go false = omega arith
 
 -- more bytes are peeked at the same offset
-pub peeked_more : (text : Text) (least most more extra at_least at_most : ℕ) (old new : Reader) → HasPeeked text least most old → HasLookedHere more extra old new → at_least ≤ least + more → most + extra ≤ at_most → HasPeeked text at_least at_most new
-peeked_more text least most more extra at_least at_most old new peeked looked enough few =
-    (peeked.0, (omega (arith, peeked.1.0, looked.0), omega (arith, peeked.1.1, looked.0, looked.2)), (omega (arith, enough, peeked.2.0, looked.3.0), omega (arith, few, peeked.2.1, looked.3.1)))
+pub peeked_more : (text : Text) (least most more extra at_least at_most : ℕ) (old new : Reader) → HasPeeked text least most old → HasScannedHere more extra old new → at_least ≤ least + more → most + extra ≤ at_most → HasPeeked text at_least at_most new
+peeked_more text least most more extra at_least at_most old new peeked scanned enough few =
+    (peeked.0, (omega (arith, peeked.1.0, scanned.0), omega (arith, peeked.1.1, scanned.0, scanned.2)), (omega (arith, enough, peeked.2.0, scanned.3.0), omega (arith, few, peeked.2.1, scanned.3.1)))
 
 -- so it is where none were before
-pub peeked_first : (text : Text) (more extra at_least at_most : ℕ) (old new : Reader) → old.stage ≡ stages.Onward → HasRead text old → HasLookedHere more extra old new → at_least ≤ more → extra ≤ at_most → HasPeeked text at_least at_most new
-peeked_first text more extra at_least at_most old new onward has looked enough few =
+pub peeked_first : (text : Text) (more extra at_least at_most : ℕ) (old new : Reader) → old.stage ≡ stages.Onward → HasRead text old → HasScannedHere more extra old new → at_least ≤ more → extra ≤ at_most → HasPeeked text at_least at_most new
+peeked_first text more extra at_least at_most old new onward has scanned enough few =
     let on : HasReadAt text old stages.Onward = subst (HasReadAt text old) onward has in
-    (old.reads, (omega (arith, on.0, looked.0), omega (arith, on.1, looked.0, looked.2)), (omega (arith, enough, looked.3.0), omega (arith, few, looked.3.1)))
+    (old.reads, (omega (arith, on.0, scanned.0), omega (arith, on.1, scanned.0, scanned.2)), (omega (arith, enough, scanned.3.0), omega (arith, few, scanned.3.1)))
 
 -- and after the spaces at the offset
-pub peeked_after : (text : Text) (least most at_most : ℕ) (old new : Reader) → old.stage ≡ stages.Onward → HasRead text old → HasLooked least most old new → most ≤ at_most → HasPeeked text least at_most new
-peeked_after text least most at_most old new onward has looked few =
+pub peeked_after : (text : Text) (least most at_most : ℕ) (old new : Reader) → old.stage ≡ stages.Onward → HasRead text old → HasScanned least most old new → most ≤ at_most → HasPeeked text least at_most new
+peeked_after text least most at_most old new onward has scanned few =
     let on : HasReadAt text old stages.Onward = subst (HasReadAt text old) onward has in
-    (old.reads + (new.at - old.at), (omega (arith, on.0, looked.0), omega (arith, on.1, looked.0, looked.2)), (omega (arith, looked.0, looked.3.0), omega (arith, few, looked.0, looked.3.1)))
+    (old.reads + (new.at - old.at), (omega (arith, on.0, scanned.0), omega (arith, on.1, scanned.0, scanned.2)), (omega (arith, scanned.0, scanned.3.0), omega (arith, few, scanned.0, scanned.3.1)))
 
 -- what was peeked is passed
 pub peeked_taken : (text : Text) (least most len : ℕ) (old new : Reader) → HasPeeked text least most old → len ≤ least → most ≤ 10 * len → IsPassedBy (old.at + len) old new × (new.stage ≡ stages.Onward) → HasRead text new
@@ -114,7 +114,7 @@ found_few text reader word run it lexemes fault ahead is whole = go it is
 
 -- the opener of a literal that isn't plain, and the run after it
 pub opened_found : (old new : Reader) (it : LiteralKind) (is_raw : Bool) (quote : Quote) (len run : ℕ) → it ≢ OfFString → new.text ≡ old.text → HasPeeked old.text.now len (5 * len - 2) old
-    → IsWordHere new.text.now new (record { class = class.Opener it is_raw quote; len = len }) → IsRun (single_literal it is_raw quote) (drop len (drop new.at new.text.now)) run × HasLookedHere run (6 * run + 3) old new
+    → IsWordHere new.text.now new (record { class = class.Opener it is_raw quote; len = len }) → IsRun (single_literal it is_raw quote) (drop len (drop new.at new.text.now)) run × HasScannedHere run (6 * run + 3) old new
     → IsFound old.text.now new (record { class = class.Opener it is_raw quote; len = len }) run found.Literal
 opened_found old new it is_raw quote len run other same peeked here known = search (rules, peeked_more)
 

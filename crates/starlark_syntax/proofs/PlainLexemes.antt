@@ -15,7 +15,7 @@ use Rattle.starlark_reader.specs.Inner.Reader.{IsAhead, IsAheadAfter, IsAheadPas
 use Rattle.starlark_reader.specs.declared.reader.Reader.{Reader}
 use Rattle.starlark_reader.specs.declared.reader.Stage.TheVariants as stages
 use Rattle.starlark_reader.proofs.TakenPieces.PieceTaken.{left_onward}
-use Rattle.starlark_syntax.specs.Inner.LexerStates.{HasAnswered, HasPassed, HasPassedNext, HasAdvanced, HasTaken, IsLexing, IsOfMark, is_out_of_memory, left_in, lexer_view, passed_as, passed_count, plain_fstring_text, plain_mark, plain_string}
+use Rattle.starlark_syntax.specs.Inner.LexerStates.{HasAnswered, HasTold, HasToldNext, HasAdvanced, HasTaken, IsLexing, IsOfMark, is_out_of_memory, left_in, lexer_view, told_as, told_count, plain_fstring_text, plain_mark, plain_string}
 use Rattle.starlark_syntax.specs.Lexer.{LexerView, most_reads}
 use Rattle.starlark_syntax.specs.PlainLexemes.{IsPlainIn, plain_token, plain_value, plain_view, token_of}
 use Rattle.starlark_syntax.specs.declared.error.kinds.ErrorKind.{ErrorKind}
@@ -71,7 +71,7 @@ pub past_something : (text : Text) (lexeme : Spanned TokenView) (reader : Reader
 past_something text lexeme reader lexemes fault past none whole = let both : lexeme ∷ past.0 ≡ [] = sym past.1 ∙ none in cc
 
 -- what is made of a plain lexeme is an answer
-pub taken_answer : (old mid : LexerState) (plain : PlainLexeme) (answer : Option (Result (ℕ × Token × ℕ) (OrMemory (Diagnosed ErrorKind)))) (new : LexerState) → HasPassed old (Ok (Some plain)) mid → mid.reader.text.now ≡ old.reader.text.now → HasTaken mid plain answer new → HasAnswered old answer new
+pub taken_answer : (old mid : LexerState) (plain : PlainLexeme) (answer : Option (Result (ℕ × Token × ℕ) (OrMemory (Diagnosed ErrorKind)))) (new : LexerState) → HasTold old (Ok (Some plain)) mid → mid.reader.text.now ≡ old.reader.text.now → HasTaken mid plain answer new → HasAnswered old answer new
 taken_answer old mid plain None new passed text taken = absurd taken
 taken_answer old mid plain (Some (Ok lexeme)) new passed text taken =
     subst (λ (state : LexerState). HasAnswered old (Some (Ok lexeme)) state) (sym taken.1)
@@ -86,10 +86,10 @@ taken_lexing mid plain (Some (Err (Error exception))) new lexing taken = absurd 
 taken_lexing mid plain (Some (Err Memory)) new lexing taken = subst IsLexing (sym taken) (lexing.0, (λ on. cc), tt, (λ on. cc))
 
 -- what the fast path tells of a state, it tells of one with the same text and number of items
-pub passed_same : (first now : LexerState) (found : Result (Option PlainLexeme) AllocError) (new : LexerState) → IsSameText first now → HasPassed now found new → HasPassed first found new
-passed_same first now (Ok (Some plain)) new same is = rw (same.0, same.1) at is
-passed_same first now (Ok None) new same is = is
-passed_same first now (Err error) new same is = rw (same.0, same.1) at is
+pub told_same : (first now : LexerState) (found : Result (Option PlainLexeme) AllocError) (new : LexerState) → IsSameText first now → HasTold now found new → HasTold first found new
+told_same first now (Ok (Some plain)) new same is = rw (same.0, same.1) at is
+told_same first now (Ok None) new same is = is
+told_same first now (Err error) new same is = rw (same.0, same.1) at is
 
 -- a name was passed, where the text and the number of items are those before
 pub name_passed : (first state : LexerState) (mid new : Reader) (len : ℕ) → IsSameText first state → length state.reader.text.now < 2 ^ 32 → mid.stage ≡ stages.Onward → new.stage ≡ stages.Onward → IsAhead state.reader.text.now mid mid.stage (left_in state) (outcome state.reader.text.now).fault
@@ -136,7 +136,7 @@ symbol_shown text lexeme plain token places =
 
 -- a lexeme without a value was passed
 pub mark_told : (state : LexerState) (it : PlainKind) (lexeme : ℕ × Token × ℕ) (new : LexerState) → length state.reader.text.now < 2 ^ 32 → state.yielded_count ≤ length (outcome state.reader.text.now).lexemes → IsUtf8 state.reader.text.now
-    → ((value : Text) → token_view lexeme.1 ≡ Whole (token_of it value)) → HasAnswered state (Some (Ok lexeme)) new → HasPassed state (Ok (Some (plain_mark it lexeme.0 lexeme.2))) new
+    → ((value : Text) → token_view lexeme.1 ≡ Whole (token_of it value)) → HasAnswered state (Some (Ok lexeme)) new → HasTold state (Ok (Some (plain_mark it lexeme.0 lexeme.2))) new
 mark_told state it lexeme new short few utf8 token is =
     let plain = plain_mark it lexeme.0 lexeme.2 in (
       symbol_inside state lexeme new plain short few utf8 is refl,
@@ -145,7 +145,7 @@ mark_told state it lexeme new short few utf8 token is =
 
 -- a pending token was passed
 pub mark_passed : (state : LexerState) (it : Advance) (lexeme : ℕ × Token × ℕ) (new : LexerState) → length state.reader.text.now < 2 ^ 32 → state.yielded_count ≤ length (outcome state.reader.text.now).lexemes → IsUtf8 state.reader.text.now
-    → IsOfMark it (token_view lexeme.1) → HasAnswered state (Some (Ok lexeme)) new → HasPassed state (passed_as it lexeme.0 lexeme.2) new
+    → IsOfMark it (token_view lexeme.1) → HasAnswered state (Some (Ok lexeme)) new → HasTold state (told_as it lexeme.0 lexeme.2) new
 mark_passed state advance.Indent lexeme new short few utf8 token is = mark_told state kind.Indent lexeme new short few utf8 (λ value. token) is
 mark_passed state advance.Dedent lexeme new short few utf8 token is = mark_told state kind.Dedent lexeme new short few utf8 (λ value. token) is
 mark_passed state advance.FStringExprStart lexeme new short few utf8 token is = mark_told state kind.FStringExprStart lexeme new short few utf8 (λ value. token) is
@@ -153,23 +153,23 @@ mark_passed state advance.FStringEnd lexeme new short few utf8 token is = mark_t
 mark_passed state it lexeme new short few utf8 token is = absurd token
 
 -- it is one lexeme
-pub mark_counted : (it : Advance) (view : TokenView) (begin end : ℕ) → IsOfMark it view → passed_count (passed_as it begin end) ≡ 1
+pub mark_counted : (it : Advance) (view : TokenView) (begin end : ℕ) → IsOfMark it view → told_count (told_as it begin end) ≡ 1
 mark_counted advance.Indent view begin end token = refl
 mark_counted advance.Dedent view begin end token = refl
 mark_counted advance.FStringExprStart view begin end token = refl
 mark_counted advance.FStringEnd view begin end token = refl
 mark_counted it view begin end token = absurd token
 
-pub advance_in_memory : (it : Advance) (view : TokenView) (begin end : ℕ) → IsOfMark it view → is_out_of_memory (passed_as it begin end) ≡ false
+pub advance_in_memory : (it : Advance) (view : TokenView) (begin end : ℕ) → IsOfMark it view → is_out_of_memory (told_as it begin end) ≡ false
 advance_in_memory advance.OutOfMemory view begin end token = absurd token
 advance_in_memory it view begin end token = refl
 
 -- what was passed is a lexeme, or has none
-pub lexeme_advances : (old : LexerState) (it : Advance) (new : LexerState) → it ≢ advance.Layout → HasPassedNext old (passed_as it new.passed_begin new.passed_end) new → HasAdvanced old it new
+pub lexeme_advances : (old : LexerState) (it : Advance) (new : LexerState) → it ≢ advance.Layout → HasToldNext old (told_as it new.lexeme_begin new.lexeme_end) new → HasAdvanced old it new
 lexeme_advances old advance.Layout new other is = absurd (other refl)
 lexeme_advances old it new other is = is
 
-pub advances_lexeme : (old : LexerState) (it : Advance) (new : LexerState) → it ≢ advance.Layout → HasAdvanced old it new → HasPassedNext old (passed_as it new.passed_begin new.passed_end) new
+pub advances_lexeme : (old : LexerState) (it : Advance) (new : LexerState) → it ≢ advance.Layout → HasAdvanced old it new → HasToldNext old (told_as it new.lexeme_begin new.lexeme_end) new
 advances_lexeme old advance.Layout new other is = absurd (other refl)
 advances_lexeme old it new other is = is
 
@@ -196,13 +196,13 @@ some_going state found new some ended = by state.has_ended refl
     by false e = e
 
 -- an ended state passes nothing
-pub passed_going : (old : LexerState) (found : Result (Option PlainLexeme) AllocError) (new : LexerState) → (found ≡ (Ok None) → ⊥) → (old.has_ended ≡ true → (found ≡ (Ok None)) × (new ≡ old)) → old.has_ended ≡ false
-passed_going old found new other ended = by old.has_ended refl
+pub told_going : (old : LexerState) (found : Result (Option PlainLexeme) AllocError) (new : LexerState) → (found ≡ (Ok None) → ⊥) → (old.has_ended ≡ true → (found ≡ (Ok None)) × (new ≡ old)) → old.has_ended ≡ false
+told_going old found new other ended = by old.has_ended refl
   where
     by : (b : Bool) → old.has_ended ≡ b → old.has_ended ≡ false
     by true is = absurd (other (ended is).0)
     by false is = is
 
 -- what was read to pass a lexeme
-pub passed_reads : (old new : LexerState) → IsLexing new → old.has_ended ≡ false → new.reader.text.now ≡ old.reader.text.now → new.has_ended ≡ (old.has_ended || false) → new.reader.reads ≤ most_reads old.reader.text.now
-passed_reads old new lexing going text goes = subst (λ (t : Text). new.reader.reads ≤ most_reads t) text (lexing_read new lexing (goes ∙ ap (λ b. b || false) going))
+pub told_reads : (old new : LexerState) → IsLexing new → old.has_ended ≡ false → new.reader.text.now ≡ old.reader.text.now → new.has_ended ≡ (old.has_ended || false) → new.reader.reads ≤ most_reads old.reader.text.now
+told_reads old new lexing going text goes = subst (λ (t : Text). new.reader.reads ≤ most_reads t) text (lexing_read new lexing (goes ∙ ap (λ b. b || false) going))

@@ -1,6 +1,6 @@
 -- Definitions that only contracts of inner functions, and proofs, cite.
 pub mod LexerStates
-pub mod Looked
+pub mod FoundKinds
 pub mod LexedTexts
 pub mod Passed
 pub mod RawItems

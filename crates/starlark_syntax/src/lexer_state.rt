@@ -14,7 +14,7 @@ ghost use Rattle.starlark_grammar.specs.Words.{Text};
 ghost use Rattle.starlark_grammar.specs.Reading.{History};
 ghost use Rattle.starlark_reader.specs.Inner.MarginCuts.{IsCutBefore};
 ghost use Rattle.starlark_reader.specs.Inner.Reader.{IsAtCode, IsAtEnd, IsReached, IsStateAfter, has_read_none};
-ghost use Rattle.starlark_syntax.specs.Inner.LexerStates.{HasAdvanced, HasAnswered, HasFound, HasGivenNext, HasGoneOn, HasLooked, HasPassed, HasPassedNext, HasTaken, HasTakenLast, HasThrown, IsAtFault, IsAtOpener, IsAtWord, IsBegun, IsReadNext, IsUnnamed, IsLexing, IsLexingIn, IsOfMark, IsTakenNext, has_fault, is_out_of_memory, left_in, passed_as, passed_count, plain_string, taken_count, thrown_count, view_of};
+ghost use Rattle.starlark_syntax.specs.Inner.LexerStates.{HasAdvanced, HasAnswered, HasFound, HasGivenNext, HasGoneOn, KnowsNext, HasTold, HasToldNext, HasTaken, HasTakenLast, HasThrown, IsAtFault, IsAtOpener, IsAtWord, IsBegun, IsReadNext, IsUnnamed, IsLexing, IsLexingIn, IsOfMark, IsTakenNext, has_fault, is_out_of_memory, left_in, told_as, told_count, plain_string, taken_count, thrown_count, view_of};
 ghost use Rattle.starlark_syntax.specs.Lexer.{is_ended_by, most_reads, yielded_by};
 ghost use Rattle.starlark_syntax.specs.Inner.RawItems.{OffsetsHold};
 ghost use Rattle.starlark_syntax.specs.PlainLexemes.{IsPlainIn};
@@ -22,7 +22,7 @@ ghost use Rattle.starlark_token.specs.Lexemes.{IsWithin};
 ghost use Rattle.starlark_reader.specs.Inner.Pending.{IsIdle, IsMark, IsPending};
 ghost use Rattle.starlark_reader.specs.Inner.ReadBounds.{HasRead};
 ghost use Rattle.starlark_token.specs.TokenViews.{token_view};
-ghost use Rattle.starlark_syntax.specs.Inner.Looked.{IsFoundInCode, IsFoundOut};
+ghost use Rattle.starlark_syntax.specs.Inner.FoundKinds.{IsFoundInCode, IsFoundOut};
 ghost use Rattle.starlark_reader.specs.Inner.Lookaheads.{IsFound};
 ghost use Rattle.starlark_reader.specs.declared.reader.Stage.TheVariants as Stage;
 ghost use Rattle.starlark_grammar.specs.declared.class.LiteralKind.TheVariants as kind;
@@ -43,7 +43,7 @@ use std::alloc::{AllocError, Global};
 /// The state of lexing a text, which all lexers and `LexedText` share.
 ///
 /// It yields the lexemes of the text one by one, and then its fault. Any error ends it.
-/// `passed_begin` and `passed_end` are the offsets of the lexeme that `advance_outside_code` or
+/// `lexeme_begin` and `lexeme_end` are the offsets of the lexeme that `advance_outside_code` or
 /// `look_further` passed last.
 // In this order for the reason that `Reader` has one.
 #[derive(Drop)]
@@ -59,8 +59,8 @@ pub struct LexerState<'a> {
     /// Whether an error has ended the lexer.
     pub(crate) has_ended: bool,
     pub(crate) reader: Reader<'a>,
-    passed_begin: usize,
-    passed_end: usize,
+    lexeme_begin: usize,
+    lexeme_end: usize,
     alloc: Global,
 }
 
@@ -102,7 +102,7 @@ impl Advance {
     #[inline]
     fn lexeme(self, begin: usize, end: usize) -> Result<Option<PlainLexeme>, AllocError>
         requires { self ≡ Advance.Comment → begin < end }
-        ensures { result ≡ passed_as self begin end }
+        ensures { result ≡ told_as self begin end }
     {
         let kind = match self {
             Advance::Nothing | Advance::Layout => return Ok(None),
@@ -165,8 +165,8 @@ impl<'a> LexerState<'a> {
                 len: 0,
             },
             run: 0,
-            passed_begin: 0,
-            passed_end: 0,
+            lexeme_begin: 0,
+            lexeme_end: 0,
         }
     }
 
@@ -282,7 +282,7 @@ impl<'a> LexerState<'a> {
     fn next_of_all(&mut self) -> Option<Lexeme>
         requires lexing { IsLexing self.old }
         requires going { self.old.has_ended ≡ false }
-        requires looked { HasLooked self.old }
+        requires next { KnowsNext self.old }
         ensures { HasGivenNext self.old result self.new }
     {
         let read = match self.found {
@@ -310,8 +310,8 @@ impl<'a> LexerState<'a> {
         let reader = &mut self.reader;
         let (begin, end) = reader.pending.pass_comment(&mut reader.reads, reader.text);
         self.yielded_count += 1;
-        self.passed_begin = begin;
-        self.passed_end = end;
+        self.lexeme_begin = begin;
+        self.lexeme_end = end;
         self.found = found_after(&self.reader);
         Advance::Comment
     }
@@ -331,8 +331,8 @@ impl<'a> LexerState<'a> {
             return Advance::Nothing;
         };
         self.yielded_count += 1;
-        self.passed_begin = begin;
-        self.passed_end = end;
+        self.lexeme_begin = begin;
+        self.lexeme_end = end;
         self.found = found_after(&self.reader);
         Advance::of_mark(&token)
     }
@@ -363,27 +363,27 @@ impl<'a> LexerState<'a> {
         self.yielded_count += 1;
         if found.len == 0 {
             let (begin, token, end) = self.reader.take_chunk_end(found);
-            self.passed_begin = begin;
-            self.passed_end = end;
+            self.lexeme_begin = begin;
+            self.lexeme_end = end;
             self.found = found_after(&self.reader);
             return Advance::of_mark(&token);
         }
-        self.passed_begin = self.reader.at;
-        self.passed_end = self.passed_begin + found.len;
+        self.lexeme_begin = self.reader.at;
+        self.lexeme_end = self.lexeme_begin + found.len;
         self.reader.pass_chunk(found);
         self.found = Found::All;
         Advance::FStringText
     }
 
     /// Passes what comes next where lookahead in code is spent: a pending lexeme, the plain text of an
-    /// f-string, or the first margin. Returns what was passed; its offsets are `passed_begin` and
-    /// `passed_end`.
+    /// f-string, or the first margin. Returns what was passed; its offsets are `lexeme_begin` and
+    /// `lexeme_end`.
     // A kind in a register: a result in memory costs each lexeme.
     #[inline(never)]
     fn advance_outside_code(&mut self) -> Advance
         requires lexing { IsLexing self.old }
         requires going { self.old.has_ended ≡ false }
-        requires looked { self.old.found ≢ Found.Nothing }
+        requires found { self.old.found ≢ Found.Nothing }
         ensures { HasAdvanced self.old result self.new }
     {
         if !matches!(self.found, Found::All) {
@@ -418,7 +418,7 @@ impl<'a> LexerState<'a> {
     #[inline(always)]
     fn pass_name(&mut self, len: usize) -> Result<Option<PlainLexeme>, AllocError>
         requires { IsAtWord self.old (record { class = Class.Identifier; len = len }) }
-        ensures { HasPassedNext self.old result self.new }
+        ensures { HasToldNext self.old result self.new }
     {
         let begin = self.reader.at;
         self.yielded_count += 1;
@@ -436,7 +436,7 @@ impl<'a> LexerState<'a> {
         len: usize,
     ) -> Result<Option<PlainLexeme>, AllocError>
         requires { IsAtWord self.old (record { class = Class.Fixed terminal; len = len }) }
-        ensures { HasPassedNext self.old result self.new }
+        ensures { HasToldNext self.old result self.new }
     {
         self.yielded_count += 1;
         let lexeme = self.reader.take_terminal(terminal, len);
@@ -455,7 +455,7 @@ impl<'a> LexerState<'a> {
         len: usize,
     ) -> Result<Option<PlainLexeme>, AllocError>
         requires { IsAtOpener self.old is_raw quote len }
-        ensures { HasPassedNext self.old result self.new }
+        ensures { HasToldNext self.old result self.new }
     {
         let begin = self.reader.at;
         match self
@@ -507,9 +507,9 @@ impl<'a> LexerState<'a> {
             }
             Class::Comment => {
                 self.yielded_count += 1;
-                self.passed_begin = self.reader.at;
+                self.lexeme_begin = self.reader.at;
                 self.reader.step_over(word.len, Before::Other);
-                self.passed_end = self.reader.at;
+                self.lexeme_end = self.reader.at;
                 Advance::Comment
             }
             _ => {
@@ -527,9 +527,9 @@ impl<'a> LexerState<'a> {
     pub(crate) fn next_plain(&mut self) -> Result<Option<PlainLexeme>, AllocError>
         requires { IsLexing self.old }
         ensures ended { self.old.has_ended ≡ true → (result ≡ Ok None) × (self.new ≡ self.old) }
-        ensures passed { self.old.has_ended ≡ false → HasPassed self.old result self.new }
+        ensures passed { self.old.has_ended ≡ false → HasTold self.old result self.new }
         ensures lexing { IsLexing self.new }
-        ensures after { view_of self.new ≡ record (view_of self.old) { yielded_count = self.old.yielded_count + passed_count result; has_ended = self.old.has_ended || is_out_of_memory result; reads = self.new.reader.reads } }
+        ensures after { view_of self.new ≡ record (view_of self.old) { yielded_count = self.old.yielded_count + told_count result; has_ended = self.old.has_ended || is_out_of_memory result; reads = self.new.reader.reads } }
     {
         loop {
             if !self.found.is_nothing() {
@@ -538,13 +538,13 @@ impl<'a> LexerState<'a> {
                 }
                 match self.advance_outside_code() {
                     Advance::Layout => continue,
-                    advance => return advance.lexeme(self.passed_begin, self.passed_end),
+                    advance => return advance.lexeme(self.lexeme_begin, self.lexeme_end),
                 }
             }
             let Some(Word { class, len }) = self.reader.common_word() else {
                 match self.look_further() {
                     Advance::Layout => continue,
-                    advance => return advance.lexeme(self.passed_begin, self.passed_end),
+                    advance => return advance.lexeme(self.lexeme_begin, self.lexeme_end),
                 }
             };
             match class {
@@ -609,7 +609,7 @@ impl<'a> LexerState<'a> {
     #[inline(always)]
     fn next_slowly(&mut self) -> Option<Lexeme>
         requires lexing { IsLexing self.old }
-        requires looked { self.old.has_ended ≡ false → HasLooked self.old }
+        requires next { self.old.has_ended ≡ false → KnowsNext self.old }
         ensures ended { self.old.has_ended ≡ true → (result ≡ None) × (self.new ≡ self.old) }
         ensures answer { self.old.has_ended ≡ false → HasAnswered self.old result self.new }
         ensures lexing { IsLexing self.new }
@@ -672,8 +672,8 @@ impl<'a> LexerState<'a> {
             run: self.run,
             has_ended: self.has_ended,
             reader: self.reader.over(text),
-            passed_begin: self.passed_begin,
-            passed_end: self.passed_end,
+            lexeme_begin: self.lexeme_begin,
+            lexeme_end: self.lexeme_end,
             alloc: self.alloc,
         }
     }

@@ -17,7 +17,7 @@ use Rattle.starlark_reader.specs.declared.nesting.Nesting.{Nesting}
 use Rattle.starlark_token.specs.declared.tokens.Token.{Token}
 use Rattle.starlark_reader.proofs.OpenBrackets.OpenFStrings.{one_kept}
 use Rattle.starlark_reader.proofs.TakenPieces.Here.{shown_at}
-use Rattle.starlark_reader.proofs.TakenMargins.Waiting.{Hands, HandsPast, hands_one}
+use Rattle.starlark_reader.proofs.TakenMargins.PendingLexemes.{Hands, HandsPast, hands_one}
 use Rattle.starlark_reader.specs.Inner.Reader.{chunk_lexemes}
 
 -- an f-string text, by its value, and what ends it, as a piece

@@ -58,7 +58,7 @@ use Rattle.starlark_reader.specs.declared.reader.Stage.TheVariants as stage
 use Rattle.starlark_reader.proofs.TakenPieces.CodePlaces.{bang_at, in_text, word_at, word_class, word_cut, word_len, word_some}
 use Rattle.starlark_reader.proofs.TakenPieces.Here.{fault_here, piece_here, shown_own}
 use Rattle.starlark_reader.proofs.TakenPieces.Taken.{failed, none_before, past_ahead, read_ahead, took_past}
-use Rattle.starlark_reader.proofs.TakenMargins.Waiting.{HandsPast, hands_none, passes_one}
+use Rattle.starlark_reader.proofs.TakenMargins.PendingLexemes.{HandsPast, hands_none, passes_one}
 
 -- whether the piece right before is a skipped one
 abbrev pub is_gap_sort : sort.Before → Bool

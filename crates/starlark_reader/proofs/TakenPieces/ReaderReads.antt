@@ -19,7 +19,7 @@ use Rattle.starlark_reader.specs.Inner.Lookaheads.{IsTextRun}
 use Rattle.starlark_reader.specs.Inner.Nesting.{Represents}
 use Rattle.starlark_reader.specs.Inner.Pending.{IsIdle, owed}
 use Rattle.starlark_reader.specs.Inner.StepViews.{IsStep, ReadStep}
-use Rattle.starlark_reader.specs.Inner.ReadBounds.{AreStepReads, HasLookedHere, HasRead, HasReadAt, IsMarginRead, IsPassed, IsPassedBy, LeavesReads}
+use Rattle.starlark_reader.specs.Inner.ReadBounds.{AreStepReads, HasRead, HasReadAt, HasScannedHere, IsMarginRead, IsPassed, IsPassedBy, LeavesReads}
 use Rattle.starlark_reader.proofs.TakenPieces.Here.{fault_here}
 use Rattle.starlark_reader.proofs.TakenPieces.RepairReads.{moved_repair}
 use Rattle.starlark_reader.proofs.TakenPieces.SearchReads.{fault_restart, step_search}
@@ -67,14 +67,14 @@ line_reads text len before old new inside has read some margin = go new.stage ma
 -- the run that was peeked after an opener, …
 pub opened_run : (rest : Text) (reads : ℕ) (reader : Reader) (kind : LiteralKind) (is_raw : Bool) (quote : Quote) (len : ℕ) (found : Result ℕ ℕ) → rest ≡ drop len (drop reader.at reader.text.now)
     → IfErr found (λ run. IsRun (single_literal kind is_raw quote) rest run × AreReads run (6 * run + 3) reader.reads reads)
-    → IfErr found (λ run. IsRun (single_literal kind is_raw quote) (drop len (drop reader.at reader.text.now)) run × HasLookedHere run (6 * run + 3) reader (record reader { reads = reads }))
+    → IfErr found (λ run. IsRun (single_literal kind is_raw quote) (drop len (drop reader.at reader.text.now)) run × HasScannedHere run (6 * run + 3) reader (record reader { reads = reads }))
 opened_run rest reads reader kind is_raw quote len (Ok value) e other = tt
 opened_run rest reads reader kind is_raw quote len (Err run) e other = (subst (λ (t : Text). IsRun (single_literal kind is_raw quote) t run) e other.0, (refl, refl, omega arith, other.1))
 
 -- … and in the text of an f-string
 pub text_run : (text rest : Text) (reads : ℕ) (reader : Reader) (opening : code.Opening) (found : Result Chunk ℕ) → rest ≡ drop reader.at text → reader.stage ≡ stages.Onward → IsIdle text reader.pending
     → ((tokens : List Token) → Represents tokens reader.nesting → mode_after tokens ≡ InText (opening_view opening)) → IfErr found (λ run. IsRun (fstring_literal (opening_view opening)) rest run × AreReads run (6 * run + 4) reader.reads reads)
-    → IfErr found (λ run. IsTextRun text run (record reader { reads = reads }) × HasLookedHere run (6 * run + 4) reader (record reader { reads = reads }))
+    → IfErr found (λ run. IsTextRun text run (record reader { reads = reads }) × HasScannedHere run (6 * run + 4) reader (record reader { reads = reads }))
 text_run text rest reads reader opening (Ok value) e onward idle inside other = tt
 text_run text rest reads reader opening (Err run) e onward idle inside other =
     (record { opening = opening; stage = onward; idle = idle; inside = inside; run = subst (λ (t : Text). IsRun (fstring_literal (opening_view opening)) t run) e other.0 }, (refl, refl, omega arith, other.1))

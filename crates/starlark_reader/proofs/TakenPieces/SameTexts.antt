@@ -37,8 +37,8 @@ passed_here old lexeme new onward idle read = λ lexemes fault ahead. onward_pas
 pub sound_after : (old new : Reader) → new.text ≡ old.text → IsSound old → KeepsAhead old new → IsSound new
 sound_after old new same sound keeps = search rules
 
-pub looked_sound : (reader : Reader) (reads : ℕ) → IsSound reader → IsSound (record reader { reads = reads })
-looked_sound reader reads sound = sound_after reader (record reader { reads = reads }) refl sound (λ lexemes fault ahead. reads_ahead reader.text.now reader reads reader.stage lexemes fault ahead)
+pub scanned_sound : (reader : Reader) (reads : ℕ) → IsSound reader → IsSound (record reader { reads = reads })
+scanned_sound reader reads sound = sound_after reader (record reader { reads = reads }) refl sound (λ lexemes fault ahead. reads_ahead reader.text.now reader reads reader.stage lexemes fault ahead)
 
 module _ (old mid new : Reader) (same : mid.text ≡ old.text) (first : KeepsAhead old mid) where
   pub keeps_twice : KeepsAhead mid new → KeepsAhead old new

@@ -45,7 +45,7 @@ use Rattle.starlark_grammar.proofs.Choices.{either}
 use Rattle.starlark_reader.proofs.TakenPieces.MarginCuts.{cut_of_piece, first_ahead_cut, first_cut, line_ahead_cut, line_cut, none_at_end, none_at_fault, read_first, read_more}
 use Rattle.starlark_grammar.proofs.Joining.KeptPlaces.{IsInMargin}
 use Rattle.starlark_grammar.proofs.Joining.LaidCuts.{AfterComments, First, MarginAt, line_laid}
-use Rattle.starlark_reader.proofs.TakenMargins.Waiting.{Hands, HandsPast, hands_first, hands_later}
+use Rattle.starlark_reader.proofs.TakenMargins.PendingLexemes.{Hands, HandsPast, hands_first, hands_later}
 
 -- a state is always after the first margin of the text
 begun : (text : Text) (history : History) (reader : Reader) → IsStateAfter text history reader → is_nothing history.before ≡ false

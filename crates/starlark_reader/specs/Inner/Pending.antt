@@ -5,7 +5,7 @@ use Rattle.std.specs.Str.{IsCharBoundary}
 use Rattle.starlark_grammar.specs.Words.{Text}
 use Rattle.starlark_grammar.specs.Tokens as grammar
 use Rattle.starlark_grammar.specs.Laws.{AtBoundaries}
-use Rattle.starlark_grammar.specs.Margins.{comment_of, comments_from, is_comment_only, lines}
+use Rattle.starlark_grammar.specs.Margins.{comments_from, is_comment_only, lines}
 use Rattle.starlark_token.specs.Lexemes.{lexeme_view, shown_lexeme}
 use Rattle.starlark_token.specs.TokenViews.{TokenView, Whole}
 use Rattle.starlark_reader.specs.Inner.PieceViews.{text_end}
@@ -58,16 +58,6 @@ pub record IsCommentIn (text : Text) (begin end : ℕ) : Type 0 where
   pub first : IsCharBoundary text begin
   pub value : IsCharBoundary text (begin + 1)
   pub last : IsCharBoundary text end
-
--- the first line from byte `from` to `to` has the length and the comment found, and all after it
--- are comment-only
-pub record IsFirstComment (text : Text) (from to begin end len : ℕ) : Type 0 where
-  pub line : Text
-  pub first : lines_between text from to ≡ line ∷ lines_between text (from + len) to
-  pub whole : length line ≡ len
-  pub comment : comment_lexeme text begin end ≡ shown_lexeme (comment_of from line)
-  pub inside : IsCommentIn text begin end
-  pub remainder : IsComments text (from + len) to
 
 -- a token that is pending after comments: an indent, a dedent, or the end of an f-string text
 abbrev pub IsMark : TokenView → Type 0

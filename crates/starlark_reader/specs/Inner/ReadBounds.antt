@@ -79,13 +79,13 @@ abbrev pub IsTaken : ℕ → Reader → Reader → Type 0
 IsTaken len old new = (0 < len) × IsPassedBy (old.at + len) old new × (new.stage ≡ stage.Onward)
 
 -- the reader peeked with `least` to `most` reads, and one more for each byte that it advanced
-abbrev pub HasLooked : (least most : ℕ) → Reader → Reader → Type 0
-HasLooked least most old new =
+abbrev pub HasScanned : (least most : ℕ) → Reader → Reader → Type 0
+HasScanned least most old new =
     (old.at ≤ new.at) × (new.stage ≡ old.stage) × (owed new.pending ≤ owed old.pending) × AreReads (new.at - old.at + least) (new.at - old.at + most) old.reads new.reads
 
 -- the reader peeked with `least` to `most` reads, and its offset is unchanged
-abbrev pub HasLookedHere : (least most : ℕ) → Reader → Reader → Type 0
-HasLookedHere least most old new = (new.at ≡ old.at) × (new.stage ≡ old.stage) × (owed new.pending ≤ owed old.pending) × AreReads least most old.reads new.reads
+abbrev pub HasScannedHere : (least most : ℕ) → Reader → Reader → Type 0
+HasScannedHere least most old new = (new.at ≡ old.at) × (new.stage ≡ old.stage) × (owed new.pending ≤ owed old.pending) × AreReads least most old.reads new.reads
 
 -- the reader took the start of an f-string, whose opener has `len` bytes, and read the two bytes
 -- after that

@@ -24,7 +24,7 @@ use Rattle.starlark_syntax.specs.Exceptions.{IsException}
 use Rattle.starlark_reader.specs.Inner.Lookaheads.{HasPeeked, IsFound}
 use Rattle.starlark_reader.specs.declared.lookahead.Found.{Found}
 use Rattle.starlark_reader.specs.declared.lookahead.Found.TheVariants as found
-use Rattle.starlark_syntax.specs.Inner.Looked.{GoesOn}
+use Rattle.starlark_syntax.specs.Inner.FoundKinds.{GoesOn}
 use Rattle.starlark_syntax.specs.Lexer.{HasReadToFault, LexerView, is_ended_by, most_reads, yielded_by}
 use Rattle.starlark_syntax.specs.declared.error.kinds.ErrorKind.{ErrorKind}
 use Rattle.starlark_syntax.specs.PlainLexemes.{IsPlainIn, plain_view}
@@ -175,31 +175,31 @@ pub record IsReadNext {E : Type 0} (state : LexerState) (read : Result (Option (
   pub reads : OnOk read (HasRead state.reader.text.now state.reader)
 
 -- The lexer has looked at what comes next, if something does.
-pub record HasLooked (state : LexerState) : Type 0 where
+pub record KnowsNext (state : LexerState) : Type 0 where
   pub some : state.found ≢ found.Nothing
   pub end : state.found ≡ found.All → IsAtEnd state.reader.text.now state.reader
 
 -- What the fast path tells: the first lexeme that is left, which it passed; or out of memory in the place of an item.
-abbrev pub HasPassed : LexerState → Result (Option PlainLexeme) AllocError → LexerState → Type 0
-HasPassed old (Ok (Some plain)) new = IsPlainIn old.reader.text.now plain × IsAheadPast old.reader.text.now (plain_view old.reader.text.now plain) new.reader (left_in old) (outcome old.reader.text.now).fault
-HasPassed old (Ok None) new = HasLooked new
-HasPassed old (Err error) new = IsSomething (left_in old) (outcome old.reader.text.now).fault
+abbrev pub HasTold : LexerState → Result (Option PlainLexeme) AllocError → LexerState → Type 0
+HasTold old (Ok (Some plain)) new = IsPlainIn old.reader.text.now plain × IsAheadPast old.reader.text.now (plain_view old.reader.text.now plain) new.reader (left_in old) (outcome old.reader.text.now).fault
+HasTold old (Ok None) new = KnowsNext new
+HasTold old (Err error) new = IsSomething (left_in old) (outcome old.reader.text.now).fault
 
 -- how many lexemes the fast path passed
-abbrev pub passed_count : Result (Option PlainLexeme) AllocError → ℕ
-passed_count (Ok (Some plain)) = 1
-passed_count (Ok None) = 0
-passed_count (Err error) = 0
+abbrev pub told_count : Result (Option PlainLexeme) AllocError → ℕ
+told_count (Ok (Some plain)) = 1
+told_count (Ok None) = 0
+told_count (Err error) = 0
 
 abbrev pub is_out_of_memory : Result (Option PlainLexeme) AllocError → Bool
 is_out_of_memory (Err error) = true
 is_out_of_memory other = false
 
 -- The fast path passed what it tells, where no error had ended the lexer.
-pub record HasPassedNext (old : LexerState) (found : Result (Option PlainLexeme) AllocError) (new : LexerState) : Type 0 where
-  pub passed : HasPassed old found new
+pub record HasToldNext (old : LexerState) (found : Result (Option PlainLexeme) AllocError) (new : LexerState) : Type 0 where
+  pub passed : HasTold old found new
   pub lexing : IsLexing new
-  pub after : view_of new ≡ record (view_of old) { yielded_count = old.yielded_count + passed_count found; has_ended = is_out_of_memory found; reads = new.reader.reads }
+  pub after : view_of new ≡ record (view_of old) { yielded_count = old.yielded_count + told_count found; has_ended = is_out_of_memory found; reads = new.reader.reads }
 
 -- the comment between two offsets, whose value is all after its `#`
 abbrev pub plain_comment : (begin end : ℕ) → PlainLexeme
@@ -214,16 +214,16 @@ abbrev pub plain_mark : PlainKind → (begin end : ℕ) → PlainLexeme
 plain_mark it begin end = record { kind = it; begin = begin; end = end; value_begin = end; value_end = end }
 
 -- what the fast path tells of what was passed without lookahead in code, between two offsets
-abbrev pub passed_as : Advance → (begin end : ℕ) → Result (Option PlainLexeme) AllocError
-passed_as advance.Nothing begin end = Ok None
-passed_as advance.Indent begin end = Ok (Some (plain_mark kind.Indent begin end))
-passed_as advance.Dedent begin end = Ok (Some (plain_mark kind.Dedent begin end))
-passed_as advance.FStringText begin end = Ok (Some (plain_fstring_text begin end))
-passed_as advance.FStringExprStart begin end = Ok (Some (plain_mark kind.FStringExprStart begin end))
-passed_as advance.FStringEnd begin end = Ok (Some (plain_mark kind.FStringEnd begin end))
-passed_as advance.Comment begin end = Ok (Some (plain_comment begin end))
-passed_as advance.Layout begin end = Ok None
-passed_as advance.OutOfMemory begin end = Err alloc_error
+abbrev pub told_as : Advance → (begin end : ℕ) → Result (Option PlainLexeme) AllocError
+told_as advance.Nothing begin end = Ok None
+told_as advance.Indent begin end = Ok (Some (plain_mark kind.Indent begin end))
+told_as advance.Dedent begin end = Ok (Some (plain_mark kind.Dedent begin end))
+told_as advance.FStringText begin end = Ok (Some (plain_fstring_text begin end))
+told_as advance.FStringExprStart begin end = Ok (Some (plain_mark kind.FStringExprStart begin end))
+told_as advance.FStringEnd begin end = Ok (Some (plain_mark kind.FStringEnd begin end))
+told_as advance.Comment begin end = Ok (Some (plain_comment begin end))
+told_as advance.Layout begin end = Ok None
+told_as advance.OutOfMemory begin end = Err alloc_error
 
 -- how much is left to pass
 abbrev pub left_to_pass : LexerState → ℕ
@@ -242,7 +242,7 @@ pub record HasGoneOn (old new : LexerState) : Type 0 where
 -- What was passed without lookahead in code: the next lexeme, or what has none.
 abbrev pub HasAdvanced : LexerState → Advance → LexerState → Type 0
 HasAdvanced old advance.Layout new = HasGoneOn old new
-HasAdvanced old it new = HasPassedNext old (passed_as it new.passed_begin new.passed_end) new
+HasAdvanced old it new = HasToldNext old (told_as it new.lexeme_begin new.lexeme_end) new
 
 -- The lexer is at a word in code, which the scanner has found, and has spent no other lookahead.
 pub record IsAtWord (state : LexerState) (word : Word) : Type 0 where

@@ -2,7 +2,7 @@ use Rattle.std.proofs.Common.{ap, ◌∙◌, sym}
 use Rattle.std.proofs.lemmas.Bool.{eqb-true, ltb-false}
 use Rattle.starlark_reader.specs.Inner.Pending.{lexemes_after}
 use Rattle.starlark_reader.specs.declared.pending.AfterComments.TheVariants as remainder
-use Rattle.starlark_reader.proofs.TakenMargins.Waiting.{nothing_left}
+use Rattle.starlark_reader.proofs.TakenMargins.PendingLexemes.{nothing_left}
 use Rattle.starlark_reader.proofs.pending.Pending.is_nothing.Goals as goal
 
 pub returns-in-Dedents : goal.returns-in-Dedents

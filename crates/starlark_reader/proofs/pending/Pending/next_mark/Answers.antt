@@ -1,5 +1,5 @@
 use Rattle.std.proofs.Common.{None, Some, false, refl}
-use Rattle.starlark_reader.proofs.TakenMargins.Waiting.{after_first}
+use Rattle.starlark_reader.proofs.TakenMargins.PendingLexemes.{after_first}
 use Rattle.starlark_reader.proofs.pending.Pending.next_mark.Goals as goal
 
 pub returns-clause-next : goal.returns-clause-next

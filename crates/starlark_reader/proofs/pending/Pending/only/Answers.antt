@@ -1,4 +1,4 @@
-use Rattle.starlark_reader.proofs.TakenMargins.Waiting.{only_after}
+use Rattle.starlark_reader.proofs.TakenMargins.PendingLexemes.{only_after}
 use Rattle.starlark_reader.proofs.pending.Pending.only.Goals as goal
 
 pub returns : goal.returns

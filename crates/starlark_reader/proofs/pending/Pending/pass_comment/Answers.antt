@@ -9,8 +9,8 @@ use Rattle.starlark_grammar.specs.Margins.{begins_comment, blanks_len, comment_p
 use Rattle.starlark_grammar.specs.Words.{Text}
 use Rattle.starlark_reader.proofs.TakenMargins.MarginLines.{begins_here, comment_some, feed_measured, feed_value, line_cut}
 use Rattle.starlark_reader.proofs.TakenMargins.Pending.{comment_begin, comment_found, comment_value, part_end, IsMeasured, measured}
-use Rattle.starlark_reader.specs.Inner.Pending.{IsComments, IsFirstComment}
-use Rattle.starlark_reader.proofs.TakenMargins.Waiting.{comment_first}
+use Rattle.starlark_reader.specs.Inner.Pending.{IsComments}
+use Rattle.starlark_reader.proofs.TakenMargins.PendingLexemes.{IsFirstComment, comment_first}
 use Rattle.starlark_reader.proofs.pending.Pending.pass_comment.Goals as goal
 use Rattle.starlark_reader.proofs.pending.Pending.pass_comment.Goals.{After-min, then-lines-feed-eq13, else-lines-feed-eq13}
 

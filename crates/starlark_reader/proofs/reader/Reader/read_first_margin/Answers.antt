@@ -5,7 +5,7 @@ use Rattle.starlark_reader.specs.declared.reader.Stage.{Stage}
 use Rattle.starlark_reader.specs.Inner.ReadBounds.{HasReadAt}
 use Rattle.starlark_reader.specs.Inner.Reader.{IsAhead}
 use Rattle.starlark_reader.proofs.TakenPieces.NextLexeme.{begin_something}
-use Rattle.starlark_reader.proofs.TakenMargins.Waiting.{after_error}
+use Rattle.starlark_reader.proofs.TakenMargins.PendingLexemes.{after_error}
 use Rattle.starlark_reader.specs.Inner.MarginLines.{IsOfMargin}
 use Rattle.starlark_reader.specs.Inner.Pending.{owed}
 use Rattle.starlark_reader.proofs.TakenPieces.MarginReads.{first_refused_reads}

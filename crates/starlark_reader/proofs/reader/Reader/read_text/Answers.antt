@@ -17,7 +17,7 @@ use Rattle.starlark_grammar.specs.Words.{Text}
 use Rattle.starlark_token.specs.TokenViews.{TokenView, token_view}
 use Rattle.starlark_reader.proofs.TakenPieces.ChunksTaken.{chunk_piece, chunk_some}
 use Rattle.starlark_reader.proofs.TakenPieces.Here.{piece_here}
-use Rattle.starlark_reader.proofs.TakenMargins.Waiting.{after_error}
+use Rattle.starlark_reader.proofs.TakenMargins.PendingLexemes.{after_error}
 use Rattle.starlark_reader.proofs.TakenPieces.NextLexeme.{onward_something}
 use Rattle.starlark_reader.proofs.TakenPieces.PieceReads.{chunk_reads}
 use Rattle.starlark_reader.proofs.TakenPieces.ReaderReads.{state_reads, step_reads}

@@ -11,7 +11,7 @@ use Rattle.starlark_reader.specs.Inner.ReadBounds.{AreStepReads, HasRead}
 use Rattle.starlark_reader.specs.Inner.Reader.{IsStateAfter, step_here}
 use Rattle.starlark_reader.specs.Inner.StepViews.{IsStep, ReadStep}
 use Rattle.starlark_reader.specs.Inner.StepViews as step
-use Rattle.starlark_reader.proofs.TakenMargins.Waiting.{after_error}
+use Rattle.starlark_reader.proofs.TakenMargins.PendingLexemes.{after_error}
 use Rattle.starlark_reader.proofs.TakenPieces.NextLexeme.{onward_something}
 use Rattle.starlark_reader.proofs.TakenPieces.PieceReads.{none_reads}
 use Rattle.starlark_reader.proofs.TakenPieces.ReaderReads.{state_reads, step_reads}
@@ -89,12 +89,12 @@ returns-clause-reads c = λ before has read.
     let text = mid.text.now in
     let rest = drop mid.at text in
     let left = state_here mid c.bang_stands.ensures.sound c.bang_stands.ensures.code.stage in
-    let looked = c.bang_stands.ensures.lookahead in
+    let scanned = c.bang_stands.ensures.lookahead in
     let after = c.character_len-end.new.self in
     let is = is_wrong at left.0 left.1 in
     let end = c.character_len-end.result in
     let counted : AreStepReads 0 1 0 0 (wrong at) mid.reads after = search rules in
-    let reads = none_reads rest (wrong at) before old.reads after (some at) read (omega (arith, looked.3.0, counted.0), omega (arith, looked.3.1, counted.1)) in
-    let leaves = none_leave 3 rest (wrong at) before old.reads after (omega (arith, read.1)) (character_leaves rest end (errors.InvalidInput c.in_ok-from_str.field-0) old.reads mid.reads after (omega (arith, character_some rest (some at), c.character_len-end.ensures.whole, ap (λ t. length (first_character t)) c.range_from-rest.ensures.value)) looked.3 refl counted) in
+    let reads = none_reads rest (wrong at) before old.reads after (some at) read (omega (arith, scanned.3.0, counted.0), omega (arith, scanned.3.1, counted.1)) in
+    let leaves = none_leave 3 rest (wrong at) before old.reads after (omega (arith, read.1)) (character_leaves rest end (errors.InvalidInput c.in_ok-from_str.field-0) old.reads mid.reads after (omega (arith, character_some rest (some at), c.character_len-end.ensures.whole, ap (λ t. length (first_character t)) c.range_from-rest.ensures.value)) scanned.3 refl counted) in
     subst (λ t. HasRead t c.refuse.new.self) (ap (λ t. t.now) c.bang_stands.ensures.text)
-    (step_reads text before left.0 (wrong at) (record mid { reads = after }) c.refuse.new.self (state_reads text left.0 mid after left.1) is (omega (arith, has.0, looked.0), omega (arith, has.1, looked.0, looked.2)) reads leaves (rw c.refuse.ensures ((refl, refl, omega arith), refl)))
+    (step_reads text before left.0 (wrong at) (record mid { reads = after }) c.refuse.new.self (state_reads text left.0 mid after left.1) is (omega (arith, has.0, scanned.0), omega (arith, has.1, scanned.0, scanned.2)) reads leaves (rw c.refuse.ensures ((refl, refl, omega arith), refl)))

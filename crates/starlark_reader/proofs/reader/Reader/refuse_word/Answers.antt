@@ -17,7 +17,7 @@ use Rattle.starlark_reader.specs.Inner.ReadBounds.{AreWordReads, LeavesReads, is
 use Rattle.starlark_reader.specs.Inner.Reader.{IsStateAfter, step_here}
 use Rattle.starlark_reader.specs.Inner.StepViews.{IsFaultWord, IsStep}
 use Rattle.starlark_reader.proofs.NextLines.{tabs_line}
-use Rattle.starlark_reader.proofs.TakenMargins.Waiting.{after_error}
+use Rattle.starlark_reader.proofs.TakenMargins.PendingLexemes.{after_error}
 use Rattle.starlark_reader.proofs.TakenPieces.CodePlaces.{word_class, word_cut, word_len, word_some}
 use Rattle.starlark_reader.proofs.TakenPieces.NextLexeme.{onward_something}
 use Rattle.starlark_reader.proofs.TakenPieces.PieceReads.{tabs_reads, word_reads}

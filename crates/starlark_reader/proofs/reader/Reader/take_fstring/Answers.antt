@@ -15,7 +15,7 @@ use Rattle.starlark_token.specs.TokenViews.{fstring_quote_view, token_view}
 use Rattle.starlark_token.specs.declared.fstring_style.FStringQuote.{FStringQuote}
 use Rattle.starlark_token.specs.declared.tokens.Token.TheVariants as token
 use Rattle.starlark_reader.specs.Inner.Reader.{IsStateAfter, step_here}
-use Rattle.starlark_reader.proofs.TakenMargins.Waiting.{after_error, hands_one}
+use Rattle.starlark_reader.proofs.TakenMargins.PendingLexemes.{after_error, hands_one}
 use Rattle.starlark_reader.proofs.TakenPieces.CodePlaces.{word_cut}
 use Rattle.starlark_reader.proofs.TakenPieces.NextLexeme.{onward_something}
 use Rattle.starlark_reader.proofs.TakenPieces.PieceTaken.{fstring_step}

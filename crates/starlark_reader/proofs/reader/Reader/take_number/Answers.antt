@@ -7,7 +7,7 @@ use Rattle.starlark_reader.specs.Inner.StepViews.{number_of}
 use Rattle.starlark_reader.proofs.TakenPieces.CodePlaces.{word_class, word_cut}
 use Rattle.starlark_reader.proofs.TakenPieces.NextLexeme.{onward_something}
 use Rattle.starlark_reader.proofs.TakenPieces.TakenNumbers.{number_changes, number_step}
-use Rattle.starlark_reader.proofs.TakenMargins.Waiting.{after_error}
+use Rattle.starlark_reader.proofs.TakenMargins.PendingLexemes.{after_error}
 use Rattle.starlark_reader.proofs.TakenPieces.SameTexts.{at_step, code_after, taken_here}
 use Rattle.starlark_reader.proofs.reader.Reader.take_number.Goals as goal
 

@@ -7,7 +7,7 @@ use Rattle.starlark_token.specs.TokenViews.{token_view}
 use Rattle.starlark_reader.proofs.TakenPieces.CodePlaces.{word_cut}
 use Rattle.starlark_reader.proofs.TakenPieces.NextLexeme.{onward_something}
 use Rattle.starlark_reader.proofs.TakenPieces.PieceTaken.{bytes_step}
-use Rattle.starlark_reader.proofs.TakenMargins.Waiting.{after_error}
+use Rattle.starlark_reader.proofs.TakenMargins.PendingLexemes.{after_error}
 use Rattle.starlark_reader.proofs.TakenPieces.SameTexts.{at_step, code_after, taken_here}
 use Rattle.starlark_reader.proofs.reader.Reader.take_plain_bytes.Goals as goal
 

@@ -8,7 +8,7 @@ use Rattle.starlark_reader.specs.declared.reader.Reader.{Reader}
 use Rattle.starlark_reader.proofs.TakenPieces.Here.{piece_here, shown_here}
 use Rattle.starlark_reader.proofs.TakenPieces.PieceTaken.{brace_in_code}
 use Rattle.starlark_reader.proofs.TakenPieces.Taken.{took}
-use Rattle.starlark_reader.proofs.TakenMargins.Waiting.{hands_one}
+use Rattle.starlark_reader.proofs.TakenMargins.PendingLexemes.{hands_one}
 use Rattle.starlark_reader.proofs.reader.Reader.take_token.Goals as goal
 
 abbrev one : ℕ → Token → Piece

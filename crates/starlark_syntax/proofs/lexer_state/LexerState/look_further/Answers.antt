@@ -27,11 +27,11 @@ returns-in-Skipped c =
     let sound = c.unnamed_word.ensures.sound in
     let stands = rw c.in-Skipped.is at c.in-Some.ensures.stands in
     let same = c.unnamed_word.ensures.text in
-    let looked = c.in-Some.ensures.lookahead in
+    let scanned = c.in-Some.ensures.lookahead in
     let code = c.unnamed_word.ensures.code in
     let len = peeked_len (drop old.reader.at text) in
-    let peeked = peeked_more text len len (word.len - len) (5 * word.len + 3 - len) word.len (5 * word.len + 3) old.reader mid at.read looked (omega arith) (omega (arith, peeked_len_few (drop old.reader.at text))) in
-    let left : left_to_read text mid mid.stage ≤ left_to_read text old.reader old.reader.stage = omega (arith, left_on text mid code.stage, left_on text old.reader at.code.stage, looked.0) in
+    let peeked = peeked_more text len len (word.len - len) (5 * word.len + 3 - len) word.len (5 * word.len + 3) old.reader mid at.read scanned (omega arith) (omega (arith, peeked_len_few (drop old.reader.at text))) in
+    let left : left_to_read text mid mid.stage ≤ left_to_read text old.reader old.reader.stage = omega (arith, left_on text mid code.stage, left_on text old.reader at.code.stage, scanned.0) in
     let here = subst (λ (t : Text). IsAhead t mid mid.stage (drop old.yielded_count (map shown_lexeme (outcome t).lexemes)) (outcome t).fault) (sym (ap (λ t. t.now) same)) (c.unnamed_word.ensures.ahead _ _ at.ahead) in
     let inside = word_inside mid.text.now mid _ _ word.class word.len code.stage here (sym c.in-Some.ensures.stands.front) in
     gone_from old _ mid same left

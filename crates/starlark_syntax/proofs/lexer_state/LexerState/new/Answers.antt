@@ -6,5 +6,5 @@ use Rattle.starlark_syntax.proofs.lexer_state.LexerState.new.Goals as goal
 
 pub returns-clause-lexing : goal.returns-clause-lexing
 returns-clause-lexing c =
-    same_lexing c.args.text.now (record { yielded_count = 0; found = found.All; word = record { class = class.Skipped; len = 0 }; run = 0; has_ended = false; reader = c.new.result; passed_begin = 0; passed_end = 0; alloc = c.args.alloc }) c.new.ensures.text
+    same_lexing c.args.text.now (record { yielded_count = 0; found = found.All; word = record { class = class.Skipped; len = 0 }; run = 0; has_ended = false; reader = c.new.result; lexeme_begin = 0; lexeme_end = 0; alloc = c.args.alloc }) c.new.ensures.text
     (record { fits = c.requires; utf8 = c.utf8.text }, (λ on. (omega (arith), c.new.ensures.ahead c.args.text.now)), tt, (λ on. c.new.ensures.reads c.args.text.now))

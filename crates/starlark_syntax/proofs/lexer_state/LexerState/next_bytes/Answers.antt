@@ -38,12 +38,12 @@ pub item_read-requires : goal.item_read-requires
 item_read-requires c =
     let state = c.args.self.now in
     let mid = c.plain_body_len.new.self in
-    let looked = c.plain_body_len.ensures in
-    read_next state c.read_literal-read.new.self c.read_literal-read.result (c.read_literal-read.ensures.text ∙ looked.text) c.requires.lexing c.requires.going
-    (IfOk-weaker c.read_literal-read.result _ _ (λ given is. keeps_takes state.reader mid c.read_literal-read.new.self looked.text looked.ahead given is) c.read_literal-read.ensures.ahead)
-    (rw (sym looked.text) c.read_literal-read.ensures.end)
-    (on_err_weaker c.read_literal-read.result (λ is. keeps_something state.reader mid looked.text looked.ahead is) c.read_literal-read.ensures.memory)
-    (rw (sym looked.text) c.read_literal-read.ensures.reads)
+    let scanned = c.plain_body_len.ensures in
+    read_next state c.read_literal-read.new.self c.read_literal-read.result (c.read_literal-read.ensures.text ∙ scanned.text) c.requires.lexing c.requires.going
+    (IfOk-weaker c.read_literal-read.result _ _ (λ given is. keeps_takes state.reader mid c.read_literal-read.new.self scanned.text scanned.ahead given is) c.read_literal-read.ensures.ahead)
+    (rw (sym scanned.text) c.read_literal-read.ensures.end)
+    (on_err_weaker c.read_literal-read.result (λ is. keeps_something state.reader mid scanned.text scanned.ahead is) c.read_literal-read.ensures.memory)
+    (rw (sym scanned.text) c.read_literal-read.ensures.reads)
 
 pub returns-in-Ok : goal.returns-in-Ok
 returns-in-Ok c = given_same c.args.self.now _ c.item_of.result c.item_of.new.self (ap (λ t. t.now) (c.take_plain_bytes-taken.ensures.text ∙ c.plain_body_len.ensures.text), refl) c.item_of.ensures

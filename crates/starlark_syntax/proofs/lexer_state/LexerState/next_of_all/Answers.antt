@@ -36,6 +36,6 @@ item_read-requires c =
           rw (w.self-is, w.read-is) (read_next state w.read_text-read.new.self w.read_text-read.result read.text c.requires.lexing c.requires.going read.ahead read.end read.memory read.reads)
       | in-Nothing w ↦
           let all : state.found ≡ found.All = search rules in
-          let end = c.requires.looked.end all in
+          let end = c.requires.next.end all in
           rw (w.self-is, w.read-is) (read_next state old (Ok None) refl c.requires.lexing c.requires.going (λ lexemes fault ahead. ahead) (λ e. end) tt (end_read text old state.word state.run state.found end known))
     ]

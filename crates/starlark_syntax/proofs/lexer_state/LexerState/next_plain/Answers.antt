@@ -3,7 +3,7 @@ use Rattle.starlark_grammar.specs.declared.class.Class.TheVariants as class
 use Rattle.starlark_grammar.proofs.Order.Inside.{lexemes_few}
 use Rattle.starlark_syntax.specs.Inner.LexerStates.{IsAtWord, left_to_pass}
 use Rattle.starlark_syntax.specs.declared.lexer_state.LexerState.{LexerState}
-use Rattle.starlark_syntax.proofs.FoundWords.{HasPassedSince, at_word, faulty_margin, found_passed, passed_since, pending_newline, plain_newline, still_going, unnamed_here, word_found, word_sound}
+use Rattle.starlark_syntax.proofs.FoundWords.{HasToldSince, at_word, faulty_margin, found_passed, pending_newline, plain_newline, still_going, told_since, unnamed_here, word_found, word_sound}
 use Rattle.starlark_reader.specs.declared.reader.Reader.{Reader}
 use Rattle.starlark_reader.proofs.TakenPieces.WordsPassed.{gap_passed, step_in_code, step_taken, word_inside_text}
 use Rattle.starlark_syntax.proofs.LexerStates.{IsGoingOn}
@@ -18,7 +18,7 @@ pass_name-requires c = rw c.in-Identifier.is at (at_word c.loop-self.self c.comm
 
 pub returns-in-Identifier : goal.returns-in-Identifier
 returns-in-Identifier c =
-    let since = passed_since c.args.self.now c.loop-self.self c.common_word.new.self c.pass_name.result c.pass_name.new.self c.loop-self.invariant (still_going c.loop-self.self c.loop-self.invariant.lexing (sym c.is_nothing.ensures ∙ c.if-not-is_nothing.false)) c.common_word.ensures.text c.pass_name.ensures in
+    let since = told_since c.args.self.now c.loop-self.self c.common_word.new.self c.pass_name.result c.pass_name.new.self c.loop-self.invariant (still_going c.loop-self.self c.loop-self.invariant.lexing (sym c.is_nothing.ensures ∙ c.if-not-is_nothing.false)) c.common_word.ensures.text c.pass_name.ensures in
     record { ended = since.ended; passed = since.passed; lexing = since.lexing; after = since.after }
 
 pub pass_symbol-requires : goal.pass_symbol-requires
@@ -26,7 +26,7 @@ pass_symbol-requires c = rw c.in-Fixed.is at (at_word c.loop-self.self c.common_
 
 pub returns-in-Fixed : goal.returns-in-Fixed
 returns-in-Fixed c =
-    let since = passed_since c.args.self.now c.loop-self.self c.common_word.new.self c.pass_symbol.result c.pass_symbol.new.self c.loop-self.invariant (still_going c.loop-self.self c.loop-self.invariant.lexing (sym c.is_nothing.ensures ∙ c.if-not-is_nothing.false)) c.common_word.ensures.text c.pass_symbol.ensures in
+    let since = told_since c.args.self.now c.loop-self.self c.common_word.new.self c.pass_symbol.result c.pass_symbol.new.self c.loop-self.invariant (still_going c.loop-self.self c.loop-self.invariant.lexing (sym c.is_nothing.ensures ∙ c.if-not-is_nothing.false)) c.common_word.ensures.text c.pass_symbol.ensures in
     record { ended = since.ended; passed = since.passed; lexing = since.lexing; after = since.after }
 
 pub look_further-requires : goal.look_further-requires
@@ -36,7 +36,7 @@ look_further-requires c =
 pub returns-in_default-look_further : goal.returns-in_default-look_further
 returns-in_default-look_further c =
     let passed = advances_lexeme (record c.loop-self.self { reader = c.common_word.new.self }) c.look_further.result c.look_further.new.self c.in_default-look_further.not-Layout c.look_further.ensures in
-    let since = passed_since c.args.self.now c.loop-self.self c.common_word.new.self _ c.look_further.new.self c.loop-self.invariant (still_going c.loop-self.self c.loop-self.invariant.lexing (sym c.is_nothing.ensures ∙ c.if-not-is_nothing.false)) c.common_word.ensures.text passed in
+    let since = told_since c.args.self.now c.loop-self.self c.common_word.new.self _ c.look_further.new.self c.loop-self.invariant (still_going c.loop-self.self c.loop-self.invariant.lexing (sym c.is_nothing.ensures ∙ c.if-not-is_nothing.false)) c.common_word.ensures.text passed in
     rw c.lexeme-in_default-look_further.ensures (record { ended = since.ended; passed = since.passed; lexing = since.lexing; after = since.after })
 
 pub pass_string-requires : goal.pass_string-requires
@@ -49,7 +49,7 @@ pass_string-requires c =
 
 pub returns-in-Opener-Text-default-default : goal.returns-in-Opener-Text-default-default
 returns-in-Opener-Text-default-default c =
-    let since = passed_since c.args.self.now c.loop-self.self c.common_word.new.self c.pass_string.result c.pass_string.new.self c.loop-self.invariant (still_going c.loop-self.self c.loop-self.invariant.lexing (sym c.is_nothing.ensures ∙ c.if-not-is_nothing.false)) c.common_word.ensures.text c.pass_string.ensures in
+    let since = told_since c.args.self.now c.loop-self.self c.common_word.new.self c.pass_string.result c.pass_string.new.self c.loop-self.invariant (still_going c.loop-self.self c.loop-self.invariant.lexing (sym c.is_nothing.ensures ∙ c.if-not-is_nothing.false)) c.common_word.ensures.text c.pass_string.ensures in
     record { ended = since.ended; passed = since.passed; lexing = since.lexing; after = since.after }
 
 pub loop-self-preserved-in-Passed : goal.loop-self-preserved-in-Passed
@@ -85,7 +85,7 @@ pub returns-in-Fault : goal.returns-in-Fault
 returns-in-Fault c =
     let at = rw c.in-LineEnd.is at (at_word c.loop-self.self c.common_word.new.self c.in-Some.field-0 c.common_word.ensures.text c.loop-self.invariant.lexing (sym c.is_nothing.ensures ∙ c.if-not-is_nothing.false) c.in-Some.ensures.lookahead c.common_word.ensures.ahead c.in-Some.ensures.stands) in
     let passed = faulty_margin (record c.loop-self.self { reader = c.common_word.new.self }) c.in-Some.field-0.len c.take_line_end.new.self c.take_line_end.ensures.text at (c.in-Ok.ensures.reads (fault_counts c.in-Ok.line_end c.in-Fault.is)) (rw c.in-Fault.is at (c.in-Ok.ensures.ahead _ _ at.ahead)) (c.in-Ok.ensures.end c.in-Fault.is) in
-    let since = passed_since c.args.self.now c.loop-self.self c.common_word.new.self (Ok None) _ c.loop-self.invariant (still_going c.loop-self.self c.loop-self.invariant.lexing (sym c.is_nothing.ensures ∙ c.if-not-is_nothing.false)) c.common_word.ensures.text passed in
+    let since = told_since c.args.self.now c.loop-self.self c.common_word.new.self (Ok None) _ c.loop-self.invariant (still_going c.loop-self.self c.loop-self.invariant.lexing (sym c.is_nothing.ensures ∙ c.if-not-is_nothing.false)) c.common_word.ensures.text passed in
     record { ended = since.ended; passed = since.passed; lexing = since.lexing; after = since.after }
 
 pub overflow_add-self : goal.overflow_add-self
@@ -107,15 +107,15 @@ returns-in-LineEnd c =
     let state = record c.loop-self.self { reader = c.common_word.new.self } in
     let new = c.take_line_end.new.self in
     let len = c.in-Some.field-0.len in
-    let since : HasPassedSince c.args.self.now (Ok (Some c.new-newline.result)) (record c.match-line_end.self { yielded_count = c.match-line_end.self.yielded_count + 1 }) = elim c.match-line_end.branch [
+    let since : HasToldSince c.args.self.now (Ok (Some c.new-newline.result)) (record c.match-line_end.self { yielded_count = c.match-line_end.self.yielded_count + 1 }) = elim c.match-line_end.branch [
       | in-Pending w ↦
           let is = w.in-Pending.is in
           let passed = pending_newline state len new c.take_line_end.ensures.text at c.in-Ok.ensures.cut (c.in-Ok.ensures.reads (pending_counts c.in-Ok.line_end is)) (rw is at (c.in-Ok.ensures.ahead _ _ at.ahead)) in
-          rw (w.self-is, c.new-newline.ensures) (passed_since c.args.self.now c.loop-self.self c.common_word.new.self _ _ c.loop-self.invariant going c.common_word.ensures.text passed)
+          rw (w.self-is, c.new-newline.ensures) (told_since c.args.self.now c.loop-self.self c.common_word.new.self _ _ c.loop-self.invariant going c.common_word.ensures.text passed)
       | in-Newline w ↦
           let is = w.in-Newline.is in
           let passed = plain_newline state len new c.take_line_end.ensures.text at c.in-Ok.ensures.cut (c.in-Ok.ensures.reads (newline_counts c.in-Ok.line_end is)) (c.in-Ok.ensures.onward is) (rw is at (c.in-Ok.ensures.ahead _ _ at.ahead)) in
-          rw (w.self-is, c.new-newline.ensures) (passed_since c.args.self.now c.loop-self.self c.common_word.new.self _ _ c.loop-self.invariant going c.common_word.ensures.text passed)
+          rw (w.self-is, c.new-newline.ensures) (told_since c.args.self.now c.loop-self.self c.common_word.new.self _ _ c.loop-self.invariant going c.common_word.ensures.text passed)
     ] in
     record { ended = since.ended; passed = since.passed; lexing = since.lexing; after = since.after }
 
@@ -127,5 +127,5 @@ returns-in_default-class c =
       | in_default-class-via-in-Opener+in_default w ↦ search rules
       | in_default-class-via-in_default w ↦ search (rules, comment)
     ] in
-    let since = passed_since c.args.self.now c.loop-self.self c.common_word.new.self (Ok None) _ c.loop-self.invariant (still_going c.loop-self.self c.loop-self.invariant.lexing (sym c.is_nothing.ensures ∙ c.if-not-is_nothing.false)) c.common_word.ensures.text (word_found (record c.loop-self.self { reader = c.common_word.new.self }) c.in-Some.field-0 at slow) in
+    let since = told_since c.args.self.now c.loop-self.self c.common_word.new.self (Ok None) _ c.loop-self.invariant (still_going c.loop-self.self c.loop-self.invariant.lexing (sym c.is_nothing.ensures ∙ c.if-not-is_nothing.false)) c.common_word.ensures.text (word_found (record c.loop-self.self { reader = c.common_word.new.self }) c.in-Some.field-0 at slow) in
     record { ended = since.ended; passed = since.passed; lexing = since.lexing; after = since.after }

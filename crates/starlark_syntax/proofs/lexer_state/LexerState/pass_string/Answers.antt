@@ -26,15 +26,15 @@ overflow_add-self c =
 
 pub overflow_add-len-in-Ok : goal.overflow_add-len-in-Ok
 overflow_add-len-in-Ok c =
-    let looked = c.plain_body_len.ensures in
-    let inside = string_inside c.plain_body_len.new.self c.args.is_raw c.args.quote c.args.len c.in-Ok.body looked.sound looked.stands c.in-Ok.ensures.plain in
+    let scanned = c.plain_body_len.ensures in
+    let inside = string_inside c.plain_body_len.new.self c.args.is_raw c.args.quote c.args.len c.in-Ok.body scanned.sound scanned.stands c.in-Ok.ensures.plain in
     let small : c.args.len + c.in-Ok.body + 1 ≤ 2 ^ 34 = omega (arith, inside) in
     search (rules, small)
 
 pub step_over-requires-clause-fits : goal.step_over-requires-clause-fits
 step_over-requires-clause-fits c =
-    let looked = c.plain_body_len.ensures in
-    omega (arith, string_inside c.plain_body_len.new.self c.args.is_raw c.args.quote c.args.len c.in-Ok.body looked.sound looked.stands c.in-Ok.ensures.plain)
+    let scanned = c.plain_body_len.ensures in
+    omega (arith, string_inside c.plain_body_len.new.self c.args.is_raw c.args.quote c.args.len c.in-Ok.body scanned.sound scanned.stands c.in-Ok.ensures.plain)
 
 pub returns-in-Ok : goal.returns-in-Ok
 returns-in-Ok c =

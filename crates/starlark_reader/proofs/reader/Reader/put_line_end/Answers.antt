@@ -10,10 +10,10 @@ use Rattle.starlark_reader.specs.Inner.MarginViews.{IsLaidOut, IsMargin}
 use Rattle.starlark_reader.specs.Inner.MarginLines.{IsOfMargin}
 use Rattle.starlark_reader.proofs.TakenMargins.LaidMargins.{after_none, end_taken}
 use Rattle.starlark_reader.proofs.TakenMargins.TakenWidths.{is_kept}
-use Rattle.starlark_reader.proofs.TakenMargins.Waiting.{nothing_left}
+use Rattle.starlark_reader.proofs.TakenMargins.PendingLexemes.{nothing_left}
 use Rattle.starlark_reader.proofs.TakenPieces.Taken.{line_taken}
-use Rattle.starlark_reader.proofs.reader.Reader.lay_line_end.Goals as goal
-use Rattle.starlark_reader.proofs.reader.Reader.lay_line_end.Goals.{In-Some}
+use Rattle.starlark_reader.proofs.reader.Reader.put_line_end.Goals as goal
+use Rattle.starlark_reader.proofs.reader.Reader.put_line_end.Goals.{In-Some}
 
 pub change_width-requires-clause-margin : goal.change_width-requires-clause-margin
 change_width-requires-clause-margin c =

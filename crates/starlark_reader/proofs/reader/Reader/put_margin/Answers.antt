@@ -8,7 +8,7 @@ use Rattle.starlark_reader.specs.declared.reader.Reader.{Reader}
 use Rattle.starlark_reader.proofs.TakenMargins.LaidMargins.{after_none, end_refused, end_taken}
 use Rattle.starlark_reader.proofs.TakenPieces.MarginReads.{refused_reads}
 use Rattle.starlark_reader.proofs.TakenPieces.Taken.{line_refused, line_taken}
-use Rattle.starlark_reader.proofs.reader.Reader.lay_margin.Goals as goal
+use Rattle.starlark_reader.proofs.reader.Reader.put_margin.Goals as goal
 
 pub take_margin-requires-clause-idle : goal.take_margin-requires-clause-idle
 take_margin-requires-clause-idle c = after_none c.args.self.now.text.now c.args.self.now.pending c.requires.line_end.here.idle.1

@@ -1,15 +1,26 @@
 -- Pending lexemes.
-use Rattle.std.proofs.Common.{rules, arith, ◌≡◌, Bool, false, ℕ, ◌+◌, ◌≤◌, List, [], ◌∷◌, ◌++◌, ap, sym, ◌∙◌, map, refl, Some, None}
+use Rattle.std.proofs.Common.{rules, arith, ◌≡◌, Bool, false, ℕ, ◌+◌, ◌≤◌, List, [], ◌∷◌, ◌++◌, ap, sym, ◌∙◌, length, map, refl, Some, None}
 use Rattle.std.specs.Prelude.{Option, Result, Ok, Err, OnErr, option_to_list}
 use Rattle.starlark_grammar.specs.Words.{Text}
+use Rattle.starlark_grammar.specs.Margins.{comment_of}
 use Rattle.starlark_grammar.specs.Tokens.{Lexeme, Spanned}
 use Rattle.starlark_token.specs.TokenViews.{TokenView}
 use Rattle.starlark_token.specs.Lexemes.{lexeme_view, shown_lexeme}
-use Rattle.starlark_reader.specs.Inner.Pending.{IsFirst, IsFirstAfter, IsFirstComment, IsFirstPast, IsIdle, IsPending, comment_lexeme, lexemes_after, pending_lexemes}
+use Rattle.starlark_reader.specs.Inner.Pending.{IsCommentIn, IsComments, IsFirst, IsFirstAfter, IsFirstPast, IsIdle, IsPending, comment_lexeme, lexemes_after, lines_between, pending_lexemes}
 use Rattle.starlark_reader.specs.declared.pending.AfterComments.{AfterComments}
 use Rattle.starlark_reader.specs.declared.pending.Pending.{Pending}
 use Rattle.starlark_token.specs.declared.tokens.Token.{Token}
 use Rattle.starlark_reader.proofs.TakenMargins.Pending.{no_comments, no_lines_between}
+
+-- the first line from byte `from` to `to` has the length and the comment found, and all after it
+-- are comment-only
+pub record IsFirstComment (text : Text) (from to begin end len : ℕ) : Type 0 where
+  pub line : Text
+  pub first : lines_between text from to ≡ line ∷ lines_between text (from + len) to
+  pub whole : length line ≡ len
+  pub comment : comment_lexeme text begin end ≡ shown_lexeme (comment_of from line)
+  pub inside : IsCommentIn text begin end
+  pub remainder : IsComments text (from + len) to
 
 -- the first comment
 pub comment_first : (text : Text) (old : Pending) (begin end len : ℕ) → IsFirstComment text old.from old.to begin end len
