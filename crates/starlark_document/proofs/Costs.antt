@@ -1,5 +1,5 @@
 -- What lexing texts one after another takes, and lexers that no item has ended.
-use Rattle.std.proofs.Common.{◌≡◌, ◌≤◌, ◌<◌, ◌+◌, ◌||◌, ℕ, zero, suc, Bool, true, false, arith, sym, subst, inl, inr, Option, None, Ok, Err, Some}
+use Rattle.std.proofs.Common.{◌≡◌, ◌≤◌, ◌<◌, ◌+◌, ◌||◌, ℕ, zero, suc, Bool, true, false, arith, refl, sym, subst, inl, inr, Option, None, Ok, Err, Some}
 use Rattle.std.proofs.Math.Nat.{add-mul, le-mul_of_pos_right, min-eq_left, min-eq_right, mul-zero}
 use Rattle.std.proofs.lemmas.Bool.{cases_lt}
 use Rattle.std.proofs.lemmas.Nat.{mul-le}
@@ -7,6 +7,7 @@ use Rattle.std.specs.Prelude.{◌*◌, ◌⊎◌, min, IfSome, Result}
 use Rattle.starlark_base.specs.Diagnostics.{Diagnosed}
 use Rattle.starlark_document.specs.Inner.Costs.{IsCostSoFar, IsPaid, IsPartCost, IsTextCost, cost_sum}
 use Rattle.starlark_document.specs.declared.segment_lexing.LexingCost.{LexingCost}
+use Rattle.starlark_document.specs.declared.segments.Segment.{Segment}
 use Rattle.starlark_grammar.specs.Words.{Text}
 use Rattle.starlark_syntax.specs.RecoveringLexer.{AreReadsOn, HasReadOn, is_memory}
 use Rattle.starlark_syntax.specs.declared.error.kinds.ErrorKind.{ErrorKind}
@@ -76,7 +77,9 @@ pub goes_on : (has_ended memory : Bool) → has_ended ≡ false → memory ≡ f
 goes_on true memory going none = cc
 goes_on false memory going none = none
 
--- what holds anyhow holds where there is a value
-pub some_anyhow : {A : Type 0} (P : A → Type 0) (found : Option A) → ((x : A) → P x) → IfSome found P
-some_anyhow P None all = tt
-some_anyhow P (Some x) all = all x
+-- the segment of a text is shorter than it, or the text was lexed to its end
+pub whole_read : (is_cut : Bool) (found : Option Segment) (len starts reads : ℕ) → (is_cut ≡ true → IfSome found (λ segment. segment.len < len)) → (is_cut ≡ false → starts ≡ 1 → len ≤ reads)
+    → IfSome found (λ segment. segment.len ≡ len → starts ≡ 1 → len ≤ reads)
+whole_read is_cut None len starts reads short read = tt
+whole_read true (Some segment) len starts reads short read = λ same one. absurd (omega (arith, same, short refl))
+whole_read false (Some segment) len starts reads short read = λ same one. read refl one

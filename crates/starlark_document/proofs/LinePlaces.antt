@@ -1,9 +1,9 @@
 -- Lines and columns in segments: those of the earlier segments, and those in one.
-use Rattle.std.proofs.Common.{◌≡◌, ◌<◌, ◌↔◌, take-add, length-take-le, length-drop, None, ℕ, ◌+◌, ◌-◌, ◌≤◌, suc, Bool, true, false, cond, not, List, [], ◌∷◌, ◌++◌, length, take, drop, inl, inr, ◌⊎◌, Some, refl, sym, subst, zero, ap, ◌∙◌, append_assoc, append-nil, length-append, take-append-drop, reverse, count_by, arith}
+use Rattle.std.proofs.Common.{◌≡◌, ◌<◌, ◌↔◌, take-add, length-take-le, length-drop, None, ℕ, ◌+◌, ◌-◌, ◌≤◌, suc, Bool, true, false, not, List, [], ◌∷◌, ◌++◌, length, take, drop, inl, inr, ◌⊎◌, Some, refl, sym, subst, zero, ap, ◌∙◌, append_assoc, append-nil, length-append, take-append-drop, reverse, count_by, arith}
 use Rattle.std.specs.Str.{IsCharBoundary, IsUtf8, chars}
 use Rattle.std.specs.List.{after_last, prefix_len, slice_get, suffix_len}
 use Rattle.std.proofs.lemmas.List.{drop_at, drop-drop, reverse-append, take-append-le}
-use Rattle.std.proofs.lemmas.List.Sums.{count_by-le-length, suffix_len-le-length, sum_by-append}
+use Rattle.std.proofs.lemmas.List.Sums.{count_by-le-length, suffix_len-le-length}
 use Rattle.std.proofs.lemmas.Bool.{and_from, cases_lt, eqb-true}
 use Rattle.std.proofs.lemmas.Option.{same_Some, slice_get_within}
 use Rattle.starlark_base.specs.Places.{is_lf, place_after, place_at}

@@ -1,12 +1,12 @@
 //! Makes segments: lexes a text from the start of a segment on.
 
-ghost use Rattle.std.specs.Prelude.{◌≡◌, ◌≤◌, ◌<◌, ◌+◌, ◌^◌, IfOk, IfSome, IsNone, IsSome, count_by, length, map, take, true};
+ghost use Rattle.std.specs.Prelude.{◌≡◌, ◌≤◌, ◌<◌, ◌+◌, ◌^◌, IfOk, IfSome, IsNone, IsSome, [], count_by, false, length, map, take, true};
 ghost use Rattle.starlark_document.specs.Inner.Costs.{IsTextCost, cost_sum};
-ghost use Rattle.starlark_document.specs.Inner.LexedFronts.{IsFirstSegment, IsLexedFront, last_newline_at, without_newline};
+ghost use Rattle.starlark_document.specs.Inner.LexedFronts.{IsFirstSegment, IsLexedFront, IsTakenFront, last_newline_at, without_newline};
 ghost use Rattle.std.specs.Str.{IsCharBoundary};
 ghost use Rattle.starlark_document.specs.Inner.Segments.{text_in};
 ghost use Rattle.starlark_base.specs.Places.{is_lf};
-ghost use Rattle.starlark_syntax.specs.RecoveringLexer.{all_items};
+ghost use Rattle.starlark_syntax.specs.RecoveringLexer.{AreReadsOn, all_items};
 ghost use Rattle.starlark_token.specs.Lexemes.{lexeme_view};
 
 use crate::lexed_fronts::{LexedFront, SPARE_LEXEMES};
@@ -160,6 +160,69 @@ fn whole_segment(
     Ok(None)
 }
 
+/// The first segment of a text: up to where it can be cut, or the whole text, as `whole_segment` says.
+fn first_segment(
+    alloc: Global,
+    text: &str,
+    front: LexedFront,
+    is_cut: bool,
+    is_last: bool,
+) -> Result<Option<Segment>, AllocError>
+    requires front { IsTakenFront text.now is_cut front }
+    ensures segment { IfOk result (λ found. IfSome found (IsFirstSegment text.now is_last)) }
+    ensures last { IfOk result (λ found. is_last ≡ true → IsSome found) }
+    ensures none { IfOk result (λ found. IsNone found → 0 < length text.now) }
+    ensures cut { IfOk result (λ found. is_cut ≡ true → IfSome found (λ segment. segment.len < length text.now)) }
+{
+    if is_cut {
+        return Ok(Some(cut_segment(alloc, text, front)?));
+    }
+    whole_segment(alloc, text, front, is_last)
+}
+
+/// Takes items from the lexer of a text, up to where the text can be cut or to its end. Returns
+/// whether it can be cut.
+// It borrows the lexer and the front: a loop that owns them takes ten times as long to prove.
+fn take_front(
+    lexer: &mut RecoveringLexer<'_>,
+    text: &str,
+    front: &mut LexedFront,
+) -> Result<bool, AllocError>
+    requires lexer { lexer.old ≡ record { text = text.now; code_map = lexer.old.code_map; left = all_items text.now; fault_count = 0; has_ended = false; reads = 0 } }
+    requires front { IsLexedFront text.now [] front.old }
+    ensures front { IfOk result (λ is_cut. IsTakenFront text.now is_cut front.new) }
+    ensures reads { IfOk result (λ is_cut. AreReadsOn text.now lexer.new.fault_count lexer.new.reads) }
+    ensures least { IfOk result (λ is_cut. is_cut ≡ false → lexer.new.fault_count ≡ 0 → length text.now ≤ lexer.new.reads) }
+{
+    while let Some(item) = lexer.next() {
+        if front.ends_before(&item)? {
+            return Ok(true);
+        }
+        front.take(text, item)?;
+    }
+    Ok(false)
+}
+
+/// Lexes a text up to where it can be cut or to its end. Returns whether it can be cut, and what
+/// lexing it took.
+fn lex_front(
+    alloc: Global,
+    file: &CodeMap,
+    text: &str,
+    front: &mut LexedFront,
+) -> Result<(bool, LexingCost), AllocError>
+    requires fits { length text.now < 2 ^ 32 }
+    requires front { IsLexedFront text.now [] front.old }
+    ensures front { IfOk result (λ found. IsTakenFront text.now found.0 front.new) }
+    ensures cost { IfOk result (λ found. IsTextCost (length text.now) found.1) }
+    ensures least { IfOk result (λ found. found.0 ≡ false → found.1.starts ≡ 1 → length text.now ≤ found.1.reads) }
+{
+    let lexer = RecoveringLexer::new(alloc, text, &Dialect::Standard, file.dupe()?);
+    let mut lexer = lexer.map_err(|_| AllocError)?;
+    let is_cut = take_front(&mut lexer, text, front)?;
+    Ok((is_cut, cost_of(&lexer, text)))
+}
+
 /// Lexes the first segment of a text, which ends where the text can be cut, or with the text.
 ///
 /// The text is the document's last, or other segments follow it. Where none can follow it, there is
@@ -180,20 +243,8 @@ pub fn lex_segment(
     ensures cost { IfOk result (λ found. IsTextCost (length text.now) found.cost) }
     ensures whole { IfOk result (λ found. IfSome found.segment (λ segment. segment.len ≡ length text.now → found.cost.starts ≡ 1 → length text.now ≤ found.cost.reads)) }
 {
-    let lexer = RecoveringLexer::new(alloc, text, &Dialect::Standard, file.dupe()?);
-    let mut lexer = lexer.map_err(|_| AllocError)?;
     let mut front = LexedFront::new(alloc, least_len, likely_count)?;
-    while let Some(item) = lexer.next() {
-        if front.ends_before(&item)? {
-            return Ok(Attempt {
-                segment: Some(cut_segment(alloc, text, front)?),
-                cost: cost_of(&lexer, text),
-            });
-        }
-        front.take(text, item)?;
-    }
-    Ok(Attempt {
-        segment: whole_segment(alloc, text, front, is_last)?,
-        cost: cost_of(&lexer, text),
-    })
+    let (is_cut, cost) = lex_front(alloc, file, text, &mut front)?;
+    let segment = first_segment(alloc, text, front, is_cut, is_last)?;
+    Ok(Attempt { segment, cost })
 }

@@ -91,6 +91,21 @@ pub record IsLexedFront (text : Text) (items : List LexerItem) (front : LexedFro
   pub boundary : 0 < front.line_end → IsCharBoundary text front.line_end
   pub cut : front.is_cut ≡ true → EndsPlainly text items front.line_end
 
+-- the items of a text were taken up to one before which it can be cut
+pub record IsCutFront (text : Text) (front : LexedFront) : Type 0 where
+  pub items : List LexerItem
+  pub next : LexerItem
+  pub more : List LexerItem
+  pub all : all_items text ≡ items ++ (next ∷ more)
+  pub taken : IsLexedFront text items front
+  pub cut : front.is_cut ≡ true
+  pub ends : is_dedent_item next ≡ false
+
+-- the items of a text were taken so far, or all
+abbrev pub IsTakenFront : Text → (is_cut : Bool) → LexedFront → Type 0
+IsTakenFront text true front = IsCutFront text front
+IsTakenFront text false front = IsLexedFront text (all_items text) front
+
 -- A newline of some bytes, after which a line begins plainly, closes the text so far. Its items are those up to there, with
 -- the `Dedent`s, but for its closing `Newline`.
 abbrev pub ItemsCut : Type 0

@@ -1,7 +1,5 @@
-use Rattle.std.proofs.Common.{arith, refl, ap}
-use Rattle.std.proofs.lemmas.Option.{get_or_from_slice_get, slice_get_read}
-use Rattle.starlark_document.proofs.SegmentOffsets.{begin_after, end_last, end_within}
-use Rattle.starlark_document.specs.declared.segments.Segment.{Segment}
+use Rattle.std.proofs.Common.{arith}
+use Rattle.starlark_document.proofs.SegmentOffsets.{end_last}
 use Rattle.starlark_document.proofs.edited_parts.end_at.Goals as goal
 
 pub loop-place-preserved : goal.loop-place-preserved

@@ -2,7 +2,7 @@ use Rattle.std.proofs.Common.{◌≡◌, ◌≤◌, ◌+◌, ◌++◌, List, fal
 use Rattle.starlark_document.specs.Inner.LexedFronts.{IsLexedFront}
 use Rattle.starlark_syntax.specs.RecoveringLexer.{all_items, most_reads_on}
 use Rattle.starlark_token.specs.TextItems.{LexerItem}
-use Rattle.starlark_document.proofs.segment_lexing.lex_segment.Given as goal
+use Rattle.starlark_document.proofs.segment_lexing.take_front.Given as goal
 
 -- the items of the text are those of the front, and those that are left
 abbrev pub invariant-loop-item : goal.invariant-loop-item
