@@ -70,10 +70,10 @@ class Function(NamedTuple):
 
 @functools.cache
 def functions():
-    """The functions of all crates, by name, but for starlark_rows, where a function has the name of the call that it makes."""
+    """The functions of all crates, by name, but for those of rows, where a function has the name of the call that it makes."""
     found = {}
     for path in files():
-        if path.suffix != ".rt" or "starlark_rows" in path.parts:
+        if path.suffix != ".rt" or {"starlark_calls", "starlark_rows"} & {*path.parts}:
             continue
         for attributes, name, rest in FUNCTION.findall(text_of(path)):
             inline = re.search(r"#\[inline(?!\(never\))", attributes)

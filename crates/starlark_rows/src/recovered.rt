@@ -63,12 +63,16 @@ fn lexer_in<'a>(
 }
 
 /// The lines of all lexemes and all faults of a text.
-fn lines_of(alloc: Global, text: &str) -> Result<String, AllocError> {
-    let file = file_of(alloc, text)?;
-    let mut lexer = lexer_in(alloc, text, &file)?;
+fn lines_in(alloc: Global, text: &str, file: &CodeMap) -> Result<String, AllocError> {
     let mut lines = String::new(alloc);
-    add_all(&mut lines, &file, &mut lexer)?;
+    let mut lexer = lexer_in(alloc, text, file)?;
+    add_all(&mut lines, file, &mut lexer)?;
     Ok(lines)
+}
+
+/// The lines of all lexemes and all faults of a text, with the places that its code map gives.
+fn lines_of(alloc: Global, text: &str) -> Result<String, AllocError> {
+    lines_in(alloc, text, &file_of(alloc, text)?)
 }
 
 /// Lexes the texts of all records, and prints all that is found in each.

@@ -1,7 +1,7 @@
 //! Runs over devices that fail, give or take little, or take nothing, and calls of watched devices.
 
 use crate::calls::failing_devices::{Sink, Source, behaviour_of};
-use crate::calls::rows::{Answer, Row, both, unknown};
+use starlark_calls::rows::{Answer, Row, both, unknown};
 use starlark_run::{RunFault, RunStatus, Watched, run};
 use std::alloc::{AllocError, Global};
 use std::io;

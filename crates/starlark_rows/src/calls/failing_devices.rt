@@ -1,6 +1,6 @@
 //! A reader and a writer in memory, which fail, give nothing or take nothing as a row says.
 
-use crate::calls::rows::Row;
+use starlark_calls::rows::Row;
 use std::io;
 use std::io::{ErrorKind, Read, Write};
 

@@ -1,7 +1,7 @@
 //! Errors with their places and calls, over the file `f` with the source `ab`.
 
-use crate::calls::row_files::code_map;
-use crate::calls::rows::{Answer, Row, given, unknown};
+use crate::row_files::code_map;
+use crate::rows::{Answer, Row, given, unknown};
 use starlark_syntax::call_stack::CallStack;
 use starlark_syntax::codemap::{CodeMap, Pos, Span};
 use starlark_syntax::diagnostic::WithDiagnostic;

@@ -1,10 +1,10 @@
 //! Calls that allocate. Where an allocation is refused, a call has to leave what its caller had as it was, and only then
 //! is the failure returned. `scripts/refused_memory.py` refuses each allocation of each of these rows in turn.
 
-use crate::calls::error_rows::{first, forms, kind, one_call, placed, shown_error, tab};
-use crate::calls::refused::unchanged;
-use crate::calls::row_files::code_map;
-use crate::calls::rows::{Answer, Row, given, unknown};
+use crate::error_rows::{first, forms, kind, one_call, placed, shown_error, tab};
+use crate::refused::unchanged;
+use crate::row_files::code_map;
+use crate::rows::{Answer, Row, given, unknown};
 use starlark_syntax::call_stack::CallStack;
 use starlark_syntax::codemap::{CodeMap, CodeMapId, CodeMaps};
 use starlark_syntax::diagnostic::WithDiagnostic;

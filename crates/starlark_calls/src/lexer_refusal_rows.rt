@@ -2,10 +2,10 @@
 //! and only then is the failure returned. `scripts/refused_memory.py` refuses each request of each of these rows in
 //! turn.
 
-use crate::calls::lexed_text_rows;
-use crate::calls::lexed_text_rows::Wanted;
-use crate::calls::rows::{Answer, Row, unknown};
-use crate::calls::word_rows::lexemes;
+use crate::lexed_text_rows;
+use crate::lexed_text_rows::Wanted;
+use crate::rows::{Answer, Row, unknown};
+use crate::word_rows::lexemes;
 use std::alloc::Global;
 
 /// The answer to a call that takes memory.

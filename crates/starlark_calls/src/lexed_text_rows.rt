@@ -2,12 +2,12 @@
 
 ghost use Rattle.std.specs.Prelude.{◌≡◌, ◌++◌, IfOk};
 
-use crate::calls::each_byte::each_byte;
-use crate::calls::joined_texts::{agree, both_texts};
-use crate::calls::refused::unchanged;
-use crate::calls::row_files::code_map;
-use crate::calls::rows::{Answer, Row, both, given, shown, unknown};
-use crate::calls::word_rows::add_placed;
+use crate::each_byte::each_byte;
+use crate::joined_texts::{agree, both_texts};
+use crate::refused::unchanged;
+use crate::row_files::code_map;
+use crate::rows::{Answer, Row, both, given, shown, unknown};
+use crate::word_rows::add_placed;
 use starlark_syntax::codemap::CodeMap;
 use starlark_syntax::dialect::Dialect;
 use starlark_syntax::lexer::LexedText;

@@ -1,7 +1,7 @@
 //! Integers, identifiers, and the lexemes of a text as they print.
 
-use crate::calls::row_files::code_map;
-use crate::calls::rows::{Answer, Row, both, given, shown, unknown};
+use crate::row_files::code_map;
+use crate::rows::{Answer, Row, both, given, shown, unknown};
 use starlark_syntax::codemap::OrMemory;
 use starlark_syntax::dialect::Dialect;
 use starlark_syntax::lexer::{Lexer, PlainLexeme, Token, TokenInt, lex_exactly_one_identifier};

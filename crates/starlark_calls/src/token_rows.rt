@@ -1,6 +1,6 @@
 //! Tokens that no text has, and faults that none has.
 
-use crate::calls::rows::{Answer, Row, both, unknown};
+use crate::rows::{Answer, Row, both, unknown};
 use starlark_syntax::lexer::{LexemeError, Token};
 use std::alloc::Global;
 

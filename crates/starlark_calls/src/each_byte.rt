@@ -1,8 +1,8 @@
 //! Texts of which each byte is edited.
 
-use crate::calls::joined_texts::{both_texts, with_byte};
-use crate::calls::lexed_text_rows::{Wanted, lex, relex, relex_joined};
-use crate::calls::rows::Answer;
+use crate::joined_texts::{both_texts, with_byte};
+use crate::lexed_text_rows::{Wanted, lex, relex, relex_joined};
+use crate::rows::Answer;
 use std::alloc::{AllocError, Global};
 
 /// A text lexed again after an edit. It was lexed as one text, or joined of two.

@@ -1,6 +1,6 @@
 //! Files by their name and their source.
 
-use crate::calls::rows::given;
+use crate::rows::given;
 use starlark_syntax::codemap::{CodeMap, CodeMapId};
 use std::alloc::{AllocError, Global};
 

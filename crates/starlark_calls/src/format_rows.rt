@@ -1,6 +1,6 @@
 //! Format strings.
 
-use crate::calls::rows::{Answer, Row};
+use crate::rows::{Answer, Row};
 use starlark_syntax::dot_format_parser::FormatParser;
 use std::alloc::{AllocError, Global};
 use std::fmt::{Debug, Write};

@@ -1,6 +1,6 @@
 //! Files that are shared, compared and collected, and what refuses them.
 
-use crate::calls::rows::{Answer, Row, both, given, shown, unknown};
+use crate::rows::{Answer, Row, both, given, shown, unknown};
 use starlark_syntax::codemap::{
     CodeMapId, CodeMaps, FileSpan, OrMemory, Pos, ResolvedFileSpan, SourceTooLong, Span, Spanned,
 };

@@ -1,6 +1,6 @@
 //! Indices, and texts by their characters.
 
-use crate::calls::rows::{Answer, Row, shown, unknown};
+use crate::rows::{Answer, Row, shown, unknown};
 use starlark_syntax::convert_indices::{convert_index, convert_indices};
 use starlark_syntax::fast_string::{
     CharIndex, at, contains, convert_str_indices, count_matches, count_matches_byte, len, split_at,

@@ -1,6 +1,6 @@
 //! Spans and places without a source.
 
-use crate::calls::rows::{Answer, Row, shown, unknown};
+use crate::rows::{Answer, Row, shown, unknown};
 use starlark_syntax::codemap::{Pos, ResolvedFileSpan, ResolvedPos, ResolvedSpan, Span};
 use std::alloc::Global;
 

@@ -1,7 +1,7 @@
 //! Lines and places of a source.
 
-use crate::calls::row_files::code_map;
-use crate::calls::rows::{Answer, Row, shown, unknown};
+use crate::row_files::code_map;
+use crate::rows::{Answer, Row, shown, unknown};
 use starlark_syntax::codemap::{CodeMap, Pos, Span};
 use std::alloc::Global;
 

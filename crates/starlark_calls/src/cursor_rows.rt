@@ -1,6 +1,6 @@
 //! Cursors, indices and braces.
 
-use crate::calls::rows::{Answer, Row, shown, unknown};
+use crate::rows::{Answer, Row, shown, unknown};
 use starlark_syntax::cursors::{CursorBytes, CursorChars};
 use starlark_syntax::dot_format_parser::EscapeCurlyBrace;
 use starlark_syntax::fast_string::CharIndex;

@@ -1,6 +1,6 @@
 //! What a call leaves that an allocation failure refuses.
 
-use crate::calls::rows::Answer;
+use crate::rows::Answer;
 use std::alloc::{AllocError, Global};
 use std::fmt::Display;
 

@@ -1,6 +1,6 @@
 //! Parts of a text between two indices, each of which may be negative or missing.
 
-use crate::calls::rows::{Answer, Row};
+use crate::rows::{Answer, Row};
 use starlark_syntax::fast_string::convert_str_indices;
 use std::alloc::{AllocError, Global};
 use std::fmt::Write;
