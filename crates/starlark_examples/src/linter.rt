@@ -94,6 +94,20 @@ impl Linter {
         self.faults.push(fault)?;
         Ok(())
     }
+
+    /// Checks all lexemes that a lexer yields, and stores its faults.
+    fn look_at_all(&mut self, lexer: RecoveringLexer<'_>) -> Result<(), SourceError> {
+        for lexeme in lexer {
+            match lexeme {
+                Ok((begin, token, end)) => {
+                    self.look_at(token, end - begin, Pos::new(begin as u32))?;
+                }
+                Err(OrMemory::Error(fault)) => self.keep_fault(fault)?,
+                Err(OrMemory::Memory) => return Err(SourceError::Memory),
+            }
+        }
+        Ok(())
+    }
 }
 
 /// What is wrong with a file.
@@ -113,15 +127,7 @@ pub fn lint(alloc: Global, file: &CodeMap) -> Result<Report, SourceError> {
         faults: Vec::new(alloc),
         widths: Vec::new(alloc),
     };
-    for lexeme in lexer {
-        match lexeme {
-            Ok((begin, token, end)) => {
-                linter.look_at(token, end - begin, Pos::new(begin as u32))?;
-            }
-            Err(OrMemory::Error(fault)) => linter.keep_fault(fault)?,
-            Err(OrMemory::Memory) => return Err(SourceError::Memory),
-        }
-    }
+    linter.look_at_all(lexer)?;
     Ok(Report {
         findings: linter.found,
         faults: linter.faults,

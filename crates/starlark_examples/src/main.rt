@@ -16,7 +16,7 @@ mod versions;
 
 use crate::linter::Report;
 use crate::parser::Expression;
-use starlark_document::Document;
+use starlark_document::{Change, Document, EditError};
 use starlark_syntax::codemap::{CodeMap, CodeMapId};
 use starlark_syntax::eval_exception::EvalException;
 use starlark_syntax::lexer::{LexedText, SourceError};
@@ -135,6 +135,14 @@ fn document_lines(alloc: Global, document: &Document) -> Result<String, AllocErr
     Ok(lines)
 }
 
+/// The line that says what has to be painted again after an edit, or why the edit is none.
+fn painted_again(alloc: Global, change: Result<Change, EditError>) -> Result<String, AllocError> {
+    match change {
+        Ok(change) => { format!(in alloc; "painted again: {}-{}\n", change.begin, change.new_end) }
+        Err(error) => format!(in alloc; "{error}\n"),
+    }
+}
+
 /// The editor's output: what is shown of a file, what has to be painted again after a text was typed
 /// before it, and what is shown then.
 fn typed(alloc: Global, texts: &str) -> Result<String, SourceError> {
@@ -143,14 +151,8 @@ fn typed(alloc: Global, texts: &str) -> Result<String, SourceError> {
     };
     let mut document = Document::new(alloc, file)?;
     let mut lines = document_lines(alloc, &document)?;
-    match editor::typed(&mut document, 0, text) {
-        Ok(change) => write!(
-            lines,
-            "painted again: {}-{}\n",
-            change.begin, change.new_end
-        )?,
-        Err(error) => write!(lines, "{error}\n")?,
-    }
+    let change = editor::typed(&mut document, 0, text);
+    lines.push_str(painted_again(alloc, change)?.as_str())?;
     lines.push_str(document_lines(alloc, &document)?.as_str())?;
     Ok(lines)
 }

@@ -24,8 +24,11 @@ property text = flat_map property_char (chars text)
 abbrev pub message : Text → Text
 message text = flat_map github_char (chars text)
 
+-- the title and the message of a fault
+unfoldable pub title : (code said : Text) → Text
+title code said = codes ",title=" ++ (code ++ (codes "::" ++ (message (reason said) ++ codes "\n")))
+
 -- the annotation of a fault; the prefix is its begin up to the line
 unfoldable pub github_line : (prefix : Text) → ResolvedPos → (code said : Text) → Text
 github_line prefix place code said =
-    (prefix ++ decimal (place.line + 1)) ++ ((codes ",col=" ++ decimal (place.column + 1))
-    ++ (codes ",title=" ++ (code ++ (codes "::" ++ (message (reason said) ++ codes "\n")))))
+    (prefix ++ decimal (place.line + 1)) ++ ((codes ",col=" ++ decimal (place.column + 1)) ++ title code said)

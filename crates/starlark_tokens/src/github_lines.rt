@@ -53,6 +53,18 @@ fn push_message(line: &mut String, text: &str) -> Result<(), AllocError>
     Ok(())
 }
 
+/// Appends the title and the message of a fault.
+#[tactic(auto, unfolding(crate::specs::GithubLines::title))]
+fn push_title(line: &mut String, code: &str, message: &str) -> Result<(), AllocError>
+    ensures { OnOk result (string_bytes line.new ≡ string_bytes line.old ++ spec.title code.now message.now) }
+{
+    line.push_str(",title=")?;
+    line.push_str(code)?;
+    line.push_str("::")?;
+    push_message(line, reason(message))?;
+    line.push_str("\n")
+}
+
 /// Appends the annotation of a fault.
 #[tactic(auto, unfolding(crate::specs::GithubLines::github_line))]
 pub fn push_github_fault(
@@ -66,9 +78,5 @@ pub fn push_github_fault(
 {
     push_field(line, prefix, shown.place.line)?;
     push_field(line, ",col=", shown.place.column)?;
-    line.push_str(",title=")?;
-    line.push_str(code)?;
-    line.push_str("::")?;
-    push_message(line, reason(message))?;
-    line.push_str("\n")
+    push_title(line, code, message)
 }
