@@ -1,13 +1,13 @@
 -- Lists of words, and the class that a word has by them.
-use Rattle.std.proofs.Common.{◌≡◌, ℕ, suc, ◌<◌, length, get_or, arith, Bool, true, false, not, ◌||◌, ◌==◌, List, [], ◌∷◌, refl, sym, ap, ◌∙◌, Option, None}
+use Rattle.std.proofs.Common.{◌≡◌, ◌<◌, Bool, true, false, cond, not, ◌||◌, ◌==◌, List, [], ◌∷◌, refl, sym, ap, ◌∙◌, Option, None, Some, ℕ}
 use Rattle.std.proofs.lemmas.Bool.{false_from_ne_true, agree_below, agree_below_at, and_parts, both_ways, eq-eqb}
 use Rattle.std.proofs.lemmas.Slice.Eq.{bytes_eq-Decides}
 use Rattle.std.specs.List.{list_all}
+use Rattle.std.specs.Prelude.{filter}
 use Rattle.std.specs.Map.{lookup}
 use Rattle.std.specs.Str.{bytes_eq}
 use Rattle.starlark_grammar.specs.Words.{Text, openers}
 use Rattle.starlark_grammar.specs.declared.class.Class.{Class}
-use Rattle.starlark_words.specs.Inner.ScannedWords.{class_of_name}
 
 -- the opener that a word is
 abbrev pub opener_of : Text → Option Class
@@ -16,20 +16,6 @@ opener_of word = lookup (bytes_eq word) openers
 -- a single or a double quote
 abbrev pub is_quote : ℕ → Bool
 is_quote b = b == 39 || b == 34
-
--- the bytes at the first offsets are those of a word
-abbrev pub AreBytes : (ℕ → ℕ) → Text → Type 0
-AreBytes at [] = Unit
-AreBytes at (b ∷ word) = (at 0 ≡ b) × AreBytes (λ i. at (suc i)) word
-
-is_word : (text word : Text) → length text ≡ length word → AreBytes (λ i. get_or text i 0) word → text ≡ word
-is_word [] [] same bytes = refl
-is_word [] (b ∷ word) same bytes = absurd (omega (arith, same))
-is_word (a ∷ text) [] same bytes = absurd (omega (arith, same))
-is_word (a ∷ text) (b ∷ word) same bytes = rw (bytes.0, is_word text word (omega (arith, same)) bytes.1) refl
-
-pub class_by_bytes : (text word : Text) → length text ≡ length word → AreBytes (λ i. get_or text i 0) word → class_of_name word ≡ class_of_name text
-class_by_bytes text word same bytes = ap class_of_name (sym (is_word text word same bytes))
 
 -- each word of the list passes the test
 abbrev pub all_pass : (Text → Bool) → List (Text × Class) → Bool
@@ -42,6 +28,17 @@ lookup_fails test word (row ∷ rows) h fails =
     let parts = and_parts (test row.0) (all_pass test rows) h in
     let other : bytes_eq word row.0 ≡ false = false_from_ne_true _ (λ e. both_ways _ fails (ap test ((bytes_eq-Decides word row.0).0 e) ∙ parts.0)) in
     rw other (lookup_fails test word rows parts.1 fails)
+
+-- a word that passes a test has the class that it has by the rows whose words pass it
+pub lookup_passing : (test : Text → Bool) (word : Text) (rows : List (Text × Class)) → test word ≡ true → lookup (bytes_eq word) (filter (λ (row : Text × Class). test row.0) rows) ≡ lookup (bytes_eq word) rows
+lookup_passing test word [] passes = refl
+lookup_passing test word (row ∷ rows) passes = go _ (test row.0) refl (lookup_passing test word rows passes)
+  where
+    go : (rest : List (Text × Class)) (b : Bool) → test row.0 ≡ b → lookup (bytes_eq word) rest ≡ lookup (bytes_eq word) rows → lookup (bytes_eq word) (cond b (row ∷ rest) rest) ≡ lookup (bytes_eq word) (row ∷ rows)
+    go rest true is same = ap (cond (bytes_eq word row.0) (Some row.1)) same
+    go rest false is same =
+        let other : bytes_eq word row.0 ≡ false = false_from_ne_true _ (λ e. both_ways _ is (sym (ap test ((bytes_eq-Decides word row.0).0 e)) ∙ passes)) in
+        rw other same
 
 -- whether a word begins with another byte, or is empty
 abbrev pub begins_otherwise : ℕ → Text → Bool

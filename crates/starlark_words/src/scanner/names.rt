@@ -1,7 +1,7 @@
 //! Words that begin with a letter or `_`: keywords, reserved words, identifiers, and openers with a
 //! prefix.
 
-ghost use Rattle.std.specs.Prelude.{◌≡◌, ◌<◌, ◌+◌, ◌-◌, ◌*◌, ◌^◌, ◌++◌, ◌∷◌, [], IfSome, None, Some, false, length, take, true};
+ghost use Rattle.std.specs.Prelude.{◌≡◌, ◌<◌, ◌+◌, ◌-◌, ◌*◌, ◌^◌, ◌++◌, ◌∷◌, [], IfSome, None, Some, false, length, take, true, unwrap_or};
 ghost use Rattle.std.specs.List.{prefix_len};
 ghost use Rattle.std.specs.Map.{lookup};
 ghost use Rattle.std.specs.Str.{bytes_eq};
@@ -11,6 +11,7 @@ ghost use Rattle.starlark_words.specs.Inner.ScannedWords.{class_of_name, listing
 ghost use Rattle.starlark_grammar.specs.Items.{quote_byte};
 ghost use Rattle.starlark_grammar.specs.Words as grammar;
 ghost use Rattle.starlark_grammar.specs.declared.class.Class.TheVariants as class;
+ghost use Rattle.starlark_words.specs.declared.scanner.names.Listing.TheVariants as listing;
 
 use super::{Class, LiteralKind, Quote, Terminal, Word};
 use crate::names::name_len;
@@ -71,24 +72,41 @@ fn may_be_listed(name: &[u8]) -> bool
     }
 }
 
-/// A `match` of a name on the keywords and reserved words.
+/// Entry of a word of `N` bytes in rows of such words.
+// The word is an array: two of a known length are compared without a call.
+#[inline(always)]
+fn entry_in<const N: usize>(rows: &[([u8; N], Listing)], word: &[u8]) -> Listing
+    requires { length word.now ≡ N }
+    ensures { result ≡ unwrap_or (lookup (bytes_eq word.now) rows.now) listing.Not }
+{
+    let Some(word) = word.as_array::<N>() else {
+        return Listing::Not;
+    };
+    for (listed, entry) in rows {
+        if word == listed {
+            return *entry;
+        }
+    }
+    Listing::Not
+}
+
+/// A search of a name in the rows of its length.
 macro_rules! listing_in {
     (($name:ident) symbols $symbols:tt names { $($len:literal {
         $($bytes:literal $text:literal $keyword:ident = $number:literal,)*;
         $($reserved:literal $word:literal),*
     })* }) => {
-        match $name {
-            $(
-                $($bytes => Listing::Keyword(Terminal::$keyword),)*
-                $($reserved => Listing::Reserved,)*
-            )*
+        match $name.len() {
+            $($len => entry_in(&[
+                $((*$bytes, Listing::Keyword(Terminal::$keyword)),)*
+                $((*$reserved, Listing::Reserved),)*
+            ], $name),)*
             _ => Listing::Not,
         }
     };
 }
 
 /// Entry of a name in the table of keywords and reserved words.
-#[tactic(auto, unfolding(starlark_grammar::specs::Words::names))]
 #[inline(never)]
 fn listing_of(name: &[u8]) -> Listing
     ensures { listing_view result ≡ class_of_name name.now }
