@@ -16,7 +16,7 @@ import textwrap
 from shared.programs import TOP
 
 PAGE = TOP / "docs/API.md"
-CRATES = ["starlark_text", "starlark_base", "starlark_syntax", "starlark_document", "starlark_devices", "starlark_run"]
+CRATES = ["starlark_text", "starlark_base", "starlark_errors", "starlark_recovery", "starlark_syntax", "starlark_document", "starlark_devices", "starlark_run"]
 HEAD = """# Public items
 
 Made by `scripts/api.py` from the sources; `.ci/run` compares it with them. Whole comments and

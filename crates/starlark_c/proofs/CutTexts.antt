@@ -19,7 +19,7 @@ use Rattle.starlark_grammar.proofs.Joining.CleanCuts.{cuts_join}
 use Rattle.starlark_grammar.proofs.Joining.LineCuts.{kept_parts}
 use Rattle.starlark_grammar.proofs.Joining.Tabs.{HasTab, after_tab, first_margin_is, tab}
 use Rattle.starlark_grammar.proofs.Reading.Readings.{one_longest, read_is}
-use Rattle.starlark_syntax.proofs.LexedTexts.KeptCuts.{kept_some}
+use Rattle.starlark_lexemes.proofs.LexerCuts.{kept_some}
 use Rattle.starlark_syntax.specs.CutAfter.{IsCutAfter}
 use Rattle.starlark_token.specs.Lexemes.{shown_lexeme}
 

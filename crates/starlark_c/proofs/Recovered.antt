@@ -16,10 +16,10 @@ use Rattle.starlark_c.proofs.AddedItems.{IsNeed, have_more, have_none, need, no_
 use Rattle.starlark_c.proofs.Filled.{same_length}
 use Rattle.starlark_grammar.specs.Tokens.{Fault, Spanned}
 use Rattle.starlark_grammar.specs.Words.{Text}
-use Rattle.starlark_syntax.proofs.NextItems.{IsNext, next_none}
+use Rattle.starlark_lexemes.proofs.NextItems.{IsNext, next_none}
 use Rattle.starlark_syntax.specs.Lexer.{Answers, AnswersNext}
 use Rattle.starlark_syntax.specs.RecoveringLexer.{all_items}
-use Rattle.starlark_syntax.specs.declared.error.kinds.ErrorKind.{ErrorKind}
+use Rattle.starlark_errors.specs.declared.error.kinds.ErrorKind.{ErrorKind}
 use Rattle.starlark_text.specs.declared.or_memory.OrMemory.{OrMemory}
 use Rattle.starlark_text.specs.declared.or_memory.OrMemory.TheVariants as refusal
 use Rattle.starlark_token.specs.Lexemes.{lexeme_view}

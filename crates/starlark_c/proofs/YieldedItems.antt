@@ -10,12 +10,12 @@ use Rattle.starlark_grammar.specs.Tokens.{Fault, Lexeme, Spanned}
 use Rattle.starlark_grammar.specs.Words.{Text}
 use Rattle.starlark_syntax.specs.Exceptions.{IsException, IsFaultIn}
 use Rattle.starlark_syntax.specs.Lexer.{AnswersNext}
-use Rattle.starlark_syntax.specs.declared.error.kinds.ErrorKind.{ErrorKind}
+use Rattle.starlark_errors.specs.declared.error.kinds.ErrorKind.{ErrorKind}
 use Rattle.starlark_text.specs.declared.or_memory.OrMemory.TheVariants as refusal
 use Rattle.starlark_token.specs.Lexemes.{lexeme_view, shown_lexeme}
 use Rattle.starlark_token.specs.TextItems.{Given, LexerItem, Refused, items}
 use Rattle.starlark_token.proofs.NumberedItems.{fault_at, given, only_faults}
-use Rattle.starlark_syntax.proofs.NextItems.{found_fault, found_lexeme, found_none}
+use Rattle.starlark_lexemes.proofs.NextItems.{found_fault, found_lexeme, found_none}
 use Rattle.starlark_token.specs.TokenViews.{TokenView}
 use Rattle.starlark_token.specs.declared.tokens.Token.{Token}
 

@@ -16,7 +16,7 @@ use Rattle.starlark_grammar.proofs.Found.Cuts.{last_newlines_close, newlines_clo
 use Rattle.starlark_grammar.proofs.Found.Order.{none_lexemes}
 use Rattle.starlark_grammar.proofs.Recovery.LineCuts.{left_out_later}
 use Rattle.starlark_syntax.specs.RecoveringLexer.{all_items, shown_item}
-use Rattle.starlark_syntax.proofs.LexedTexts.LastNewlines.{same_newline}
+use Rattle.starlark_lexed_text.proofs.LastNewlines.{same_newline}
 use Rattle.starlark_token.specs.Lexemes.{shown, shown_lexeme}
 use Rattle.starlark_token.specs.TextItems.{Given, LexerItem}
 use Rattle.starlark_token.specs.TokenViews.{TokenView, Whole, is_newline_view}

@@ -14,7 +14,7 @@ use Rattle.starlark_grammar.specs.Words.{Text}
 use Rattle.starlark_syntax.specs.Joining.{begins_plainly}
 use Rattle.starlark_syntax.specs.Exceptions.{IsException}
 use Rattle.starlark_syntax.specs.Lexer.{Answers}
-use Rattle.starlark_syntax.specs.declared.error.kinds.ErrorKind.{ErrorKind}
+use Rattle.starlark_errors.specs.declared.error.kinds.ErrorKind.{ErrorKind}
 use Rattle.starlark_text.specs.declared.or_memory.OrMemory.TheVariants as refusal
 use Rattle.starlark_token.specs.Lexemes.{lexeme_view}
 use Rattle.starlark_token.specs.TextItems.{LexerItem, Given, Refused}

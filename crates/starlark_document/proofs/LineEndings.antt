@@ -9,7 +9,7 @@ use Rattle.starlark_syntax.specs.Joining.{has_newline, without_last_newline}
 use Rattle.starlark_token.specs.Lexemes.{lexeme_view, shown_lexeme}
 use Rattle.starlark_token.specs.TokenViews.{is_newline_view, token_view}
 use Rattle.starlark_token.specs.declared.tokens.Token.{Token}
-use Rattle.starlark_syntax.proofs.LexedTexts.LastNewlines.{same_newline}
+use Rattle.starlark_lexed_text.proofs.LastNewlines.{same_newline}
 
 or_false : (a b : Bool) → a || b ≡ false → (a ≡ false) × (b ≡ false)
 or_false false b e = (refl, e)

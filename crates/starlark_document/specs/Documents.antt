@@ -12,9 +12,9 @@ use Rattle.starlark_grammar.specs.Tokens as grammar
 use Rattle.starlark_grammar.specs.Words.{Text}
 use Rattle.starlark_grammar.specs.Found.{faults_in, found, lexemes_in}
 use Rattle.starlark_syntax.specs.RecoveringLexer.{most_reads_on}
-use Rattle.starlark_syntax.specs.declared.error.kinds.ErrorKind.{ErrorKind}
-use Rattle.starlark_syntax.specs.declared.error.kinds.ErrorKind.TheVariants.{Parser}
-use Rattle.starlark_syntax.specs.declared.error.kinds.ParserMessage.TheVariants.{Lexeme}
+use Rattle.starlark_errors.specs.declared.error.kinds.ErrorKind.{ErrorKind}
+use Rattle.starlark_errors.specs.declared.error.kinds.ErrorKind.TheVariants.{Parser}
+use Rattle.starlark_errors.specs.declared.error.kinds.ParserMessage.TheVariants.{Lexeme}
 use Rattle.starlark_token.specs.declared.lexeme_error.LexemeError.{LexemeError}
 use Rattle.starlark_token.specs.Lexemes.{fault_view, shown_lexeme}
 use Rattle.starlark_token.specs.TokenViews.{TokenView, token_view}

@@ -160,7 +160,8 @@ fn whole_segment(
     Ok(None)
 }
 
-/// The first segment of a text: up to where it can be cut, or the whole text, as `whole_segment` says.
+/// The first segment of a text: up to where it can be cut, or the whole text, as `whole_segment`
+/// says.
 fn first_segment(
     alloc: Global,
     text: &str,
@@ -182,7 +183,7 @@ fn first_segment(
 
 /// Takes items from the lexer of a text, up to where the text can be cut or to its end. Returns
 /// whether it can be cut.
-// It borrows the lexer and the front: a loop that owns them takes ten times as long to prove.
+// It borrows the lexer and the front: a loop that owns them takes four times as long to prove.
 fn take_front(
     lexer: &mut RecoveringLexer<'_>,
     text: &str,

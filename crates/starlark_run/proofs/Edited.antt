@@ -11,7 +11,7 @@ use Rattle.starlark_grammar.specs.Tokens.{Fault, Spanned}
 use Rattle.starlark_run.specs.Edits.{edited_text, text_after, text_after_one}
 use Rattle.starlark_run.specs.Inner.EditedTexts.{AreVersions, AreVersionsAfter, AreVersionsLexed, AreVersionsRelexed, Fits, Follows, IsRefusal, IsVersion, newest_text}
 use Rattle.starlark_run.specs.Relexed.{AreLexed, AreRelexed, IsCutBefore, IsReadOn}
-use Rattle.starlark_syntax.specs.declared.error.kinds.ErrorKind.{ErrorKind}
+use Rattle.starlark_errors.specs.declared.error.kinds.ErrorKind.{ErrorKind}
 use Rattle.starlark_base.specs.declared.edit.Edit.{Edit}
 use Rattle.starlark_run.specs.declared.edited_texts.Version.{Version}
 use Rattle.starlark_syntax.specs.LexedTexts.{IsFaultIn, IsLexed, IsReadFrom, LexedView}

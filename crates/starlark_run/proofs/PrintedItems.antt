@@ -13,9 +13,9 @@ use Rattle.starlark_base.specs.Spans.{ByteSpan}
 use Rattle.starlark_base.specs.declared.codemap.file_span.FileSpan.{FileSpan}
 use Rattle.starlark_syntax.specs.Errors.{kind_text, message_text}
 use Rattle.starlark_token.specs.FaultTexts.{fault_text}
-use Rattle.starlark_syntax.specs.declared.error.kinds.ErrorKind.{ErrorKind}
-use Rattle.starlark_syntax.specs.declared.error.kinds.ErrorKind.TheVariants.{Parser}
-use Rattle.starlark_syntax.specs.declared.error.kinds.ParserMessage.TheVariants as message
+use Rattle.starlark_errors.specs.declared.error.kinds.ErrorKind.{ErrorKind}
+use Rattle.starlark_errors.specs.declared.error.kinds.ErrorKind.TheVariants.{Parser}
+use Rattle.starlark_errors.specs.declared.error.kinds.ParserMessage.TheVariants as message
 use Rattle.starlark_token.specs.declared.lexeme_error.LexemeError.{LexemeError}
 use Rattle.starlark_token.specs.declared.lexeme_error.LexemeError.TheVariants as error
 use Rattle.starlark_grammar.specs.Gaps.{InOrder}

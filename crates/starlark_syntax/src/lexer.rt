@@ -1,12 +1,10 @@
 //! The lexer, one that goes on after faults, lexed texts, tokens, and errors of lexing.
 
-mod source_error;
-
-pub use crate::lexed_text::LexedText;
-pub use crate::lexemes::{Lexeme, Lexer};
-pub use crate::plain_lexeme::{PlainKind, PlainLexeme};
-pub use crate::recovering_lexer::RecoveringLexer;
-pub use source_error::SourceError;
+pub use starlark_lexed_text::lexed_text::LexedText;
+pub use starlark_lexemes::lexemes::{Lexeme, Lexer};
+pub use starlark_lexemes::plain_lexeme::{PlainKind, PlainLexeme};
+pub use starlark_lexemes::source_error::SourceError;
+pub use starlark_recovery::recovering_lexer::RecoveringLexer;
 pub use starlark_token::big_int::BigInt;
 pub use starlark_token::fstring_style::{FStringConv, FStringQuote};
 pub use starlark_token::lexeme_error::LexemeError;

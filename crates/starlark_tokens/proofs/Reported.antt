@@ -14,9 +14,9 @@ use Rattle.starlark_run.specs.Output.{message_of}
 use Rattle.starlark_syntax.specs.Errors.{kind_text}
 use Rattle.starlark_syntax.specs.Exceptions.{IsException}
 use Rattle.starlark_syntax.specs.Lexer.{Answers}
-use Rattle.starlark_syntax.specs.declared.error.kinds.ErrorKind.{ErrorKind}
-use Rattle.starlark_syntax.specs.declared.error.kinds.ErrorKind.TheVariants.{Parser}
-use Rattle.starlark_syntax.specs.declared.error.kinds.ParserMessage.TheVariants as message
+use Rattle.starlark_errors.specs.declared.error.kinds.ErrorKind.{ErrorKind}
+use Rattle.starlark_errors.specs.declared.error.kinds.ErrorKind.TheVariants.{Parser}
+use Rattle.starlark_errors.specs.declared.error.kinds.ParserMessage.TheVariants as message
 use Rattle.starlark_text.specs.declared.or_memory.OrMemory.TheVariants as refusal
 use Rattle.starlark_token.specs.FaultCodes.{fault_code}
 use Rattle.starlark_token.specs.Lexemes.{fault_view}

@@ -9,7 +9,7 @@ use Rattle.starlark_c.specs.declared.recovered_endings.RecoveredEnding.TheVarian
 use Rattle.starlark_c.specs.declared.recovering.Taken.{Taken}
 use Rattle.starlark_c.specs.declared.recovering.Taken.TheVariants as taken
 use Rattle.starlark_syntax.specs.RecoveringLexer.{left_after}
-use Rattle.starlark_syntax.specs.declared.error.kinds.ErrorKind.{ErrorKind}
+use Rattle.starlark_errors.specs.declared.error.kinds.ErrorKind.{ErrorKind}
 use Rattle.starlark_text.specs.declared.or_memory.OrMemory.{OrMemory}
 use Rattle.starlark_text.specs.declared.or_memory.OrMemory.TheVariants as refusal
 use Rattle.starlark_token.specs.TextItems.{LexerItem}

@@ -1,6 +1,6 @@
 use Rattle.std.proofs.Common.{ap, ◌∙◌}
 use Rattle.starlark_c.specs.RecoveredTexts.{capped_counts, sums}
-use Rattle.starlark_syntax.proofs.NextItems.{answers_fault, answers_lexeme}
+use Rattle.starlark_lexemes.proofs.NextItems.{answers_fault, answers_lexeme}
 use Rattle.starlark_c.proofs.recovering.count_item.Goals as goal
 
 pub returns-in-Ok-clause-counts : goal.returns-in-Ok-clause-counts

@@ -1,5 +1,5 @@
 use Rattle.starlark_c.proofs.Recovered.{goes_after_fault, goes_after_lexeme}
-use Rattle.starlark_syntax.proofs.NextItems.{answers_fault, answers_lexeme}
+use Rattle.starlark_lexemes.proofs.NextItems.{answers_fault, answers_lexeme}
 use Rattle.starlark_c.proofs.recovering.take_item.Goals as goal
 
 pub returns-in-Ok-clause-takes : goal.returns-in-Ok-clause-takes

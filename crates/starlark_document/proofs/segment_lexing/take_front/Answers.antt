@@ -2,7 +2,7 @@ use Rattle.std.proofs.Common.{◌≡◌, ◌∷◌, ◌++◌, List, ℕ, Some, [
 use Rattle.starlark_syntax.specs.RecoveringLexer.{AreReadsOn, HasReadOn, RecoveringView, all_items, is_memory}
 use Rattle.starlark_document.proofs.Costs.{goes_on, reads_on}
 use Rattle.starlark_document.specs.Inner.LexedFronts.{IsLexedFront}
-use Rattle.starlark_syntax.proofs.NextItems.{next_item, next_none}
+use Rattle.starlark_lexemes.proofs.NextItems.{next_item, next_none}
 use Rattle.starlark_document.proofs.segment_lexing.take_front.Goals as goal
 
 pub loop-item-init : goal.loop-item-init

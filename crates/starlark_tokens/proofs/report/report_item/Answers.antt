@@ -1,7 +1,7 @@
 use Rattle.std.proofs.Common.{◌≡◌, ◌∙◌, ap, string_bytes, subst, sym}
 use Rattle.std.specs.Prelude.{IsSome, option_copied}
 use Rattle.starlark_base.specs.Diagnostics.{Diagnosed}
-use Rattle.starlark_syntax.specs.declared.error.kinds.ErrorKind.{ErrorKind}
+use Rattle.starlark_errors.specs.declared.error.kinds.ErrorKind.{ErrorKind}
 use Rattle.starlark_tokens.proofs.Reported.{given_report, refused_report, some_read, thrown_span}
 use Rattle.starlark_tokens.proofs.report.report_item.Goals as goal
 

@@ -7,7 +7,7 @@ use Rattle.starlark_tokens.specs.Reports.{is_fault, item_report, items_report, p
 use Rattle.starlark_tokens.proofs.ReportWrites.{no_memory, same_error, stops_later, stops_longer, took_nil, took_then, written_all}
 use Rattle.starlark_tokens.specs.ReportWrites.{StopsWithin, Took}
 use Rattle.starlark_tokens.proofs.Reported.{count_all, count_cons, report_all, report_cons, report_nil}
-use Rattle.starlark_syntax.proofs.NextItems.{next_item, next_none}
+use Rattle.starlark_lexemes.proofs.NextItems.{next_item, next_none}
 use Rattle.starlark_tokens.proofs.report.report_text.Goals as goal
 
 none_before : (n : ℕ) → 0 + n ≡ n

@@ -1,6 +1,6 @@
 use Rattle.std.proofs.Common.{◌∙◌, ap, drop}
 use Rattle.std.proofs.lemmas.List.{take_rest}
-use Rattle.starlark_syntax.proofs.RestartPlaces.{after_line_end}
+use Rattle.starlark_recovery.proofs.RestartPlaces.{after_line_end}
 use Rattle.starlark_tokens.proofs.shown_places.margin_line.Goals as goal
 
 pub range_from-requires : goal.range_from-requires

@@ -1,7 +1,7 @@
 use Rattle.std.proofs.Common.{◌≡◌, ap, sym, ◌∙◌}
 use Rattle.std.specs.Prelude.{option_copied}
 use Rattle.starlark_base.specs.Diagnostics.{Diagnosed}
-use Rattle.starlark_syntax.specs.declared.error.kinds.ErrorKind.{ErrorKind}
+use Rattle.starlark_errors.specs.declared.error.kinds.ErrorKind.{ErrorKind}
 use Rattle.starlark_run.proofs.PrintedItems.{exception_line, fault_placed}
 use Rattle.starlark_run.proofs.printer.Printer.exception.Goals as goal
 

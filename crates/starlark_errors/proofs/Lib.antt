@@ -1,0 +1,3 @@
+-- Where each proof is.
+-- ErrorRows: worked rows, by computing.
+mod ErrorRows

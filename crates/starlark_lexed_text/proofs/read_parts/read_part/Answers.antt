@@ -1,0 +1,71 @@
+use Rattle.std.proofs.Common.{◌≡◌, ◌++◌, IfSome, Some, arith, ap, length, refl, subst, sym, ℕ, ◌∙◌, rules}
+use Rattle.std.specs.List.{ends_with}
+use Rattle.std.specs.Option.{is_some}
+use Rattle.std.specs.Prelude.{◌&&◌, Option, codes, nat_eq}
+use Rattle.starlark_grammar.specs.Cuts.{is_clean_cut, is_settled}
+use Rattle.starlark_grammar.specs.Words.{Text}
+use Rattle.starlark_reader.specs.Inner.MarginCuts.{IsCutBefore}
+use Rattle.starlark_reader.specs.Inner.Reader.{IsStateAfter}
+use Rattle.starlark_lexed_text.specs.Inner.LexedTexts.{IsMet, cuts_at, end_cuts}
+use Rattle.starlark_lexemes.specs.Inner.LexerStates.{StateView, left_in}
+use Rattle.starlark_lexemes.proofs.LexerCuts.{cut_kept}
+use Rattle.starlark_lexed_text.proofs.Collected.{AreCutsSoFar, all_given, collected_none, fault_given, goes_on, less_left, no_cuts_yet, none_collected, pushed_one, settled_is, some_given, text_is}
+use Rattle.starlark_lexed_text.proofs.MetTexts.{met_front}
+use Rattle.starlark_lexed_text.proofs.read_parts.read_part.Goals as goal
+
+pub loop-item-init : goal.loop-item-init
+loop-item-init c = record {
+  collected = collected_none c.args.state.now c.new-lexemes.result.items c.new-lexemes.ensures.items c.requires.lexing c.requires.begun;
+  cuts = subst (λ n. AreCutsSoFar c.args.state.now.reader.text.now n c.new-cuts.result.items) (sym (ap length c.new-lexemes.ensures.items)) (no_cuts_yet c.args.state.now.reader.text.now c.new-cuts.result.items c.new-cuts.ensures.items);
+}
+
+pub loop-item-preserved : goal.loop-item-preserved
+loop-item-preserved c =
+    let going = goes_on _ c.loop-item.state c.loop-item.lexemes.items c.loop-item.invariant.collected in
+    let after = rw (c.in-Ok.is, going) at c.in-Some.ensures.after in
+    let kept = cut_kept c.next.new.self c.cut-place.result c.in-Some.ensures.lexing (ap (λ (v : StateView). v.has_ended) after) c.cut-place.ensures.kept in
+    let pushed = pushed_one c.args.state.now.reader.text.now c.loop-item.state c.next.new.self c.loop-item.lexemes.items c.push.new.self.items c.in-Ok.lexeme c.loop-item.cuts.items c.push_cut.new.cuts.items c.cut-place.result c.len.result c.loop-item.invariant.collected c.loop-item.invariant.cuts
+    (rw c.in-Ok.is at (c.in-Some.ensures.answer going)) c.in-Some.ensures.lexing after c.in_ok-push.ensures.items kept c.cut-place.ensures.reached (omega (arith, c.len.ensures, c.push.new.self.ok)) c.in_ok-push_cut.ensures in
+    search rules
+
+pub returns-in-Some-meeting_at-clause-met : goal.returns-in-Some-meeting_at-clause-met
+returns-in-Some-meeting_at-clause-met c =
+    let going = goes_on _ c.loop-item.state c.loop-item.lexemes.items c.loop-item.invariant.collected in
+    let after = rw (c.in-Ok.is, going) at c.in-Some.ensures.after in
+    let kept = cut_kept c.next.new.self c.cut-place.result c.in-Some.ensures.lexing (ap (λ (v : StateView). v.has_ended) after) c.cut-place.ensures.kept in
+    let pushed = pushed_one c.args.state.now.reader.text.now c.loop-item.state c.next.new.self c.loop-item.lexemes.items c.push.new.self.items c.in-Ok.lexeme c.loop-item.cuts.items c.push_cut.new.cuts.items c.cut-place.result c.len.result c.loop-item.invariant.collected c.loop-item.invariant.cuts
+    (rw c.in-Ok.is at (c.in-Some.ensures.answer going)) c.in-Some.ensures.lexing after c.in_ok-push.ensures.items kept c.cut-place.ensures.reached (omega (arith, c.len.ensures, c.push.new.self.ok)) c.in_ok-push_cut.ensures in
+    let text = c.args.state.now.reader.text.now in
+    let same = text_is text c.next.new.self c.push.new.self.items pushed.collected in
+    let counted : c.len.result ≡ length c.push.new.self.items = omega (arith, c.len.ensures, c.push.new.self.ok) in
+    let reached : c.cut-place.result ≡ Some c.in-Some-meeting_at.meeting.at = c.in-Some-meeting_at.ensures.place in
+    let before : IsCutBefore text c.in-Some-meeting_at.meeting.at (length (left_in c.next.new.self)) = subst (λ (t : Text). IsCutBefore t c.in-Some-meeting_at.meeting.at (length (left_in c.next.new.self))) same (subst (λ (found : Option ℕ). IfSome found (λ at. IsCutBefore c.next.new.self.reader.text.now at (length (left_in c.next.new.self)))) reached kept) in
+    let last : c.push_cut.new.cuts.items ≡ c.loop-item.cuts.items ++ cuts_at (Some c.in-Some-meeting_at.meeting.at) (length c.push.new.self.items) = c.in_ok-push_cut.ensures ∙ ap (λ n. c.loop-item.cuts.items ++ cuts_at c.cut-place.result n) counted ∙ ap (λ (found : Option ℕ). c.loop-item.cuts.items ++ cuts_at found (length c.push.new.self.items)) reached in (
+      subst (λ (t : Text). IsMet t c.args.known.now c.args.known_cuts.now c.in-Some-meeting_at.meeting) same c.in-Some-meeting_at.ensures.met,
+      met_front text c.next.new.self c.loop-item.cuts.items c.in-Some-meeting_at.meeting.at _ pushed.collected before pushed.cuts last,
+    )
+
+pub loop-item-smaller : goal.loop-item-smaller
+loop-item-smaller c = search (rules, goes_on, pushed_one, less_left)
+
+pub returns-in-Some-take_fault-clause-part : goal.returns-in-Some-take_fault-clause-part
+returns-in-Some-take_fault-clause-part c = λ none.
+    let mid = none_collected _ c.loop-item.state c.next.new.self c.next.result c.loop-item.lexemes.items (ap is_some c.in_default.is) c.loop-item.invariant.collected c.next.ensures.lexing c.next.ensures.after in
+    let last = c.in-Some-take_fault.ensures.last (goes_on _ c.next.new.self c.loop-item.lexemes.items mid) in
+    fault_given _ c.next.new.self c.take_fault.new.self _ c.in-Some-take_fault.fault mid last c.loop-item.invariant.cuts refl refl c.has_read_none.ensures
+
+pub with_end_cut-requires : goal.with_end_cut-requires
+with_end_cut-requires c = search (rules, none_collected, some_given, goes_on)
+
+pub returns-clause-part : goal.returns-clause-part
+returns-clause-part c = λ none.
+    let text = c.args.state.now.reader.text.now in
+    let mid = none_collected text c.loop-item.state c.next.new.self c.next.result c.loop-item.lexemes.items (ap is_some c.in_default.is) c.loop-item.invariant.collected c.next.ensures.lexing c.next.ensures.after in
+    let last = c.in_default-take_fault.ensures.last (goes_on text c.next.new.self c.loop-item.lexemes.items mid) in
+    let same : c.take_fault.new.self.reader.text.now ≡ text = ap (λ (v : StateView). v.text) c.take_fault.ensures.after ∙ text_is text c.next.new.self c.loop-item.lexemes.items mid in
+    let is_cut : c.is_clean_cut-is_cut.result ≡ is_clean_cut text =
+    settled_is text c.next.new.self c.take_fault.new.self c.loop-item.lexemes.items c.is_clean_cut-is_cut.result mid last
+    (λ history after. c.is_clean_cut-is_cut.ensures.value history (subst (λ (t : Text). IsStateAfter t history c.take_fault.new.self.reader) (sym same) after) ∙ ap (λ (t : Text). is_settled history && ends_with nat_eq t (codes "\n")) same) in
+    let cuts : c.in_ok-cuts.cuts.items ≡ c.loop-item.cuts.items ++ end_cuts text (length c.loop-item.lexemes.items) c.is_clean_cut-is_cut.result =
+    rw (c.in_ok-cuts.ensures, c.deref.ensures.value) refl in
+    all_given text c.next.new.self c.take_fault.new.self _ c.loop-item.cuts.items mid last refl c.loop-item.invariant.cuts cuts is_cut refl

@@ -1,0 +1,2 @@
+-- Definitions that only contracts of inner functions, and proofs, cite.
+pub mod LexedTexts

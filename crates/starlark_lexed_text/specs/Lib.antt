@@ -1,0 +1,2 @@
+pub mod LexedTexts
+pub mod Inner

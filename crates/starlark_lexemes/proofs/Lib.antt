@@ -1,0 +1,19 @@
+-- Where each proof is. What belongs to one function is in a folder that has its name.
+-- LexerReads: reads: of a piece, after each step, and of the lexer by its lookahead.
+-- LexerItems, LexerStates: items: items by their number, inside of the text; what a call on the state returns is
+--   the next.
+-- FoundWords, PlainLexemes: the fast path: the state at a word that the scanner has found, and after a lexeme was
+--   passed; a plain lexeme as the grammar sees it.
+-- LexerCuts: where a lexer may cut its text.
+-- NextItems: what is left: the first of it, which is answered next.
+-- RepairedStates: a lexer that goes on in a text with a repair.
+-- MovedFaults: exceptions of faults that are moved.
+pub mod FoundWords
+pub mod LexerItems
+pub mod LexerCuts
+pub mod LexerReads
+pub mod LexerStates
+pub mod PlainLexemes
+pub mod NextItems
+pub mod RepairedStates
+pub mod MovedFaults

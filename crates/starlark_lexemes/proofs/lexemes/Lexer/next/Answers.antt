@@ -1,0 +1,74 @@
+use Rattle.std.proofs.Common.{◌≡◌, true, false, subst, ℕ, Some, Err, Result, rules}
+use Rattle.std.specs.Prelude.{Option}
+use Rattle.std.specs.Option.{is_some}
+use Rattle.starlark_base.specs.Diagnostics.{Diagnosed}
+use Rattle.starlark_lexemes.specs.Inner.LexerStates.{has_fault}
+use Rattle.starlark_lexemes.specs.Lexer.{AnswersBetween, AnswersNext, LexerView}
+use Rattle.starlark_errors.specs.declared.error.kinds.ErrorKind.{ErrorKind}
+use Rattle.starlark_text.specs.declared.or_memory.OrMemory.{OrMemory}
+use Rattle.starlark_token.specs.declared.tokens.Token.{Token}
+use Rattle.starlark_lexemes.proofs.LexerCuts.{answers_cut}
+use Rattle.starlark_lexemes.proofs.LexerItems.{next_between, some_item}
+use Rattle.starlark_lexemes.proofs.LexerStates.{answers_item, answers_read, answers_within, ends_here, fault_going, moved_item, none_at_end, none_same, thrown_item, thrown_read, thrown_within}
+use Rattle.starlark_lexemes.proofs.PlainLexemes.{some_going, whole_going}
+use Rattle.starlark_lexemes.proofs.lexemes.Lexer.next.Goals as goal
+
+pub returns-then-is_some-clause-item : goal.returns-then-is_some-clause-item
+returns-then-is_some-clause-item c = search (rules, some_going, answers_item)
+
+pub returns-then-is_some-clause-within : goal.returns-then-is_some-clause-within
+returns-then-is_some-clause-within c = search (rules, some_going, answers_within)
+
+pub returns-then-is_some-clause-between : goal.returns-then-is_some-clause-between
+returns-then-is_some-clause-between c =
+    let some : is_some c.next-item.result ≡ true = (let is = c.is_some.ensures in let yes = c.if-is_some.true in cc) in
+    let going = some_going c.self.inside.state c.next-item.result c.next-item.new.self some c.next-item.ensures.ended in
+    rw (← c.self.view_is)
+    (next_between c.self.inside.state.reader.text.now c.self.inside.code_map c.self.inside.state.yielded_count c.next-item.result c.self.invariant.0.0.utf8
+    (answers_item c.self.inside.code_map c.self.inside.state c.next-item.result c.next-item.new.self some (c.self.invariant.0.1 going).0 (c.next-item.ensures.answer going)))
+
+pub returns-then-is_some-clause-cut : goal.returns-then-is_some-clause-cut
+returns-then-is_some-clause-cut c = search (rules, some_going, answers_cut)
+
+pub returns-then-is_some-clause-reads : goal.returns-then-is_some-clause-reads
+returns-then-is_some-clause-reads c = search (rules, some_going, answers_read)
+
+pub returns-then-self-clause-item : goal.returns-then-self-clause-item
+returns-then-self-clause-item c = search (rules, some_item)
+
+pub returns-then-not-has_fault-clause-item : goal.returns-then-not-has_fault-clause-item
+returns-then-not-has_fault-clause-item c = λ on.
+    let none : is_some c.next-item.result ≡ false = (let is = c.is_some.ensures in let no = c.if-is_some.false in cc) in
+    let going = whole_going c.self.inside.state c.self.inside.code_map c.self.inside.has_run_out _ c.if-self.false c.self.view_is on in
+    let faultless : has_fault c.next-item.new.self ≡ false = (let is = c.has_fault.ensures in let no = c.if-not-has_fault.true in cc) in
+    rw (← c.self.view_is) (ends_here c.self.inside.code_map c.self.inside.state c.next-item.result c.next-item.new.self none c.next-item.ensures.lexing going (c.next-item.ensures.answer going) c.next-item.ensures.after faultless).0
+
+pub returns-then-not-has_fault-clause-reads : goal.returns-then-not-has_fault-clause-reads
+returns-then-not-has_fault-clause-reads c = search (rules, whole_going, ends_here)
+
+-- where a fault was reached, its exception is returned, or out of memory in its place
+
+pub take_exception-requires-clause-end : goal.take_exception-requires-clause-end
+take_exception-requires-clause-end c = search (rules, none_same, none_at_end, fault_going)
+
+pub returns-clause-item : goal.returns-clause-item
+returns-clause-item c = λ on.
+    let same = none_same c.self.inside.state c.next-item.result c.next-item.new.self (let is = c.is_some.ensures in let no = c.if-is_some.false in cc) c.next-item.ensures.after in
+    let few = (c.next-item.ensures.lexing.1 (fault_going c.next-item.new.self (let is = c.has_fault.ensures in let yes = c.if-not-has_fault.false in cc))).0 in
+    rw (← c.self.view_is) (moved_item {A = Option (Result (ℕ × Token × ℕ) (OrMemory (Diagnosed ErrorKind)))} (AnswersNext c.self.inside.code_map) c.self.inside.state c.next-item.new.self (Some (Err c.take_exception.result)) same.0
+    (thrown_item c.self.inside.code_map c.next-item.new.self c.take_exception.result c.take_exception.new.self few c.take_exception.ensures.thrown))
+
+pub returns-clause-within : goal.returns-clause-within
+returns-clause-within c = search (rules, none_same, thrown_within)
+
+pub returns-clause-between : goal.returns-clause-between
+returns-clause-between c =
+    let same = none_same c.self.inside.state c.next-item.result c.next-item.new.self (let is = c.is_some.ensures in let no = c.if-is_some.false in cc) c.next-item.ensures.after in
+    let few = (c.next-item.ensures.lexing.1 (fault_going c.next-item.new.self (let is = c.has_fault.ensures in let yes = c.if-not-has_fault.false in cc))).0 in
+    subst (λ (v : LexerView). AnswersBetween v.text (Some (Err c.take_exception.result))) c.self.view_is
+    (next_between c.self.inside.state.reader.text.now c.self.inside.code_map c.self.inside.state.yielded_count (Some (Err c.take_exception.result)) c.self.invariant.0.0.utf8
+    (moved_item {A = Option (Result (ℕ × Token × ℕ) (OrMemory (Diagnosed ErrorKind)))} (AnswersNext c.self.inside.code_map) c.self.inside.state c.next-item.new.self (Some (Err c.take_exception.result)) same.0
+    (thrown_item c.self.inside.code_map c.next-item.new.self c.take_exception.result c.take_exception.new.self few c.take_exception.ensures.thrown)))
+
+pub returns-clause-reads : goal.returns-clause-reads
+returns-clause-reads c = search (rules, none_same, thrown_read)

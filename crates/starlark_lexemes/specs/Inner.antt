@@ -1,0 +1,4 @@
+-- Definitions that only contracts of inner functions, and proofs, cite.
+pub mod LexerStates
+pub mod FoundKinds
+pub mod RawItems

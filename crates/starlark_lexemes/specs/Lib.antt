@@ -1,0 +1,6 @@
+pub mod Lexer
+pub mod LexerIterator
+pub mod CutAfter
+pub mod PlainLexemes
+pub mod SourceErrors
+pub mod Inner

@@ -1,0 +1,17 @@
+use Rattle.std.proofs.Common.{None, ap, refl, false}
+use Rattle.starlark_lexemes.specs.Inner.LexerStates.{StateView}
+use Rattle.starlark_recovery.specs.RecoveringLexer.{all_items}
+use Rattle.starlark_recovery.specs.declared.recovery_state.RecoveryState.{RecoveryState}
+use Rattle.starlark_words.specs.Inner.Reads.{more_reads}
+use Rattle.starlark_recovery.proofs.RecoverySteps.{left_start, recovering_start, views}
+use Rattle.starlark_recovery.proofs.recovery_state.RecoveryState.new.Goals as goal
+
+pub returns-clause-recovering : goal.returns-clause-recovering
+returns-clause-recovering c = recovering_start _ c.args.text.now c.args.code_map c.utf8.text c.requires c.new.ensures.text c.new.ensures.none refl c.new-2.ensures.begun refl refl refl
+
+pub returns-clause-view : goal.returns-clause-view
+returns-clause-view c =
+    let begun = c.new-2.ensures.begun in
+    let state : RecoveryState = record { alloc = c.args.alloc; mended = c.new.result; begin = 0; state = c.new-2.result; code_map = c.args.code_map; fault_count = 0; comment = None; earlier_reads = 0; held = None } in
+    views _ c.args.text.now c.args.code_map _ (all_items c.args.text.now) 0 0 c.new-2.result.has_ended false _ 0 c.new.ensures.text
+    (left_start state c.args.text.now c.args.code_map c.utf8.text c.requires c.new.ensures.text c.new.ensures.none refl begun refl refl refl) refl (ap (λ (v : StateView). v.has_ended) begun.view) (ap (λ (v : StateView). more_reads 0 v.reads) begun.view)

@@ -1,0 +1,4 @@
+-- Definitions that only contracts of inner functions, and proofs, cite.
+pub mod Passed
+pub mod RecoveryStates
+pub mod MendedTexts

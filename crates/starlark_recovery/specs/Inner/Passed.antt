@@ -1,0 +1,26 @@
+-- Faults that are passed.
+use Rattle.std.specs.Prelude.{◌≡◌, ◌+◌, ℕ, Bool, true, false, drop}
+use Rattle.std.specs.Str.{IsCharBoundary}
+use Rattle.starlark_base.specs.Sources.{SourceFile}
+use Rattle.starlark_grammar.specs.Tokens.{Fault, Spanned, moved}
+use Rattle.starlark_grammar.specs.Words.{Text}
+use Rattle.starlark_lexemes.specs.Lexer.{search_reads}
+use Rattle.starlark_grammar.specs.Recovery.{restart}
+use Rattle.starlark_recovery.specs.declared.passed_faults.Passed.{Passed}
+use Rattle.starlark_errors.specs.Exceptions.{IsException}
+use Rattle.starlark_words.specs.Inner.Reads.{AreReads}
+use Rattle.starlark_token.specs.declared.lexeme_error.LexemeError.{LexemeError}
+use Rattle.starlark_token.specs.declared.lexeme_error.LexemeError.TheVariants.{InvalidTab}
+
+-- the error is that of a tab
+abbrev pub is_tab_error : LexemeError → Bool
+is_tab_error InvalidTab = true
+is_tab_error error = false
+
+-- a fault of a text's part from byte `begin` on was passed: its exception is moved, and lexing goes on after its line, which
+-- was searched for
+pub record HasPassed (file : SourceFile) (text : Text) (begin : ℕ) (fault : Spanned Fault) (passed : Passed) : Type 0 where
+  pub exception : IsException file (moved begin fault) passed.fault
+  pub from : passed.begin ≡ begin + restart (drop begin text) fault
+  pub boundary : IsCharBoundary text passed.begin
+  pub reads : AreReads 1 (search_reads (drop begin text) fault) 0 passed.reads

@@ -1,0 +1,3 @@
+pub mod RecoveringLexer
+pub mod Restarts
+pub mod Inner

@@ -1,0 +1,9 @@
+//! The lexer that goes on after faults.
+#![tactic(auto)]
+
+mod mended_text;
+mod passed_faults;
+pub mod recovering_lexer;
+mod recovery_state;
+mod repairs;
+pub mod restarts;

@@ -1,0 +1,243 @@
+//! The state of a lexer that goes on after faults.
+
+ghost use Rattle.std.specs.Prelude.{◌≡◌, ◌≤◌, ◌<◌, ◌+◌, ◌^◌, ◌||◌, None, false, length, true};
+ghost use Rattle.std.specs.Str.{IsCharBoundary};
+ghost use Rattle.starlark_grammar.specs.Repairs.{keeps_line, repair_end};
+ghost use Rattle.starlark_grammar.specs.Reading.{outcome};
+ghost use Rattle.starlark_grammar.specs.Tokens.{Fault, Spanned};
+ghost use Rattle.starlark_reader.specs.Inner.Reader.{IsRaw};
+ghost use Rattle.starlark_lexemes.specs.Inner.LexerStates.{HasFound, IsLexingIn};
+ghost use Rattle.starlark_recovery.specs.Inner.MendedTexts.{bytes_of};
+ghost use Rattle.starlark_recovery.specs.Inner.Passed.{is_tab_error};
+ghost use Rattle.starlark_lexemes.specs.Inner.RawItems.{OffsetsHold};
+ghost use Rattle.starlark_recovery.specs.Inner.RecoveryStates.{HasPassedOn, IsAdvanced, IsRecovering, IsStopped, is_end, last_comment, part_of, view_of};
+ghost use Rattle.starlark_lexemes.specs.Lexer.{is_ended_by, yielded_by};
+ghost use Rattle.starlark_recovery.specs.RecoveringLexer.{IsNextOf, all_items};
+ghost use Rattle.starlark_token.specs.Lexemes.{IsWithin};
+ghost use Rattle.starlark_token.specs.TokenViews.{token_view};
+
+use crate::mended_text::MendedText;
+use crate::passed_faults::{is_tab, pass};
+use crate::repairs::{keeps_line, repair_end};
+use starlark_base::codemap::{CodeMap, OrMemory};
+use starlark_errors::eval_exception::EvalException;
+use starlark_errors::fault_exception::exception;
+use starlark_lexemes::lexemes::Lexeme;
+use starlark_lexemes::lexer_state::LexerState;
+use starlark_token::lexeme_error::LexemeError;
+use starlark_token::tokens::Token;
+use std::alloc::Global;
+use std::mem;
+
+/// The state of a lexer that goes on after faults.
+///
+/// It lexes a part of the text: from its start, or from the line after the last fault that ended its
+/// line. Faults that keep their lines are repaired, and the state goes on in the mended text.
+#[derive(Drop)]
+pub struct RecoveryState<'a> {
+    alloc: Global,
+    mended: MendedText<'a>,
+    /// Where the part begins, in bytes.
+    begin: usize,
+    state: LexerState<'a>,
+    code_map: CodeMap,
+    fault_count: usize,
+    /// The number of lexemes of the part up to its last comment so far, and where that ends in it.
+    comment: Option<(usize, usize)>,
+    /// Number of reads that found the part, and that looked at the faults which keep their lines.
+    earlier_reads: u64,
+    /// What was found in the mended text, until it is returned.
+    held: Option<Lexeme>,
+}
+
+/// Whether the last of some lexemes is a comment that ends at an offset.
+fn is_end(comment: Option<(usize, usize)>, lexemes: usize, at: usize) -> bool
+    ensures { result ≡ is_end comment lexemes at }
+{
+    match comment {
+        Some((count, end)) => count == lexemes && end == at,
+        None => false,
+    }
+}
+
+impl<'a> RecoveryState<'a> {
+    /// The state at the start of a text. It doesn't allocate.
+    pub(crate) fn new(alloc: Global, text: &'a str, code_map: CodeMap) -> RecoveryState<'a>
+        requires { length text.now < 2 ^ 32 }
+        ensures recovering { IsRecovering result }
+        ensures view { view_of result ≡ record { text = text.now; code_map = code_map; left = all_items text.now; fault_count = 0; has_ended = false; reads = 0 } }
+    {
+        RecoveryState {
+            alloc,
+            mended: MendedText::new(text),
+            begin: 0,
+            state: LexerState::new(alloc, text),
+            code_map,
+            fault_count: 0,
+            comment: None,
+            earlier_reads: 0,
+            held: None,
+        }
+    }
+
+    /// The next item of the part.
+    #[inline(always)]
+    fn advance(
+        &mut self,
+    ) -> Option<Result<(usize, Token, usize), OrMemory<(usize, LexemeError, usize)>>>
+        requires { IsRecovering self.old }
+        ensures ended { self.old.state.has_ended ≡ true → (result ≡ None) × (self.new.state.reader.reads ≡ self.old.state.reader.reads) }
+        ensures found { self.old.state.has_ended ≡ false → HasFound (part_of self.old) self.old.state result self.new.state }
+        ensures lexing { IsLexingIn (part_of self.old) self.new.state }
+        ensures within { OffsetsHold (IsWithin (part_of self.old)) result }
+        ensures between { OffsetsHold (λ from to. IsCharBoundary (part_of self.old) from × IsCharBoundary (part_of self.old) to) result }
+        ensures count { self.new.state.yielded_count ≡ self.old.state.yielded_count + yielded_by result }
+        ensures ends { self.new.state.has_ended ≡ (self.old.state.has_ended || is_ended_by result) }
+        ensures own { self.old.mended.copy ≡ None → self.new.state.reader.text.now ≡ part_of self.old }
+        ensures after { self.new ≡ record self.old { state = self.new.state } }
+    {
+        let Some(copy) = self.mended.copy() else {
+            return self.state.next_item();
+        };
+        let text = self.mended.text();
+        let lent = mem::replace(&mut self.state, LexerState::new(self.alloc, text));
+        let mut state = lent.over(&copy[self.begin..]);
+        let item = state.next_item();
+        self.state = state.over(text);
+        item
+    }
+
+    /// Passes a fault that keeps its line, whose repair ends at a byte of the part.
+    fn keep(&mut self, fault: (usize, LexemeError, usize), end: usize) -> OrMemory<EvalException>
+        requires { (found : Spanned Fault) × IsStopped self.old found × IsRaw found fault × (keeps_line (part_of self.old) (outcome (part_of self.old)).lexemes found ≡ true) × (end ≡ repair_end (part_of self.old) found) }
+        ensures { (found : Spanned Fault) → IsStopped self.old found → IsRaw found fault → keeps_line (part_of self.old) (outcome (part_of self.old)).lexemes found ≡ true → HasPassedOn self.old found result self.new }
+    {
+        let begin = self.begin;
+        let (from, error, to) = fault;
+        let Ok(given) = exception(self.alloc, begin + from, error, begin + to, &self.code_map)
+        else {
+            return OrMemory::Memory;
+        };
+        let repaired = self.mended.repair(self.alloc, begin + from, begin + end);
+        if repaired.is_err() {
+            return OrMemory::Memory;
+        }
+        self.state.go_on(from, end);
+        self.comment = None;
+        self.fault_count += 1;
+        // The first two bytes of the fault were looked at.
+        self.earlier_reads = self.earlier_reads.saturating_add(2);
+        OrMemory::Error(given)
+    }
+
+    /// Passes a fault that ends its line: lexing begins again at the next one.
+    fn restart(&mut self, fault: (usize, LexemeError, usize)) -> OrMemory<EvalException>
+        requires { (found : Spanned Fault) × IsStopped self.old found × IsRaw found fault × (keeps_line (part_of self.old) (outcome (part_of self.old)).lexemes found ≡ false) }
+        ensures { (found : Spanned Fault) → IsStopped self.old found → IsRaw found fault → keeps_line (part_of self.old) (outcome (part_of self.old)).lexemes found ≡ false → HasPassedOn self.old found result self.new }
+    {
+        let mended = self.mended.as_str();
+        let Ok(passed) = pass(self.alloc, mended, self.begin, fault, &self.code_map) else {
+            return OrMemory::Memory;
+        };
+        let reads = self.state.reader.reads.count().saturating_add(passed.reads);
+        self.earlier_reads = self.earlier_reads.saturating_add(reads);
+        self.fault_count += 1;
+        self.begin = passed.begin;
+        self.state = LexerState::new(self.alloc, &self.mended.text()[passed.begin..]);
+        self.comment = None;
+        OrMemory::Error(passed.fault)
+    }
+
+    /// Passes the fault of the part that was taken.
+    // A call: a lexeme needs nothing of it.
+    #[inline(never)]
+    fn pass(&mut self, fault: (usize, LexemeError, usize)) -> OrMemory<EvalException>
+        requires { (found : Spanned Fault) × IsStopped self.old found × IsRaw found fault }
+        ensures { (found : Spanned Fault) → IsStopped self.old found → IsRaw found fault → HasPassedOn self.old found result self.new }
+    {
+        let part = &self.mended.as_str()[self.begin..];
+        let lexemes = self.state.yielded_count - 1;
+        let follows_comment = is_end(self.comment, lexemes, fault.0);
+        if !keeps_line(part, fault.0, &fault.1, follows_comment) {
+            return self.restart(fault);
+        }
+        let end = repair_end(part, fault.0, fault.2, is_tab(&fault.1));
+        self.keep(fault, end)
+    }
+
+    /// Records a lexeme that was yielded, if it is a comment.
+    #[tactic(auto, unfolding(starlark_token::specs::TokenViews::token_view))]
+    #[inline(always)]
+    fn record_comment(&mut self, token: &Token, end: usize)
+        ensures { self.new ≡ record self.old { comment = last_comment (token_view token.now) self.old.state.yielded_count end self.old.comment } }
+    {
+        match token {
+            Token::Comment(_) => self.comment = Some((self.state.yielded_count, end)),
+            _ => {}
+        }
+    }
+
+    /// What an item of the part, which is the next one, is in the text.
+    #[inline(always)]
+    fn answer(
+        &mut self,
+        item: Result<(usize, Token, usize), OrMemory<(usize, LexemeError, usize)>>,
+    ) -> Lexeme
+        requires { (before : RecoveryState) × IsAdvanced before (Some item) self.old }
+        ensures recovering { IsRecovering self.new }
+        ensures next { (before : RecoveryState) → IsAdvanced before (Some item) self.old → IsNextOf (view_of before) (Some result) (view_of self.new) }
+    {
+        match item {
+            Ok((from, token, to)) => {
+                self.record_comment(&token, to);
+                Ok((self.begin + from, token, self.begin + to))
+            }
+            Err(OrMemory::Memory) => Err(OrMemory::Memory),
+            Err(OrMemory::Error(fault)) => Err(self.pass(fault)),
+        }
+    }
+
+    /// Finds the next lexeme or fault of the text, and holds it.
+    // A call that returned it would make each lexeme of a text without repairs pass through memory.
+    #[inline(never)]
+    fn hold_next(&mut self)
+        requires { IsRecovering self.old }
+        ensures recovering { IsRecovering self.new }
+        ensures next { IsNextOf (view_of self.old) self.new.held (view_of self.new) }
+    {
+        match self.advance() {
+            Some(item) => self.held = Some(self.answer(item)),
+            None => self.held = None,
+        }
+    }
+
+    /// The next lexeme or fault of the text; `None` after the last lexeme, and after out of memory.
+    #[inline(always)]
+    pub(crate) fn next(&mut self) -> Option<Lexeme>
+        requires { IsRecovering self.old }
+        ensures recovering { IsRecovering self.new }
+        ensures next { IsNextOf (view_of self.old) result (view_of self.new) }
+    {
+        if self.mended.copy().is_some() {
+            self.hold_next();
+            return mem::take(&mut self.held);
+        }
+        let item = self.state.next_item()?;
+        Some(self.answer(item))
+    }
+
+    /// Number of faults that were yielded so far.
+    pub(crate) fn fault_count(&self) -> usize
+        ensures { result ≡ self.now.fault_count }
+    {
+        self.fault_count
+    }
+
+    /// Number of reads of bytes so far.
+    pub(crate) fn reads(&self) -> u64
+        ensures { result ≡ (view_of self.now).reads }
+    {
+        self.earlier_reads
+            .saturating_add(self.state.reader.reads.count())
+    }
+}

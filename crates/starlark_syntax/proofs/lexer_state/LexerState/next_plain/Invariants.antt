@@ -1,9 +1,0 @@
-use Rattle.starlark_syntax.specs.Inner.LexerStates.{left_to_pass}
-use Rattle.starlark_syntax.proofs.LexerStates.{IsGoingOn}
-use Rattle.starlark_syntax.proofs.lexer_state.LexerState.next_plain.Given as goal
-
-abbrev pub invariant-loop-self : goal.invariant-loop-self
-invariant-loop-self l = IsGoingOn l.initial.self l.self
-
-abbrev pub decreases-loop-self : goal.decreases-loop-self
-decreases-loop-self l = left_to_pass l.self

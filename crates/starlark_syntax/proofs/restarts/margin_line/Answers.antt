@@ -1,6 +1,0 @@
-use Rattle.std.proofs.Common.{rules}
-use Rattle.starlark_syntax.proofs.RestartPlaces.{margin_blanks}
-use Rattle.starlark_syntax.proofs.restarts.margin_line.Goals as goal
-
-pub returns-clause-reads : goal.returns-clause-reads
-returns-clause-reads c = search (rules, margin_blanks)
