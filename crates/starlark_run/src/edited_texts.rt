@@ -1,6 +1,6 @@
 //! The versions of a text: the texts after each edit of a list.
 
-ghost use Rattle.std.specs.Prelude.{◌≡◌, ◌≤◌, ◌+◌, IfErr, IfOk, Ok, length, string_bytes};
+ghost use Rattle.std.specs.Prelude.{◌≡◌, ◌≤◌, ◌+◌, [], IfErr, IfOk, OnOk, Ok, length, string_bytes};
 ghost use Rattle.starlark_base.specs.Sources.{SourceFile};
 ghost use Rattle.starlark_run.specs.Edits.{text_after, text_after_one};
 ghost use Rattle.starlark_run.specs.Inner.EditedTexts.{AreVersions, AreVersionsAfter, AreVersionsLexed, Follows, IsRefusal, IsVersion, newest_text};
@@ -102,6 +102,34 @@ pub struct LastVersion<'v> {
     pub reads: Vec<u64>,
 }
 
+/// Lexes each version of a text from the one before it. Appends how often bytes were read.
+///
+/// Fails only with `Memory`.
+fn relex_each<'v>(
+    first: LexedText<'v>,
+    versions: &'v [Version],
+    file: &CodeMap,
+    reads: &mut Vec<u64>,
+) -> Result<LexedText<'v>, RunFault>
+    requires versions { AreVersions first.text versions.now }
+    requires lexed { (file : SourceFile) × IsLexed file first }
+    requires reads { AreVersionsLexed first.text [] reads.old.items }
+    ensures text { IfOk result (λ lexed. lexed.text ≡ newest_text first.entry.text versions.now) }
+    ensures lexed { IfOk result (λ lexed. (file : SourceFile) × IsLexed file lexed) }
+    ensures reads { OnOk result (AreVersionsLexed first.entry.text versions.now reads.new.items) }
+    ensures refused { IfErr result (λ fault. fault ≡ Memory) }
+{
+    let mut lexed = first;
+    for version in versions {
+        match lexed.relex(version.from, version.text.as_str(), file) {
+            Ok(edited) => lexed = edited,
+            Err(_) => return Err(RunFault::Memory),
+        }
+        reads.push(lexed.reads()).map_err(|_| RunFault::Memory)?;
+    }
+    Ok(lexed)
+}
+
 /// Lexes the first text, and each version from the one before it.
 ///
 /// Fails only with `Memory`.
@@ -118,15 +146,9 @@ pub fn relexed<'v>(
     ensures refused { IfErr result (λ fault. fault ≡ Memory) }
 {
     let file = empty_file(alloc)?;
-    let mut lexed = lex_first(alloc, first, file.dupe()?)?;
+    let first = lex_first(alloc, first, file.dupe()?)?;
     let mut reads = Vec::new(alloc);
-    reads.push(lexed.reads()).map_err(|_| RunFault::Memory)?;
-    for version in versions {
-        match lexed.relex(version.from, version.text.as_str(), &file) {
-            Ok(edited) => lexed = edited,
-            Err(_) => return Err(RunFault::Memory),
-        }
-        reads.push(lexed.reads()).map_err(|_| RunFault::Memory)?;
-    }
+    reads.push(first.reads()).map_err(|_| RunFault::Memory)?;
+    let lexed = relex_each(first, versions, &file, &mut reads)?;
     Ok(LastVersion { lexed, reads })
 }
