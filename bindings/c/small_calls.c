@@ -1,5 +1,5 @@
 /* Tries the calls that other tests leave out: the version, codes of faults, empty buffers by NULL,
- * places that are moved along a text, and faults of fronts that are final. */
+ * places that are moved along a text, full buffers, and faults of fronts that are final. */
 #include "starlark_lex.h"
 
 #include <stdio.h>
@@ -7,6 +7,7 @@
 #include <string.h>
 
 #define ROOM 512
+#define UNTOUCHED 0x5a
 
 static const char *const texts[] = {
     "",
@@ -111,6 +112,47 @@ static void try_moves(const char *source, size_t number)
     }
 }
 
+/* The number of bytes that two buffers begin with alike. */
+static size_t alike(const uint8_t *one, const uint8_t *other)
+{
+    size_t len = 0;
+    while (len < ROOM && one[len] == other[len])
+        len++;
+    return len;
+}
+
+/* Values that had no room begin as those that had, and are as they were after that. */
+static void require_kept(const uint8_t *values, const uint8_t *wanted, size_t number)
+{
+    for (size_t at = alike(values, wanted); at < ROOM; at++)
+        require(values[at] == UNTOUCHED, "values of full buffers", number);
+}
+
+/* Full buffers keep what they had, after faults too. */
+static void try_full(const char *source, size_t number)
+{
+    static lexed whole, full;
+    static starlark_found_fault faults[ROOM];
+    static starlark_recovered recovered;
+    const uint8_t *text = bytes_of(source);
+    size_t len = strlen(source);
+    starlark_lex(text, len, whole.lexemes, ROOM, whole.values, ROOM, &whole.outcome);
+    for (size_t room = 1; room < whole.outcome.values; room++) {
+        memset(full.values, UNTOUCHED, ROOM);
+        starlark_lex(text, len, full.lexemes, ROOM, full.values, room, &full.outcome);
+        require_kept(full.values, whole.values, number);
+    }
+    starlark_lex_recovering(text, len, whole.lexemes, ROOM, whole.values, ROOM, faults, ROOM,
+                            &recovered);
+    for (size_t room = 1; room < recovered.values; room++) {
+        starlark_recovered refused;
+        memset(full.values, UNTOUCHED, ROOM);
+        starlark_lex_recovering(text, len, full.lexemes, ROOM, full.values, room, faults, ROOM,
+                                &refused);
+        require_kept(full.values, whole.values, number);
+    }
+}
+
 static void lex_front(const uint8_t *text, size_t len, lexed *into)
 {
     starlark_lex_front(text, len, into->lexemes, ROOM, into->values, ROOM, &into->outcome);
@@ -161,9 +203,11 @@ int main(void)
     try_null();
     for (size_t number = 0; number < count; number++) {
         try_moves(texts[number], number);
+        try_full(texts[number], number);
         final += try_final_faults(texts[number], number);
     }
     require(final > 0, "no fault is final", count);
-    printf("codes, empty buffers, moved places in %zu texts, %zu final faults\n", count, final);
+    printf("codes, empty and full buffers, moved places in %zu texts, %zu final faults\n", count,
+           final);
     return 0;
 }

@@ -4,7 +4,9 @@ use crate::row_files::code_map;
 use crate::rows::{Answer, Row, both, given, shown, unknown};
 use starlark_syntax::codemap::OrMemory;
 use starlark_syntax::dialect::Dialect;
-use starlark_syntax::lexer::{Lexer, PlainLexeme, Token, TokenInt, lex_exactly_one_identifier};
+use starlark_syntax::lexer::{
+    Lexer, PlainLexeme, RecoveringLexer, Token, TokenInt, lex_exactly_one_identifier,
+};
 use std::alloc::{AllocError, Global};
 use std::fmt::{Display, Write};
 
@@ -174,6 +176,26 @@ fn cuts(alloc: Global, text: &str) -> Answer {
     Ok(list)
 }
 
+/// Passes all items of a lexer that goes on after faults.
+fn pass_all(lexer: &mut RecoveringLexer<'_>) -> Result<(), AllocError> {
+    for _ in 0..u64::MAX {
+        match lexer.next() {
+            None => break,
+            Some(Err(OrMemory::Memory)) => return Err(AllocError),
+            Some(_) => {}
+        }
+    }
+    Ok(())
+}
+
+/// How many faults a text has, and how often bytes are read to find all of them.
+fn recovered_counts(alloc: Global, text: &str) -> Answer {
+    let map = code_map(alloc, "f", text)?;
+    let mut lexer = given(RecoveringLexer::new(alloc, text, &Dialect::Standard, map))?;
+    pass_all(&mut lexer)?;
+    both(alloc, &lexer.fault_count(), &lexer.reads())
+}
+
 /// The answer to a call with a text.
 pub fn answer(alloc: Global, row: &Row) -> Answer {
     let text = row.text(2);
@@ -184,6 +206,7 @@ pub fn answer(alloc: Global, row: &Row) -> Answer {
         "lexemes_of_other_source" => lexemes(alloc, text, row.text(3)),
         "cuts" => cuts(alloc, text),
         "plain_lexemes" => plain_lexemes(alloc, text),
+        "recovered_counts" => recovered_counts(alloc, text),
         "lexemes_in_file" => lexemes_in(alloc, text, row.text(3), row.text(4)),
         _ => unknown(alloc, row),
     }
