@@ -81,11 +81,7 @@ pub(crate) fn meeting_at(
         return None;
     }
     let cut = known_cuts[index];
-    if ends_alike(text, at, known, cut.at) {
-        Some(Meeting { at, index, cut })
-    } else {
-        None
-    }
+    ends_alike(text, at, known, cut.at).then_some(Meeting { at, index, cut })
 }
 
 /// Puts a part that ends at a meeting in the place of what it replaces in the known text's lists,

@@ -50,26 +50,6 @@ fn push_cut(cuts: &mut Vec<Cut>, place: Option<usize>, lexemes: usize) -> Result
     Ok(())
 }
 
-/// The cuts of a text, with one at its end if the text is a clean cut.
-fn with_end_cut(
-    cuts: Vec<Cut>,
-    text: &str,
-    lexemes: &[(usize, Token, usize)],
-    is_cut: bool,
-) -> Result<Vec<Cut>, AllocError>
-    requires { 0 < length lexemes.now }
-    ensures { IfOk result (λ all. all.items ≡ cuts.items ++ end_cuts text.now (length lexemes.now) is_cut) }
-{
-    let mut all = cuts;
-    if is_cut {
-        all.push(Cut {
-            at: text.len(),
-            lexemes: lexemes.len() - 1,
-        })?;
-    }
-    Ok(all)
-}
-
 /// Lexes a text up to its end, its first fault or a meeting with a known text at one of its cuts, from a
 /// state that has just begun.
 ///
@@ -125,15 +105,14 @@ pub(crate) fn read_part(
         });
     }
     let is_cut = state.reader.is_clean_cut();
-    let cuts = with_end_cut(cuts, text, &lexemes, is_cut)?;
-    let reads = state.reader.reads.count();
+    push_cut(&mut cuts, is_cut.then_some(text.len()), lexemes.len() - 1)?;
     Ok(ReadPart {
         lexemes,
         fault: None,
         cuts,
         is_cut,
         has_tab: false,
-        reads,
+        reads: state.reader.reads.count(),
         met: None,
     })
 }
@@ -149,14 +128,8 @@ pub(crate) fn exception_of(
     ensures none { IfOk result (λ exception. exception ≡ None → fault ≡ None) }
     ensures exception { IfOk result (λ exception. (found : Option (Spanned Fault)) → IsRawIn found fault → IsFaultIn code_map.now (option_map (moved len) found) exception) }
 {
-    match fault {
-        Some((begin, fault, end)) => Ok(Some(exception(
-            alloc,
-            len + begin,
-            fault,
-            len + end,
-            code_map,
-        )?)),
-        None => Ok(None),
-    }
+    let Some((begin, fault, end)) = fault else {
+        return Ok(None);
+    };
+    Ok(Some(exception(alloc, len + begin, fault, len + end, code_map)?))
 }

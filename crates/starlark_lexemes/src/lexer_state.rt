@@ -58,6 +58,7 @@ pub struct LexerState<'a> {
     run: usize,
     /// Whether an error has ended the lexer.
     pub has_ended: bool,
+    /// What reads the text, and where it is.
     pub reader: Reader<'a>,
     lexeme_begin: usize,
     lexeme_end: usize,
@@ -298,6 +299,19 @@ impl<'a> LexerState<'a> {
         self.item_read(read)
     }
 
+    /// Counts a lexeme that was passed, between two offsets.
+    #[inline(always)]
+    fn count_passed(&mut self, begin: usize, end: usize)
+        requires { self.old.yielded_count + 1 < 2 ^ 64 }
+        ensures same { self.new ≡ record self.old { yielded_count = self.old.yielded_count + 1; lexeme_begin = begin; lexeme_end = end; found = self.new.found } }
+        ensures found { IsFoundOut self.old.reader self.new.found }
+    {
+        self.yielded_count += 1;
+        self.lexeme_begin = begin;
+        self.lexeme_end = end;
+        self.found = found_after(&self.reader);
+    }
+
     /// Passes the first pending comment.
     #[inline(always)]
     fn pass_pending_comment(&mut self) -> Advance
@@ -309,10 +323,7 @@ impl<'a> LexerState<'a> {
     {
         let reader = &mut self.reader;
         let (begin, end) = reader.pending.pass_comment(&mut reader.reads, reader.text);
-        self.yielded_count += 1;
-        self.lexeme_begin = begin;
-        self.lexeme_end = end;
-        self.found = found_after(&self.reader);
+        self.count_passed(begin, end);
         Advance::Comment
     }
 
@@ -330,10 +341,7 @@ impl<'a> LexerState<'a> {
         let Some((begin, token, end)) = self.reader.pending.next_mark() else {
             return Advance::Nothing;
         };
-        self.yielded_count += 1;
-        self.lexeme_begin = begin;
-        self.lexeme_end = end;
-        self.found = found_after(&self.reader);
+        self.count_passed(begin, end);
         Advance::of_mark(&token)
     }
 
@@ -360,18 +368,14 @@ impl<'a> LexerState<'a> {
                 return Advance::Layout;
             }
         };
-        self.yielded_count += 1;
         if found.len == 0 {
             let (begin, token, end) = self.reader.take_chunk_end(found);
-            self.lexeme_begin = begin;
-            self.lexeme_end = end;
-            self.found = found_after(&self.reader);
+            self.count_passed(begin, end);
             return Advance::of_mark(&token);
         }
-        self.lexeme_begin = self.reader.at;
-        self.lexeme_end = self.lexeme_begin + found.len;
+        let begin = self.reader.at;
         self.reader.pass_chunk(found);
-        self.found = Found::All;
+        self.count_passed(begin, begin + found.len);
         Advance::FStringText
     }
 
@@ -506,10 +510,9 @@ impl<'a> LexerState<'a> {
                 Advance::Layout
             }
             Class::Comment => {
-                self.yielded_count += 1;
-                self.lexeme_begin = self.reader.at;
+                let begin = self.reader.at;
                 self.reader.step_over(word.len, Before::Other);
-                self.lexeme_end = self.reader.at;
+                self.count_passed(begin, self.reader.at);
                 Advance::Comment
             }
             _ => {
@@ -524,7 +527,7 @@ impl<'a> LexerState<'a> {
     /// comment, a string literal without escapes, a pending lexeme, or a text of an f-string without
     /// escapes.
     #[inline(always)]
-    pub fn next_plain(&mut self) -> Result<Option<PlainLexeme>, AllocError>
+    pub(crate) fn next_plain(&mut self) -> Result<Option<PlainLexeme>, AllocError>
         requires { IsLexing self.old }
         ensures ended { self.old.has_ended ≡ true → (result ≡ Ok None) × (self.new ≡ self.old) }
         ensures passed { self.old.has_ended ≡ false → HasTold self.old result self.new }
@@ -697,7 +700,7 @@ impl<'a> LexerState<'a> {
 
     /// Whether a fault is left after the last lexeme.
     #[inline(always)]
-    pub fn has_fault(&self) -> bool
+    pub(crate) fn has_fault(&self) -> bool
         ensures { result ≡ has_fault self.now }
     {
         !self.has_ended && matches!(self.reader.stage, Stage::Fault { .. })
@@ -727,7 +730,7 @@ impl<'a> LexerState<'a> {
     /// Either ends the lexer.
     // A call that returns two registers: an item that it returns costs each lexeme 15 instructions.
     #[inline(never)]
-    pub fn take_exception(&mut self, code_map: &CodeMap) -> OrMemory<EvalException>
+    pub(crate) fn take_exception(&mut self, code_map: &CodeMap) -> OrMemory<EvalException>
         requires lexing { IsLexing self.old }
         requires fault { has_fault self.old ≡ true }
         requires end { IsAtEnd self.old.reader.text.now self.old.reader }

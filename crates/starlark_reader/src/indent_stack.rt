@@ -43,10 +43,7 @@ impl IndentStack {
     pub(crate) fn greatest(&self) -> usize
         ensures { result ≡ greatest_of self.now }
     {
-        match self.widths.last() {
-            Some(width) => *width,
-            None => 0,
-        }
+        self.widths.last().copied().unwrap_or(0)
     }
 
     /// The greatest of the first `count` open widths; 0 if `count` is 0.

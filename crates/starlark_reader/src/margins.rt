@@ -154,11 +154,9 @@ fn blank_margin(text: &[u8], spaces: usize) -> Option<Margin>
         }
     }
     Some(Margin {
-        at: 0,
         blanks: len,
-        width: spaces,
-        has_tab: false,
         is_content: false,
+        ..Margin::of_spaces(spaces)
     })
 }
 
@@ -173,24 +171,13 @@ pub(crate) fn plain_margin(text: &str) -> Option<Margin>
 {
     let bytes = text.as_bytes();
     let spaces = margin_spaces_len(bytes);
-    if spaces == bytes.len() {
-        return Some(Margin {
+    match bytes.get(spaces) {
+        Some(next) if *next > b'#' => Some(Margin::of_spaces(spaces)),
+        Some(b'\r') => blank_margin(bytes, spaces),
+        None | Some(b'\n') => Some(Margin {
             is_content: false,
             ..Margin::of_spaces(spaces)
-        });
+        }),
+        _ => None,
     }
-    let next = bytes[spaces];
-    if next > b'#' {
-        return Some(Margin::of_spaces(spaces));
-    }
-    if next == b'\n' {
-        return Some(Margin {
-            is_content: false,
-            ..Margin::of_spaces(spaces)
-        });
-    }
-    if next == b'\r' {
-        return blank_margin(bytes, spaces);
-    }
-    None
 }

@@ -27,7 +27,7 @@ pub enum AfterComments {
         end: usize,
     },
     /// What ends a text of an f-string.
-    TextEnd {
+    ChunkEnd {
         begin: usize,
         before_expression: bool,
         end: usize,
@@ -101,7 +101,7 @@ impl AfterComments {
                 *self = AfterComments::nothing();
                 Some((begin, Token::Indent, end))
             }
-            AfterComments::TextEnd {
+            AfterComments::ChunkEnd {
                 begin,
                 before_expression,
                 end,
@@ -200,9 +200,7 @@ impl Pending {
         ensures stays { result ≡ None → self.new ≡ self.old }
         ensures mark { IfSome result (λ lexeme. IsMark (token_view lexeme.1)) }
     {
-        let Some(first) = self.remainder.next() else {
-            return None;
-        };
+        let first = self.remainder.next()?;
         self.is_flat = false;
         Some(first)
     }

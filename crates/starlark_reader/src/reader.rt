@@ -323,7 +323,7 @@ impl<'a> Reader<'a> {
         let end = begin + chunk.stop_len;
         self.nesting.pass(&text_end(chunk.before_expression));
         self.step_to(end, Before::Other);
-        self.pending = Pending::only(AfterComments::TextEnd {
+        self.pending = Pending::only(AfterComments::ChunkEnd {
             begin,
             before_expression: chunk.before_expression,
             end,
@@ -405,11 +405,7 @@ impl<'a> Reader<'a> {
             && matches!(self.before, Before::Layout)
             && self.pending.is_flat;
         let at = self.pending.from;
-        if is_flat && 0 < at && at < self.text.len() {
-            Some(at)
-        } else {
-            None
-        }
+        (is_flat && 0 < at && at < self.text.len()).then_some(at)
     }
 
     /// Closes a text without fault at its end. Returns a `Newline` of no bytes. A `Dedent` for each
@@ -729,16 +725,11 @@ impl<'a> Reader<'a> {
         ensures stands { IfSome result (λ digit. word ≡ record { class = class.Decimal; len = 1 }) }
         ensures digit { IfSome result (λ digit. IsDigitAt digit (drop self.now.at self.now.text.now)) }
     {
-        if word.len != 1 {
+        let (Class::Decimal, 1) = (word.class, word.len) else {
             return None;
-        }
-        match word.class {
-            Class::Decimal => {
-                let first = self.text[self.at..].as_bytes().first()?;
-                Some(*first - b'0')
-            }
-            _ => None,
-        }
+        };
+        let first = self.text[self.at..].as_bytes().first()?;
+        Some(*first - b'0')
     }
 
     /// Takes the integer of one digit here, whose value is `digit`.

@@ -296,7 +296,7 @@ impl Token {
         ensures memory { OnErr result (OwnsMemory (token_view self.now)) }
     {
         terminals!(match_terminals!(self, Token, copy_of, {
-            Token::Comment(text) => Ok(Token::Comment(String::from_str(alloc, text.as_str())?)),
+            Token::Comment(text) => Ok(Token::Comment(String::from_str(alloc, text)?)),
             Token::Tabs => Ok(Token::Tabs),
             Token::Indent => Ok(Token::Indent),
             Token::Dedent => Ok(Token::Dedent),
@@ -309,22 +309,16 @@ impl Token {
             Token::RawByteDoubleQuote => Ok(Token::RawByteDoubleQuote),
             Token::Bytes(bytes) => Ok(Token::Bytes(Vec::from_slice(alloc, bytes.as_slice())?)),
             Token::Reserved => Ok(Token::Reserved),
-            Token::Identifier(text) => Ok(Token::Identifier(String::from_str(
-                alloc,
-                text.as_str(),
-            )?)),
+            Token::Identifier(name) => Ok(Token::Identifier(String::from_str(alloc, name)?)),
             Token::RawDecInt => Ok(Token::RawDecInt),
             Token::RawHexInt => Ok(Token::RawHexInt),
             Token::RawBinInt => Ok(Token::RawBinInt),
             Token::RawOctInt => Ok(Token::RawOctInt),
             Token::Int(number) => Ok(Token::Int(number.clone(alloc)?)),
-            Token::Float(text) => Ok(Token::Float(String::from_str(alloc, text.as_str())?)),
-            Token::String(text) => Ok(Token::String(String::from_str(alloc, text.as_str())?)),
+            Token::Float(text) => Ok(Token::Float(String::from_str(alloc, text)?)),
+            Token::String(text) => Ok(Token::String(String::from_str(alloc, text)?)),
             Token::FStringStart(quote) => Ok(Token::FStringStart(*quote)),
-            Token::FStringText(text) => Ok(Token::FStringText(String::from_str(
-                alloc,
-                text.as_str(),
-            )?)),
+            Token::FStringText(text) => Ok(Token::FStringText(String::from_str(alloc, text)?)),
             Token::FStringExprStart => Ok(Token::FStringExprStart),
             Token::FStringExprEnd => Ok(Token::FStringExprEnd),
             Token::FStringBang => Ok(Token::FStringBang),

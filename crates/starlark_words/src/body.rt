@@ -8,7 +8,7 @@ ghost use Rattle.starlark_words.specs.Inner.PlainRuns.{IsRun};
 ghost use Rattle.starlark_words.specs.Inner.Reads.{AreReads};
 
 use super::escapes::{is_kept_pair, simple_escape};
-use super::items::{Found, Literal, Stop, Value, found_at};
+use super::items::{Literal, Stop, Value, found_at};
 use super::runs::first_run;
 use crate::reads::{ReadCounter, uncounted_front};
 use starlark_grammar::class::LiteralKind;
@@ -127,12 +127,12 @@ fn read_text_body(
             continue;
         }
         match found_at(reads, literal, front, rest) {
-            Found::Goes { len: more, value } => {
+            Ok((more, value)) => {
                 append_to_text(&mut decoded, value)?;
                 len += more;
                 copied = len;
             }
-            Found::Stops(stop) => {
+            Err(stop) => {
                 let value = LiteralValue::Text(decoded);
                 return Ok(Body { len, value, stop });
             }
@@ -163,21 +163,17 @@ fn read_bytes_body(
     loop {
         let run = first_run(reads, FRONT_LEN, literal, &text[len..]);
         decoded.extend_from_slice(run.as_bytes())?;
-        let at = len + run.len();
-        let rest = &text[at..];
+        len += run.len();
+        let rest = &text[len..];
         let front = uncounted_front(rest.as_bytes(), FRONT_LEN);
         match found_at(reads, literal, front, rest) {
-            Found::Goes { len: more, value } => {
+            Ok((more, value)) => {
                 append_to_bytes(&mut decoded, value)?;
-                len = at + more;
+                len += more;
             }
-            Found::Stops(stop) => {
+            Err(stop) => {
                 let value = LiteralValue::Bytes(decoded);
-                return Ok(Body {
-                    len: at,
-                    value,
-                    stop,
-                });
+                return Ok(Body { len, value, stop });
             }
         }
     }

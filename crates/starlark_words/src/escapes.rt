@@ -11,14 +11,18 @@ ghost use Rattle.starlark_words.specs.Inner.LiteralViews.{IsCharacters, IsText, 
 ghost use Rattle.starlark_words.specs.Inner.Reads.{AreReads, more_reads};
 ghost use Rattle.starlark_grammar.specs.Words.{Text, is_octal_digit};
 
-use super::items::{Found, Literal, Stop, Value, after_first, drops_backslash, part};
+use super::items::{Literal, Stop, Value, after_first, drops_backslash, part};
 use crate::reads::{ReadCounter, uncounted_front};
 use starlark_grammar::class::LiteralKind;
 
 /// A bad escape that is broken off after `good` bytes: the character after them is the last one
 /// read.
 #[inline(always)]
-fn broken<'a>(reads: &mut ReadCounter, good: usize, remainder: &str) -> Found<'a>
+fn broken<'a>(
+    reads: &mut ReadCounter,
+    good: usize,
+    remainder: &str,
+) -> Result<(usize, Value<'a>), Stop>
     requires { good ≤ 10 }
     ensures value { found_view result ≡ grammar.broken good remainder.now }
     ensures text { IsText result }
@@ -26,7 +30,7 @@ fn broken<'a>(reads: &mut ReadCounter, good: usize, remainder: &str) -> Found<'a
     ensures len { good ≤ found_len result }
 {
     let last = reads.character_len(remainder);
-    Found::Stops(Stop::BadEscape {
+    Err(Stop::BadEscape {
         len: good + last,
         last: last.max(1),
     })
@@ -34,7 +38,7 @@ fn broken<'a>(reads: &mut ReadCounter, good: usize, remainder: &str) -> Found<'a
 
 /// The escape of `len` bytes for the byte or the character of a number; a bad one if there is none.
 #[inline(always)]
-fn numbered<'a>(len: usize, is_byte: bool, number: u32) -> Found<'a>
+fn numbered<'a>(len: usize, is_byte: bool, number: u32) -> Result<(usize, Value<'a>), Stop>
     requires { len ≤ 10 }
     ensures value { found_view result ≡ grammar.numbered len is_byte number }
     ensures text { is_byte ≡ false → IsText result }
@@ -42,14 +46,12 @@ fn numbered<'a>(len: usize, is_byte: bool, number: u32) -> Found<'a>
 {
     if is_byte {
         if let Ok(byte) = u8::try_from(number) {
-            let value = Value::Byte(byte);
-            return Found::Goes { len, value };
+            return Ok((len, Value::Byte(byte)));
         }
     } else if let Some(character) = char::from_u32(number) {
-        let value = Value::Character(character);
-        return Found::Goes { len, value };
+        return Ok((len, Value::Character(character)));
     }
-    Found::Stops(Stop::BadEscape { len, last: 1 })
+    Err(Stop::BadEscape { len, last: 1 })
 }
 
 /// Number of digits of a radix at the start of at most 8 bytes, and their value.
@@ -76,7 +78,12 @@ fn digits(bytes: &[u8], radix: u32) -> (usize, u32)
 /// The escape of exactly `wanted` hexadecimal digits. `text` begins after its letter `x`, `u` or
 /// `U`.
 #[inline(always)]
-fn hexadecimal<'a>(reads: &mut ReadCounter, wanted: usize, is_byte: bool, text: &str) -> Found<'a>
+fn hexadecimal<'a>(
+    reads: &mut ReadCounter,
+    wanted: usize,
+    is_byte: bool,
+    text: &str,
+) -> Result<(usize, Value<'a>), Stop>
     requires least { 1 ≤ wanted }
     requires most { wanted ≤ 8 }
     ensures value { found_view result ≡ grammar.hexadecimal wanted is_byte text.now }
@@ -93,7 +100,7 @@ fn hexadecimal<'a>(reads: &mut ReadCounter, wanted: usize, is_byte: bool, text: 
 
 /// The escape of one to three octal digits. `text` begins with them.
 #[inline(always)]
-fn octal<'a>(reads: &mut ReadCounter, is_byte: bool, text: &str) -> Found<'a>
+fn octal<'a>(reads: &mut ReadCounter, is_byte: bool, text: &str) -> Result<(usize, Value<'a>), Stop>
     requires { is_octal_digit (get_or text.now 0 0) ≡ true }
     ensures value { found_view result ≡ grammar.octal is_byte text.now }
     ensures text { is_byte ≡ false → IsText result }
@@ -106,7 +113,7 @@ fn octal<'a>(reads: &mut ReadCounter, is_byte: bool, text: &str) -> Found<'a>
 
 /// The escape of a CR LF, which is empty; a bad one if no LF follows. `remainder` begins after the CR.
 #[inline(always)]
-fn escaped_newline<'a>(reads: &mut ReadCounter, remainder: &str) -> Found<'a>
+fn escaped_newline<'a>(reads: &mut ReadCounter, remainder: &str) -> Result<(usize, Value<'a>), Stop>
     ensures value { found_view result ≡ grammar.escaped_newline remainder.now }
     ensures text { IsText result }
     ensures reads { AreReads (found_len result - 2) (found_len result) reads.old reads.new }
@@ -187,7 +194,7 @@ pub(crate) fn escape<'a>(
     kind: LiteralKind,
     front: &[u8],
     text: &'a str,
-) -> Found<'a>
+) -> Result<(usize, Value<'a>), Stop>
     requires begins { text.now ≡ 92 ∷ drop 1 text.now }
     requires front { front.now ≡ take 3 text.now }
     ensures value { found_view result ≡ grammar.escape kind (drop 1 text.now) }
@@ -207,10 +214,7 @@ pub(crate) fn escape<'a>(
         b'u' => hexadecimal(reads, 4, false, after_first(remainder)),
         b'U' => hexadecimal(reads, 8, false, after_first(remainder)),
         _ => match simple_value(*first) {
-            Some(value) => Found::Goes {
-                len: 2,
-                value: Value::Character(value),
-            },
+            Some(value) => Ok((2, Value::Character(value))),
             // The backslash and the character after it stay.
             None => {
                 let len = 1 + reads.character_len(remainder);

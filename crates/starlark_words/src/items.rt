@@ -49,26 +49,14 @@ pub enum Stop {
     BadEscape { len: usize, last: usize },
 }
 
-/// What is next in a body: an item, or its stop.
-#[derive(Clone, Copy)]
-pub(crate) enum Found<'a> {
-    /// An item of `len` bytes, such as a character or an escape.
-    Goes { len: usize, value: Value<'a> },
-    /// The body stops.
-    Stops(Stop),
-}
-
 /// An item of `len` bytes whose value is a part of the text.
-pub(crate) fn part(len: usize, value: &str) -> Found<'_>
+pub(crate) fn part(len: usize, value: &str) -> Result<(usize, Value<'_>), Stop>
     ensures value { found_view result ≡ grammar.goes len value.now }
     ensures text { IsText result }
     ensures len { found_len result ≡ len }
     ensures least { least_reads result ≡ len }
 {
-    Found::Goes {
-        len,
-        value: Value::Part(value),
-    }
+    Ok((len, Value::Part(value)))
 }
 
 /// Number of quotes that close a literal: 1 or 3.
@@ -123,7 +111,11 @@ pub(crate) fn after_first(text: &str) -> &str
 }
 
 /// The item of a backslash in a raw literal, with the character after it; `Ended` if there is none.
-fn raw_pair<'a>(reads: &mut ReadCounter, literal: Literal, text: &'a str) -> Found<'a>
+fn raw_pair<'a>(
+    reads: &mut ReadCounter,
+    literal: Literal,
+    text: &'a str,
+) -> Result<(usize, Value<'a>), Stop>
     requires { text.now ≡ 92 ∷ drop 1 text.now }
     ensures value { found_view result ≡ grammar.raw_pair literal.kind literal.opening.quote (drop 1 text.now) }
     ensures text { IsText result }
@@ -131,7 +123,7 @@ fn raw_pair<'a>(reads: &mut ReadCounter, literal: Literal, text: &'a str) -> Fou
 {
     let remainder = after_first(text);
     let Some(first) = reads.at(remainder.as_bytes(), 0) else {
-        return Found::Stops(Stop::Ended);
+        return Err(Stop::Ended);
     };
     let character = reads.character_len(remainder);
     let len = 1 + character;
@@ -143,7 +135,7 @@ fn raw_pair<'a>(reads: &mut ReadCounter, literal: Literal, text: &'a str) -> Fou
 }
 
 /// The item of a doubled brace in an f-string, or the stop at a single one.
-fn brace<'a>(reads: &mut ReadCounter, first: u8, text: &'a str) -> Found<'a>
+fn brace<'a>(reads: &mut ReadCounter, first: u8, text: &'a str) -> Result<(usize, Value<'a>), Stop>
     requires brace { grammar.is_brace OfFString first ≡ true }
     requires begins { text.now ≡ first ∷ drop 1 text.now }
     ensures value { found_view result ≡ grammar.brace first (drop 1 text.now) }
@@ -153,11 +145,8 @@ fn brace<'a>(reads: &mut ReadCounter, first: u8, text: &'a str) -> Found<'a>
 {
     match reads.at(after_first(text).as_bytes(), 0) {
         Some(second) if second == first => part(2, &text[..1]),
-        _ => Found::Stops(if first == b'{' {
-            Stop::OpeningBrace
-        } else {
-            Stop::ClosingBrace
-        }),
+        _ if first == b'{' => Err(Stop::OpeningBrace),
+        _ => Err(Stop::ClosingBrace),
     }
 }
 
@@ -183,14 +172,14 @@ pub(crate) fn found_at<'a>(
     literal: Literal,
     front: &[u8],
     text: &'a str,
-) -> Found<'a>
+) -> Result<(usize, Value<'a>), Stop>
     requires { front.now ≡ take 3 text.now }
     ensures value { found_view result ≡ grammar.found_at (literal_view literal) text.now }
     ensures text { grammar.is_of_bytes literal.kind ≡ false → IsText result }
     ensures reads { AreReads (least_reads result - 3) (found_len result + 2) reads.old reads.new }
 {
     let Some(first) = front.first() else {
-        return Found::Stops(Stop::Ended);
+        return Err(Stop::Ended);
     };
     let byte = *first;
     if byte == b'\\' {
@@ -201,10 +190,10 @@ pub(crate) fn found_at<'a>(
         };
     }
     if closes(literal.opening, front) {
-        return Found::Stops(Stop::Closing);
+        return Err(Stop::Closing);
     }
     if ends_line(literal.opening, byte) {
-        return Found::Stops(Stop::Line);
+        return Err(Stop::Line);
     }
     if byte == b'\r' {
         return part(1, "");

@@ -65,13 +65,9 @@ fn stop_by(opening: Opening, front: &[u8]) -> Option<Stop>
     if closes(opening, front) {
         return Some(Stop::Closing);
     }
-    let [first, second, ..] = front else {
-        return None;
-    };
-    if *first == b'{' && *second != b'{' {
-        Some(Stop::OpeningBrace)
-    } else {
-        None
+    match front {
+        [b'{', second, ..] if *second != b'{' => Some(Stop::OpeningBrace),
+        _ => None,
     }
 }
 

@@ -31,10 +31,7 @@ pub(crate) fn uncounted_front(text: &[u8], most: usize) -> &[u8]
 pub(crate) fn byte_at(text: &[u8], at: usize) -> u8
     ensures { result ≡ get_or text.now at 0 }
 {
-    match text.get(at) {
-        Some(byte) => *byte,
-        None => 0,
-    }
+    text.get(at).copied().unwrap_or(0)
 }
 
 /// A counter of reads of bytes, which saturates.

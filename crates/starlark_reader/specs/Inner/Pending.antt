@@ -26,7 +26,7 @@ owed pending = pending.to - pending.from
 abbrev pub lexemes_after : AfterComments → List grammar.Lexeme
 lexemes_after (remainder.Dedents at count) = replicate count (record { begin = at; node = grammar.Dedent; end = at })
 lexemes_after (remainder.Indent begin end) = record { begin = begin; node = grammar.Indent; end = end } ∷ []
-lexemes_after (remainder.TextEnd begin before_expression end) = record { begin = begin; node = text_end before_expression; end = end } ∷ []
+lexemes_after (remainder.ChunkEnd begin before_expression end) = record { begin = begin; node = text_end before_expression; end = end } ∷ []
 
 -- all pending lexemes: comments of lines, and the lexemes after them
 unfoldable pub pending_lexemes : Text → Pending → List grammar.Lexeme

@@ -1,10 +1,11 @@
 -- Steps of the code, as the grammar sees them.
-use Rattle.std.specs.Prelude.{◌≡◌, ℕ, ◌<◌, ◌+◌, ◌++◌, ◌∷◌, [], false, true, Result, Ok, Err, Some, String, drop, string_bytes, take, ⊤}
+use Rattle.std.specs.Prelude.{◌≡◌, ℕ, ◌<◌, ◌+◌, ◌++◌, ◌∷◌, [], false, true, Option, None, Some, Result, Ok, Err, String, drop, length, string_bytes, take, ⊤}
 use Rattle.std.specs.declared.alloc.Global.{Global}
 use Rattle.std.specs.Str.{IsCharBoundary}
 use Rattle.starlark_grammar.specs.Words as words
 use Rattle.starlark_grammar.specs.Tokens as grammar
 use Rattle.starlark_grammar.specs.Pieces as pieces
+use Rattle.starlark_grammar.specs.Items.{closing_quotes}
 use Rattle.starlark_grammar.specs.Numbers.{integer_of}
 use Rattle.starlark_grammar.specs.declared.class.Class.{Class}
 use Rattle.starlark_grammar.specs.declared.class.Class.TheVariants as class
@@ -17,10 +18,18 @@ use Rattle.starlark_grammar.specs.Inner.Openings.{opening_view}
 use Rattle.starlark_grammar.specs.declared.class.Opening.{Opening}
 use Rattle.starlark_reader.specs.Inner.Nesting.{is_fstring_start}
 use Rattle.starlark_reader.specs.declared.literal.chunks.Chunk.{Chunk}
+use Rattle.starlark_words.specs.declared.items.Stop.{Stop}
+use Rattle.starlark_words.specs.declared.items.Stop.TheVariants as stop
 
 -- the step of an f-string text, by its value, and of what ends it
 abbrev pub text_step : words.Text → Chunk → pieces.Step
 text_step value chunk = pieces.piece (chunk.len + chunk.stop_len) (pieces.chunk_text chunk.len value ++ record { begin = chunk.len; node = text_end chunk.before_expression; end = chunk.len + chunk.stop_len } ∷ [])
+
+-- the f-string text of `len` bytes that a stop ends, if it ends one
+abbrev pub chunk_before : Opening → ℕ → Stop → Option Chunk
+chunk_before opening len stop.OpeningBrace = Some (record { len = len; before_expression = true; stop_len = 1 })
+chunk_before opening len stop.Closing = Some (record { len = len; before_expression = false; stop_len = length (closing_quotes (opening_view opening)) })
+chunk_before opening len other = None
 
 -- the text begins with a digit of this value
 abbrev pub IsDigitAt : ℕ → words.Text → Type 0

@@ -1,11 +1,11 @@
 //! F-string texts, up to an expression or the closing quotes.
 
-ghost use Rattle.std.specs.Prelude.{◌<◌, ◌≤◌, ◌+◌, ◌*◌, ℕ, IfErr, IfOk};
+ghost use Rattle.std.specs.Prelude.{◌≡◌, ◌<◌, ◌≤◌, ◌+◌, ◌*◌, ℕ, IfErr, IfOk};
 ghost use Rattle.starlark_words.specs.Inner.LiteralViews.{fstring_literal};
 ghost use Rattle.starlark_words.specs.Inner.PlainRuns.{IsRun};
 ghost use Rattle.starlark_words.specs.Inner.Reads.{AreReads};
 ghost use Rattle.starlark_reader.specs.Inner.ReadBounds.{AreStepReads};
-ghost use Rattle.starlark_reader.specs.Inner.StepViews.{IsPlainText, IsStep, chunk_step};
+ghost use Rattle.starlark_reader.specs.Inner.StepViews.{IsPlainText, IsStep, chunk_before, chunk_step};
 ghost use Rattle.starlark_grammar.specs.Inner.Openings.{opening_view};
 ghost use Rattle.starlark_grammar.specs.Pieces as grammar;
 
@@ -41,23 +41,10 @@ pub(crate) fn chunk_from(
     let LiteralValue::Text(value) = value else {
         unreachable!()
     };
+    if let Some(chunk) = chunk_before(opening, text_len, stop) {
+        return Ok(Ok((value, chunk)));
+    }
     match stop {
-        Stop::OpeningBrace => {
-            let chunk = Chunk {
-                len: text_len,
-                before_expression: true,
-                stop_len: 1,
-            };
-            Ok(Ok((value, chunk)))
-        }
-        Stop::Closing => {
-            let chunk = Chunk {
-                len: text_len,
-                before_expression: false,
-                stop_len: closing_len(opening),
-            };
-            Ok(Ok((value, chunk)))
-        }
         Stop::ClosingBrace => {
             let fault = LexemeError::InvalidInput(String::from_str(alloc, "}")?);
             Ok(Err((text_len, fault, text_len + 1)))
@@ -67,7 +54,7 @@ pub(crate) fn chunk_from(
             Ok(Err((text_len + (len - last), fault, text_len + len)))
         }
         Stop::Line => Ok(Err((0, LexemeError::UnfinishedStringLiteral, text_len + 1))),
-        Stop::Ended => Ok(Err((0, LexemeError::UnfinishedStringLiteral, text.len()))),
+        _ => Ok(Err((0, LexemeError::UnfinishedStringLiteral, text.len()))),
     }
 }
 
@@ -78,6 +65,23 @@ pub struct Chunk {
     pub len: usize,
     pub before_expression: bool,
     pub stop_len: usize,
+}
+
+/// The f-string text of `len` bytes before a stop; `None` if the stop doesn't end one.
+#[inline(always)]
+fn chunk_before(opening: Opening, len: usize, stop: Stop) -> Option<Chunk>
+    ensures { result ≡ chunk_before opening len stop }
+{
+    let (before_expression, stop_len) = match stop {
+        Stop::OpeningBrace => (true, 1),
+        Stop::Closing => (false, closing_len(opening)),
+        _ => return None,
+    };
+    Some(Chunk {
+        len,
+        before_expression,
+        stop_len,
+    })
 }
 
 /// The f-string text up to its first stop, if it has no escapes. For any other text, or a
@@ -94,17 +98,5 @@ pub(crate) fn plain_text(
     ensures other { IfErr result (λ run. IsRun (fstring_literal (opening_view opening)) text.now run × AreReads run (6 * run + 4) reads.old reads.new) }
 {
     let (len, stop) = plain_chunk_len(reads, opening, text)?;
-    match stop {
-        Stop::OpeningBrace => Ok(Chunk {
-            len,
-            before_expression: true,
-            stop_len: 1,
-        }),
-        Stop::Closing => Ok(Chunk {
-            len,
-            before_expression: false,
-            stop_len: closing_len(opening),
-        }),
-        _ => Err(len),
-    }
+    chunk_before(opening, len, stop).ok_or(len)
 }

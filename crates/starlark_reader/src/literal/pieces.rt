@@ -69,12 +69,8 @@ fn escape_fault(
     if read.is_empty() {
         return Ok((begin, LexemeError::EmptyEscapeSequence, begin + 1));
     }
-    let text = String::from_str(alloc, read)?;
-    Ok((
-        begin,
-        LexemeError::InvalidEscapeSequence(text),
-        begin + 1 + read.len(),
-    ))
+    let fault = LexemeError::InvalidEscapeSequence(String::from_str(alloc, read)?);
+    Ok((begin, fault, begin + 1 + read.len()))
 }
 
 /// The token of a string or bytes literal and its length in bytes, or its fault between two

@@ -1,5 +1,5 @@
 -- Literals, items and stops of the code, as the grammar sees them.
-use Rattle.std.specs.Prelude.{◌≡◌, ℕ, Bool, true, false, [], ◌∷◌, ⊤, max, take, encode_utf8, string_bytes}
+use Rattle.std.specs.Prelude.{◌≡◌, ℕ, Bool, true, false, [], ◌∷◌, Result, Ok, Err, ⊤, max, take, encode_utf8, string_bytes}
 use Rattle.std.specs.Str.{IsCharBoundary}
 use Rattle.starlark_grammar.specs.Words.{Text}
 use Rattle.starlark_grammar.specs.declared.class.Quote.{Quote}
@@ -14,8 +14,6 @@ use Rattle.starlark_words.specs.declared.items.Value.{Value}
 use Rattle.starlark_words.specs.declared.items.Value.TheVariants as value
 use Rattle.starlark_words.specs.declared.items.Stop.{Stop}
 use Rattle.starlark_words.specs.declared.items.Stop.TheVariants as stop
-use Rattle.starlark_words.specs.declared.items.Found.{Found}
-use Rattle.starlark_words.specs.declared.items.Found.TheVariants as found
 use Rattle.starlark_words.specs.declared.body.LiteralValue.{LiteralValue}
 use Rattle.starlark_words.specs.declared.body.LiteralValue.TheVariants as read
 use Rattle.starlark_words.specs.declared.body.Body.{Body}
@@ -39,10 +37,10 @@ stop_view stop.OpeningBrace = items.OpeningBrace
 stop_view stop.ClosingBrace = items.ClosingBrace
 stop_view (stop.BadEscape len last) = items.BadEscape len last
 
--- the item or stop of the grammar
-abbrev pub found_view : Found → items.Found
-found_view (found.Goes len value) = items.goes len (value_view value)
-found_view (found.Stops stop) = items.Stops (stop_view stop)
+-- the grammar's item, by its length and its value, or its stop
+abbrev pub found_view : Result (ℕ × Value) Stop → items.Found
+found_view (Ok item) = items.goes item.0 (value_view item.1)
+found_view (Err stop) = items.Stops (stop_view stop)
 
 -- how many bytes of a bad escape were read; 0 for any other stop
 abbrev pub stopped_len : Stop → ℕ
@@ -50,18 +48,18 @@ stopped_len (stop.BadEscape len last) = len
 stopped_len stop = 0
 
 -- how many bytes of an item or of a bad escape were read
-abbrev pub found_len : Found → ℕ
-found_len (found.Goes len value) = len
-found_len (found.Stops stop) = stopped_len stop
+abbrev pub found_len : Result (ℕ × Value) Stop → ℕ
+found_len (Ok item) = item.0
+found_len (Err stop) = stopped_len stop
 
 -- the least number of bytes read at a stop: the three that can close a literal, or all of a bad escape
 abbrev pub least_stop_reads : Stop → ℕ
 least_stop_reads stop = max 3 (stopped_len stop)
 
 -- the least number of bytes read: those of an item, or those at the stop
-abbrev pub least_reads : Found → ℕ
-least_reads (found.Goes len value) = len
-least_reads (found.Stops stop) = least_stop_reads stop
+abbrev pub least_reads : Result (ℕ × Value) Stop → ℕ
+least_reads (Ok item) = item.0
+least_reads (Err stop) = least_stop_reads stop
 
 -- the value is no lone byte
 abbrev pub IsCharacters : Value → Type 0
@@ -69,9 +67,9 @@ IsCharacters (value.Byte byte) = ⊥
 IsCharacters value = ⊤
 
 -- the value of an item is no lone byte
-abbrev pub IsText : Found → Type 0
-IsText (found.Goes len value) = IsCharacters value
-IsText (found.Stops stop) = ⊤
+abbrev pub IsText : Result (ℕ × Value) Stop → Type 0
+IsText (Ok item) = IsCharacters item.1
+IsText (Err stop) = ⊤
 
 -- the bytes of a literal's value
 abbrev pub bytes_of : LiteralValue → Text

@@ -100,8 +100,6 @@ pub(crate) fn number_from(reads: &mut ReadCounter, text: &[u8]) -> Word
     } else {
         Class::Float
     };
-    Word {
-        class,
-        len: digits + more,
-    }
+    let len = digits + more;
+    Word { class, len }
 }

@@ -8,5 +8,5 @@ pub ends_alike-requires : goal.ends_alike-requires
 ends_alike-requires c =
     (search rules, all_at (λ (cut : Cut). cut.at ≤ length c.args.known.now) c.args.known_cuts.now c.in_ok-index.index _ c.requires.cuts (search rules))
 
-pub returns-then-ends_alike-clause-met : goal.returns-then-ends_alike-clause-met
-returns-then-ends_alike-clause-met c = search (rules, slice_get-get_or)
+pub returns-clause-met : goal.returns-clause-met
+returns-clause-met c = search (rules, slice_get-get_or)

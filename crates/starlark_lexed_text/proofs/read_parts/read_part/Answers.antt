@@ -1,4 +1,5 @@
-use Rattle.std.proofs.Common.{◌≡◌, ◌++◌, IfSome, Some, arith, ap, length, refl, subst, sym, ℕ, ◌∙◌, rules}
+use Rattle.std.proofs.Common.{◌≡◌, ◌++◌, ◌-◌, Bool, IfSome, List, Some, arith, ap, false, length, refl, rules, subst, sym, true, ℕ, ◌∙◌}
+use Rattle.std.specs.Bool.{then_some}
 use Rattle.std.specs.List.{ends_with}
 use Rattle.std.specs.Option.{is_some}
 use Rattle.std.specs.Prelude.{◌&&◌, Option, codes, nat_eq}
@@ -10,6 +11,7 @@ use Rattle.starlark_lexed_text.specs.Inner.LexedTexts.{IsMet, cuts_at, end_cuts}
 use Rattle.starlark_lexemes.specs.Inner.LexerStates.{StateView, left_in}
 use Rattle.starlark_lexemes.proofs.LexerCuts.{cut_kept}
 use Rattle.starlark_lexed_text.proofs.Collected.{AreCutsSoFar, all_given, collected_none, fault_given, goes_on, less_left, no_cuts_yet, none_collected, pushed_one, settled_is, some_given, text_is}
+use Rattle.starlark_lexed_text.specs.declared.cuts.Cut.{Cut}
 use Rattle.starlark_lexed_text.proofs.MetTexts.{met_front}
 use Rattle.starlark_lexed_text.proofs.read_parts.read_part.Goals as goal
 
@@ -54,8 +56,12 @@ returns-in-Some-take_fault-clause-part c = λ none.
     let last = c.in-Some-take_fault.ensures.last (goes_on _ c.next.new.self c.loop-item.lexemes.items mid) in
     fault_given _ c.next.new.self c.take_fault.new.self _ c.in-Some-take_fault.fault mid last c.loop-item.invariant.cuts refl refl c.has_read_none.ensures
 
-pub with_end_cut-requires : goal.with_end_cut-requires
-with_end_cut-requires c = search (rules, none_collected, some_given, goes_on)
+pub overflow_sub-len : goal.overflow_sub-len
+overflow_sub-len c = search (rules, none_collected, some_given, goes_on)
+
+end_is : (text : Text) (count : ℕ) (is_cut : Bool) → cuts_at (then_some is_cut (length text)) (count - 1) ≡ end_cuts text count is_cut
+end_is text count true = refl
+end_is text count false = refl
 
 pub returns-clause-part : goal.returns-clause-part
 returns-clause-part c = λ none.
@@ -66,6 +72,7 @@ returns-clause-part c = λ none.
     let is_cut : c.is_clean_cut-is_cut.result ≡ is_clean_cut text =
     settled_is text c.next.new.self c.take_fault.new.self c.loop-item.lexemes.items c.is_clean_cut-is_cut.result mid last
     (λ history after. c.is_clean_cut-is_cut.ensures.value history (subst (λ (t : Text). IsStateAfter t history c.take_fault.new.self.reader) (sym same) after) ∙ ap (λ (t : Text). is_settled history && ends_with nat_eq t (codes "\n")) same) in
-    let cuts : c.in_ok-cuts.cuts.items ≡ c.loop-item.cuts.items ++ end_cuts text (length c.loop-item.lexemes.items) c.is_clean_cut-is_cut.result =
-    rw (c.in_ok-cuts.ensures, c.deref.ensures.value) refl in
+    let counted : c.len-2.result ≡ length c.loop-item.lexemes.items = omega (arith, c.len-2.ensures, c.loop-item.lexemes.ok) in
+    let cuts : c.push_cut-2.new.cuts.items ≡ c.loop-item.cuts.items ++ end_cuts text (length c.loop-item.lexemes.items) c.is_clean_cut-is_cut.result =
+    c.in_ok-push_cut-2.ensures ∙ ap (λ (more : List Cut). c.loop-item.cuts.items ++ more) (ap (λ (end : Option ℕ). cuts_at end (c.len-2.result - 1)) c.then_some.ensures ∙ ap (λ n. cuts_at (then_some c.is_clean_cut-is_cut.result (length text)) (n - 1)) counted ∙ end_is text (length c.loop-item.lexemes.items) c.is_clean_cut-is_cut.result) in
     all_given text c.next.new.self c.take_fault.new.self _ c.loop-item.cuts.items mid last refl c.loop-item.invariant.cuts cuts is_cut refl

@@ -71,37 +71,37 @@ loop-rest-preserved-in-Some c =
       reads = short_reads c.args.run c.loop-rest.len (length c.first_run-run.result.now) _ _ _ c.loop-rest.invariant.more c.loop-rest.invariant.reads c.first_run-run.ensures.reads;
     }
 
-pub overflow_add-len-in-Goes : goal.overflow_add-len-in-Goes
-overflow_add-len-in-Goes c =
-    let after = run_is (goal.at.overflow_add-len-in-Goes c).After-range_from-rest in
-    let item : grammar.Item = record { len = c.in-Goes.more; value = value_view c.in-Goes.value } in
-    let found : grammar.found_at (literal_view c.args.literal) c.range_from-rest.result.now ≡ grammar.Goes item = sym c.in-Goes.ensures.value in
+pub overflow_add-len-in-Ok : goal.overflow_add-len-in-Ok
+overflow_add-len-in-Ok c =
+    let after = run_is (goal.at.overflow_add-len-in-Ok c).After-range_from-rest in
+    let item : grammar.Item = record { len = c.in-Ok.more; value = value_view c.in-Ok.value } in
+    let found : grammar.found_at (literal_view c.args.literal) c.range_from-rest.result.now ≡ grammar.Goes item = sym c.in-Ok.ensures.value in
     search (rules, (item_inside (literal_view c.args.literal) c.args.text.now (c.loop-rest.len + length c.first_run-run.result.now) ((string_bytes c.loop-rest.decoded) ++ take (c.loop-rest.len + length c.first_run-run.result.now - c.loop-rest.copied) (drop c.loop-rest.copied c.args.text.now)) c.range_from-rest.result.now item after found).1)
 
 pub loop-rest-smaller : goal.loop-rest-smaller
 loop-rest-smaller c =
     let after = run_is (goal.at.loop-rest-smaller c).After-range_from-rest in
-    let item : grammar.Item = record { len = c.in-Goes.more; value = value_view c.in-Goes.value } in
-    let found : grammar.found_at (literal_view c.args.literal) c.range_from-rest.result.now ≡ grammar.Goes item = sym c.in-Goes.ensures.value in
+    let item : grammar.Item = record { len = c.in-Ok.more; value = value_view c.in-Ok.value } in
+    let found : grammar.found_at (literal_view c.args.literal) c.range_from-rest.result.now ≡ grammar.Goes item = sym c.in-Ok.ensures.value in
     omega (arith, (item_inside (literal_view c.args.literal) c.args.text.now (c.loop-rest.len + length c.first_run-run.result.now) ((string_bytes c.loop-rest.decoded) ++ take (c.loop-rest.len + length c.first_run-run.result.now - c.loop-rest.copied) (drop c.loop-rest.copied c.args.text.now)) c.range_from-rest.result.now item after found).0, (item_inside (literal_view c.args.literal) c.args.text.now (c.loop-rest.len + length c.first_run-run.result.now) ((string_bytes c.loop-rest.decoded) ++ take (c.loop-rest.len + length c.first_run-run.result.now - c.loop-rest.copied) (drop c.loop-rest.copied c.args.text.now)) c.range_from-rest.result.now item after found).1)
 
 pub loop-rest-preserved : goal.loop-rest-preserved
 loop-rest-preserved c =
     let after = run_is (goal.at.loop-rest-preserved c).After-range_from-rest in
-    let item : grammar.Item = record { len = c.in-Goes.more; value = value_view c.in-Goes.value } in
-    let found : grammar.found_at (literal_view c.args.literal) c.range_from-rest.result.now ≡ grammar.Goes item = sym c.in-Goes.ensures.value in
+    let item : grammar.Item = record { len = c.in-Ok.more; value = value_view c.in-Ok.value } in
+    let found : grammar.found_at (literal_view c.args.literal) c.range_from-rest.result.now ≡ grammar.Goes item = sym c.in-Ok.ensures.value in
     let more = front_item (literal_view c.args.literal) c.args.text.now (c.loop-rest.len + length c.first_run-run.result.now) ((string_bytes c.loop-rest.decoded) ++ take (c.loop-rest.len + length c.first_run-run.result.now - c.loop-rest.copied) (drop c.loop-rest.copied c.args.text.now)) c.range_from-rest.result.now item after found in
     record {
-      front = all_copied (literal_view c.args.literal) c.args.text.now _ (((string_bytes c.loop-rest.decoded) ++ take (c.loop-rest.len + length c.first_run-run.result.now - c.loop-rest.copied) (drop c.loop-rest.copied c.args.text.now)) ++ value_view c.in-Goes.value) ((c.loop-rest.len + length c.first_run-run.result.now) + c.in-Goes.more) (c.in_ok-append_to_text-in-Goes.ensures ∙ ap (λ (t : Text). t ++ value_view c.in-Goes.value) (c.in_ok-append_run.ensures ∙ ap (λ (t : Text). (string_bytes c.loop-rest.decoded) ++ t) c.range.ensures.value)) more;
+      front = all_copied (literal_view c.args.literal) c.args.text.now _ (((string_bytes c.loop-rest.decoded) ++ take (c.loop-rest.len + length c.first_run-run.result.now - c.loop-rest.copied) (drop c.loop-rest.copied c.args.text.now)) ++ value_view c.in-Ok.value) ((c.loop-rest.len + length c.first_run-run.result.now) + c.in-Ok.more) (c.in_ok-append_to_text-in-Ok.ensures ∙ ap (λ (t : Text). t ++ value_view c.in-Ok.value) (c.in_ok-append_run.ensures ∙ ap (λ (t : Text). (string_bytes c.loop-rest.decoded) ++ t) c.range.ensures.value)) more;
       copied = omega arith;
       start = item_boundary (literal_view c.args.literal) c.args.text.now (c.loop-rest.len + length c.first_run-run.result.now) ((string_bytes c.loop-rest.decoded) ++ take (c.loop-rest.len + length c.first_run-run.result.now - c.loop-rest.copied) (drop c.loop-rest.copied c.args.text.now)) c.range_from-rest.result.now item after found;
       boundary = item_boundary (literal_view c.args.literal) c.args.text.now (c.loop-rest.len + length c.first_run-run.result.now) ((string_bytes c.loop-rest.decoded) ++ take (c.loop-rest.len + length c.first_run-run.result.now - c.loop-rest.copied) (drop c.loop-rest.copied c.args.text.now)) c.range_from-rest.result.now item after found;
       more = omega (arith, c.loop-rest.invariant.more);
-      reads = item_reads c.args.run c.loop-rest.len (length c.first_run-run.result.now) c.in-Goes.more _ _ _ _ c.loop-rest.invariant.more (item_inside (literal_view c.args.literal) c.args.text.now (c.loop-rest.len + length c.first_run-run.result.now) ((string_bytes c.loop-rest.decoded) ++ take (c.loop-rest.len + length c.first_run-run.result.now - c.loop-rest.copied) (drop c.loop-rest.copied c.args.text.now)) c.range_from-rest.result.now item after found).0 c.loop-rest.invariant.reads c.first_run-run.ensures.reads c.in-Goes.ensures.reads;
+      reads = item_reads c.args.run c.loop-rest.len (length c.first_run-run.result.now) c.in-Ok.more _ _ _ _ c.loop-rest.invariant.more (item_inside (literal_view c.args.literal) c.args.text.now (c.loop-rest.len + length c.first_run-run.result.now) ((string_bytes c.loop-rest.decoded) ++ take (c.loop-rest.len + length c.first_run-run.result.now - c.loop-rest.copied) (drop c.loop-rest.copied c.args.text.now)) c.range_from-rest.result.now item after found).0 c.loop-rest.invariant.reads c.first_run-run.ensures.reads c.in-Ok.ensures.reads;
     }
 
-pub returns-in-Stops-clause-body : goal.returns-in-Stops-clause-body
-returns-in-Stops-clause-body c =
-    let after = run_is (goal.at.returns-in-Stops-clause-body c).After-range_from-rest in
-    let end = run_stops (literal_view c.args.literal) c.args.text.now (c.loop-rest.len + length c.first_run-run.result.now) ((string_bytes c.loop-rest.decoded) ++ take (c.loop-rest.len + length c.first_run-run.result.now - c.loop-rest.copied) (drop c.loop-rest.copied c.args.text.now)) c.range_from-rest.result.now (stop_view c.in-Stops.stop) after (sym c.in-Stops.ensures.value) in
+pub returns-in-Err-clause-body : goal.returns-in-Err-clause-body
+returns-in-Err-clause-body c =
+    let after = run_is (goal.at.returns-in-Err-clause-body c).After-range_from-rest in
+    let end = run_stops (literal_view c.args.literal) c.args.text.now (c.loop-rest.len + length c.first_run-run.result.now) ((string_bytes c.loop-rest.decoded) ++ take (c.loop-rest.len + length c.first_run-run.result.now - c.loop-rest.copied) (drop c.loop-rest.copied c.args.text.now)) c.range_from-rest.result.now (stop_view c.in-Err.stop) after (sym c.in-Err.ensures.value) in
     record { len = end.0; value = (c.in_ok-append_run.ensures ∙ ap (λ (t : Text). (string_bytes c.loop-rest.decoded) ++ t) c.range.ensures.value) ∙ end.1; stop = end.2 }

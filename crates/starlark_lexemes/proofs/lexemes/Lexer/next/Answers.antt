@@ -14,10 +14,16 @@ use Rattle.starlark_lexemes.proofs.PlainLexemes.{some_going, whole_going}
 use Rattle.starlark_lexemes.proofs.lexemes.Lexer.next.Goals as goal
 
 pub returns-then-is_some-clause-item : goal.returns-then-is_some-clause-item
-returns-then-is_some-clause-item c = search (rules, some_going, answers_item)
+returns-then-is_some-clause-item c = λ on.
+    let some : is_some c.next-item.result ≡ true = (let is = c.is_some.ensures in let yes = c.if-is_some.true in cc) in
+    let going = some_going c.self.inside.state c.next-item.result c.next-item.new.self some c.next-item.ensures.ended in
+    rw (← c.self.view_is) (answers_item c.self.inside.code_map c.self.inside.state c.next-item.result c.next-item.new.self some (c.self.invariant.0.1 going).0 (c.next-item.ensures.answer going))
 
 pub returns-then-is_some-clause-within : goal.returns-then-is_some-clause-within
-returns-then-is_some-clause-within c = search (rules, some_going, answers_within)
+returns-then-is_some-clause-within c =
+    let some : is_some c.next-item.result ≡ true = (let is = c.is_some.ensures in let yes = c.if-is_some.true in cc) in
+    let going = some_going c.self.inside.state c.next-item.result c.next-item.new.self some c.next-item.ensures.ended in
+    rw (← c.self.view_is) (answers_within c.self.inside.state c.next-item.result c.next-item.new.self some c.self.invariant.0.0.fits (c.next-item.ensures.answer going))
 
 pub returns-then-is_some-clause-between : goal.returns-then-is_some-clause-between
 returns-then-is_some-clause-between c =
@@ -28,10 +34,16 @@ returns-then-is_some-clause-between c =
     (answers_item c.self.inside.code_map c.self.inside.state c.next-item.result c.next-item.new.self some (c.self.invariant.0.1 going).0 (c.next-item.ensures.answer going)))
 
 pub returns-then-is_some-clause-cut : goal.returns-then-is_some-clause-cut
-returns-then-is_some-clause-cut c = search (rules, some_going, answers_cut)
+returns-then-is_some-clause-cut c =
+    let some : is_some c.next-item.result ≡ true = (let is = c.is_some.ensures in let yes = c.if-is_some.true in cc) in
+    let going = some_going c.self.inside.state c.next-item.result c.next-item.new.self some c.next-item.ensures.ended in
+    answers_cut c.self.inside.state c.next-item.result c.next-item.new.self c.self.invariant.0 going (c.next-item.ensures.answer going) c.next-item.ensures.after
 
 pub returns-then-is_some-clause-reads : goal.returns-then-is_some-clause-reads
-returns-then-is_some-clause-reads c = search (rules, some_going, answers_read)
+returns-then-is_some-clause-reads c = λ on.
+    let some : is_some c.next-item.result ≡ true = (let is = c.is_some.ensures in let yes = c.if-is_some.true in cc) in
+    let going = some_going c.self.inside.state c.next-item.result c.next-item.new.self some c.next-item.ensures.ended in
+    rw (← c.self.view_is) (answers_read c.self.inside.state c.next-item.result c.next-item.new.self some going (c.next-item.ensures.answer going) c.next-item.ensures.lexing c.next-item.ensures.after)
 
 pub returns-then-self-clause-item : goal.returns-then-self-clause-item
 returns-then-self-clause-item c = search (rules, some_item)

@@ -12,7 +12,7 @@ use Rattle.starlark_lexemes.proofs.PlainLexemes.{plain_inside, reader_boundary}
 use Rattle.starlark_token.specs.Lexemes.{shown_lexeme}
 use Rattle.starlark_words.specs.Inner.ScannedWords.{peeked_len}
 use Rattle.starlark_lexemes.proofs.FoundWords.{gone_from, left_on, one_more_fits, past_lexing, word_passed, word_stored}
-use Rattle.starlark_lexemes.proofs.LexerReads.{nothing_kept, peeked_len_few, peeked_more, peeked_taken, slow_word, word_inside}
+use Rattle.starlark_lexemes.proofs.LexerReads.{found_out, peeked_len_few, peeked_more, peeked_taken, slow_word, word_inside}
 use Rattle.starlark_lexemes.proofs.lexer_state.LexerState.look_further.Goals as goal
 
 pub returns-in-Skipped : goal.returns-in-Skipped
@@ -43,8 +43,8 @@ step_over-requires-clause-fits c = (word_inside_text c.unnamed_word.new.self c.i
 pub step_over-requires-in-Comment-clause-fits : goal.step_over-requires-in-Comment-clause-fits
 step_over-requires-in-Comment-clause-fits c = (word_inside_text c.unnamed_word.new.self c.in-Some.word c.unnamed_word.ensures.sound c.in-Some.ensures.stands).1
 
-pub overflow_add-self : goal.overflow_add-self
-overflow_add-self c =
+pub count_passed-requires : goal.count_passed-requires
+count_passed-requires c =
     let small : c.args.self.now.yielded_count + 1 ≤ 2 ^ 34 = one_more_fits c.args.self.now c.requires.text.fits c.requires.few in
     search (rules, small)
 
@@ -71,14 +71,14 @@ returns-in-Comment c =
     let first = reader_boundary text mid _ _ code.stage here in
     let last = reader_boundary text new _ _ taken.2 is.2 in
     let value = rw same at comment.1 in
-    record {
+    rw c.count_passed.ensures.same (record {
       passed = (
         plain_inside text kind.Comment mid.at new.at (mid.at + 1) new.at at.text.fits (omega (arith, inside.0, taken.1.0)) (omega (arith, inside.0, taken.1.0)) first last value last,
         subst (λ n. IsAheadPast text (comment_lexeme text mid.at n) new (left_in old) (outcome text).fault) (sym taken.1.0) is,
       );
-      lexing = past_lexing old _ _ old.word old.run old.found (ap (λ (reader : Reader). reader.text) stepped ∙ same) at.text at.going is (nothing_kept text new old.word old.run old.found at.lookahead (rw same at (step_in_code mid new _ word.len _ stands stepped)) read);
+      lexing = past_lexing old _ _ old.word old.run c.count_passed.new.self.found (ap (λ (reader : Reader). reader.text) stepped ∙ same) at.text at.going is (found_out text new old.word old.run c.count_passed.new.self.found c.count_passed.ensures.found is.2.is_pending read);
       after = rw (ap (λ (reader : Reader). reader.text) stepped, same, at.going) refl;
-    }
+    })
 
 pub returns-in_default-class : goal.returns-in_default-class
 returns-in_default-class c =

@@ -42,8 +42,13 @@ returns-in-Some-Err c =
       after = rw (c.plain_text.ensures.text, c.requires.going, none) refl;
     }
 
-pub overflow_add-self : goal.overflow_add-self
-overflow_add-self c =
+pub count_passed-requires : goal.count_passed-requires
+count_passed-requires c =
+    let small : c.args.self.now.yielded_count + 1 ≤ 2 ^ 34 = one_more_fits c.args.self.now c.requires.lexing.0.fits (c.requires.lexing.1 c.requires.going).0 in
+    search (rules, small)
+
+pub count_passed-requires-2 : goal.count_passed-requires-2
+count_passed-requires-2 c =
     let small : c.args.self.now.yielded_count + 1 ≤ 2 ^ 34 = one_more_fits c.args.self.now c.requires.lexing.0.fits (c.requires.lexing.1 c.requires.going).0 in
     search (rules, small)
 
@@ -69,11 +74,11 @@ returns-then-found-eq0 c =
     let lexeme = c.take_chunk_end-begin.result in
     let count = mark_counted c.of_mark.result (token_view lexeme.1) lexeme.0 lexeme.2 c.of_mark.ensures in
     let memory = advance_in_memory c.of_mark.result (token_view lexeme.1) lexeme.0 lexeme.2 c.of_mark.ensures in
-    lexeme_advances c.args.self.now c.of_mark.result _ (mark_advances c.of_mark.result (token_view lexeme.1) c.of_mark.ensures) (record {
+    rw c.count_passed.ensures.same (lexeme_advances c.args.self.now c.of_mark.result _ (mark_advances c.of_mark.result (token_view lexeme.1) c.of_mark.ensures) (record {
       passed = mark_passed c.args.self.now c.of_mark.result lexeme _ c.requires.lexing.0.fits inv.0 c.requires.lexing.0.utf8 c.of_mark.ensures is;
-      lexing = past_lexing c.args.self.now _ _ c.args.self.now.word c.args.self.now.run c.found_after-self.result (c.take_chunk_end-begin.ensures.text ∙ c.plain_text.ensures.text) c.requires.lexing.0 c.requires.going is (found_out c.args.self.now.reader.text.now c.take_chunk_end-begin.new.self c.args.self.now.word c.args.self.now.run c.found_after-self.result c.found_after-self.ensures is.2.is_pending read);
+      lexing = past_lexing c.args.self.now _ _ c.args.self.now.word c.args.self.now.run c.count_passed.new.self.found (c.take_chunk_end-begin.ensures.text ∙ c.plain_text.ensures.text) c.requires.lexing.0 c.requires.going is (found_out c.args.self.now.reader.text.now c.take_chunk_end-begin.new.self c.args.self.now.word c.args.self.now.run c.count_passed.new.self.found c.count_passed.ensures.found is.2.is_pending read);
       after = rw (c.take_chunk_end-begin.ensures.text, c.plain_text.ensures.text, c.requires.going, count, memory) refl;
-    })
+    }))
 
 pub returns : goal.returns
 returns c =
@@ -90,11 +95,11 @@ returns c =
     let read = peeked_taken c.args.self.now.reader.text.now (plain.len + 3) (6 * plain.len + 4) (plain.len + plain.stop_len) c.plain_text.new.self c.pass_chunk.new.self peeked (omega (arith, some.1)) (omega (arith, some.0)) c.pass_chunk.ensures.passed in
     let at = c.plain_text.new.self.at in
     let edges = rw c.plain_text.ensures.text at (text_edges mid c.in-Some-Ok.found c.plain_text.ensures.sound stands) in
-    record {
+    rw c.count_passed-2.ensures.same (record {
       passed = (
         plain_inside c.args.self.now.reader.text.now kind.FStringText at (at + plain.len) at (at + plain.len) c.requires.lexing.0.fits (omega (arith)) (omega (arith)) edges.0 edges.1 edges.0 edges.1,
         subst (λ (view : Spanned TokenView). IsAheadPast c.args.self.now.reader.text.now view c.pass_chunk.new.self (left_in c.args.self.now) (outcome c.args.self.now.reader.text.now).fault) (fstring_text_shown c.args.self.now.reader.text.now at plain.len) is,
       );
-      lexing = past_lexing c.args.self.now _ _ c.args.self.now.word c.args.self.now.run found.All (c.pass_chunk.ensures.text ∙ c.plain_text.ensures.text) c.requires.lexing.0 c.requires.going is read;
+      lexing = past_lexing c.args.self.now _ _ c.args.self.now.word c.args.self.now.run c.count_passed-2.new.self.found (c.pass_chunk.ensures.text ∙ c.plain_text.ensures.text) c.requires.lexing.0 c.requires.going is (found_out c.args.self.now.reader.text.now c.pass_chunk.new.self c.args.self.now.word c.args.self.now.run c.count_passed-2.new.self.found c.count_passed-2.ensures.found is.2.is_pending read);
       after = rw (c.pass_chunk.ensures.text, c.plain_text.ensures.text, c.requires.going) refl;
-    }
+    })

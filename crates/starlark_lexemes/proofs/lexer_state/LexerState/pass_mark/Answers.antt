@@ -7,8 +7,8 @@ use Rattle.starlark_lexemes.proofs.PlainLexemes.{lexeme_advances, mark_counted, 
 use Rattle.starlark_token.specs.TokenViews.{token_view}
 use Rattle.starlark_lexemes.proofs.lexer_state.LexerState.pass_mark.Goals as goal
 
-pub overflow_add-self : goal.overflow_add-self
-overflow_add-self c =
+pub count_passed-requires : goal.count_passed-requires
+count_passed-requires c =
     let small : c.args.self.now.yielded_count + 1 ≤ 2 ^ 34 = one_more_fits c.args.self.now c.requires.lexing.0.fits (c.requires.lexing.1 c.requires.going).0 in
     search (rules, small)
 
@@ -24,8 +24,8 @@ returns-clause-passed c = λ some.
     let has : HasRead text new = search (rules, read) in
     let count = mark_counted c.of_mark.result (token_view c.in-Some.token) c.in-Some.begin c.in-Some.end c.of_mark.ensures in
     let memory = advance_in_memory c.of_mark.result (token_view c.in-Some.token) c.in-Some.begin c.in-Some.end c.of_mark.ensures in
-    lexeme_advances c.args.self.now c.of_mark.result _ (mark_advances c.of_mark.result (token_view c.in-Some.token) c.of_mark.ensures) (record {
+    rw c.count_passed.ensures.same (lexeme_advances c.args.self.now c.of_mark.result _ (mark_advances c.of_mark.result (token_view c.in-Some.token) c.of_mark.ensures) (record {
       passed = mark_passed c.args.self.now c.of_mark.result (c.in-Some.begin, c.in-Some.token, c.in-Some.end) _ c.requires.lexing.0.fits inv.0 c.requires.lexing.0.utf8 c.of_mark.ensures is;
-      lexing = past_lexing c.args.self.now _ _ c.args.self.now.word c.args.self.now.run c.found_after-self.result refl c.requires.lexing.0 c.requires.going is (found_out c.args.self.now.reader.text.now new c.args.self.now.word c.args.self.now.run c.found_after-self.result c.found_after-self.ensures is.2.is_pending has);
+      lexing = past_lexing c.args.self.now _ _ c.args.self.now.word c.args.self.now.run c.count_passed.new.self.found refl c.requires.lexing.0 c.requires.going is (found_out c.args.self.now.reader.text.now new c.args.self.now.word c.args.self.now.run c.count_passed.new.self.found c.count_passed.ensures.found is.2.is_pending has);
       after = rw (c.requires.going, count, memory) refl;
-    })
+    }))

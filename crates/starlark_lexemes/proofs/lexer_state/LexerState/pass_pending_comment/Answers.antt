@@ -8,8 +8,8 @@ use Rattle.starlark_lexemes.proofs.PlainLexemes.{plain_inside}
 use Rattle.starlark_lexemes.specs.declared.plain_lexeme.PlainKind.TheVariants as kind
 use Rattle.starlark_lexemes.proofs.lexer_state.LexerState.pass_pending_comment.Goals as goal
 
-pub overflow_add-self : goal.overflow_add-self
-overflow_add-self c =
+pub count_passed-requires : goal.count_passed-requires
+count_passed-requires c =
     let small : c.args.self.now.yielded_count + 1 ≤ 2 ^ 34 = one_more_fits c.args.self.now c.requires.lexing.0.fits (c.requires.lexing.1 c.requires.going).0 in
     search (rules, small)
 
@@ -24,8 +24,8 @@ returns c =
     let is = lexeme_past text c.args.self.now.reader new (comment_lexeme text place.0 place.1) _ _ (record { at = refl; nesting = refl; levels = refl; before = refl }) refl passed.next passed.lines (λ some. passed.flat) inv.1 in
     let read = all_read c.args.self.now.reader.text.now c.args.self.now.reader c.args.self.now.word c.args.self.now.run c.args.self.now.found c.requires.all (c.requires.lexing.3 c.requires.going) in
     let has : HasRead text new = search (rules, read) in
-    record {
+    rw c.count_passed.ensures.same (record {
       passed = (plain_inside c.args.self.now.reader.text.now kind.Comment place.0 place.1 (place.0 + 1) place.1 c.requires.lexing.0.fits (omega (arith, inside.order)) (omega (arith, inside.order)) inside.first inside.last inside.value inside.last, is);
-      lexing = past_lexing c.args.self.now _ _ c.args.self.now.word c.args.self.now.run c.found_after-self.result refl c.requires.lexing.0 c.requires.going is (found_out c.args.self.now.reader.text.now new c.args.self.now.word c.args.self.now.run c.found_after-self.result c.found_after-self.ensures is.2.is_pending has);
+      lexing = past_lexing c.args.self.now _ _ c.args.self.now.word c.args.self.now.run c.count_passed.new.self.found refl c.requires.lexing.0 c.requires.going is (found_out c.args.self.now.reader.text.now new c.args.self.now.word c.args.self.now.run c.count_passed.new.self.found c.count_passed.ensures.found is.2.is_pending has);
       after = rw c.requires.going refl;
-    }
+    })

@@ -9,4 +9,4 @@ returns-then-is_empty-clause-step c =
 
 pub returns-clause-step : goal.returns-clause-step
 returns-clause-step c =
-    rw c.in_ok-text.ensures.ok (InvalidEscapeSequence c.args.read.now, refl, escape_some c.args.begin c.args.read.now (sym c.is_empty.ensures ∙ c.if-is_empty.false))
+    rw c.in_ok-from_str.ensures.ok (InvalidEscapeSequence c.args.read.now, refl, escape_some c.args.begin c.args.read.now (sym c.is_empty.ensures ∙ c.if-is_empty.false))
