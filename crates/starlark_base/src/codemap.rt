@@ -19,7 +19,7 @@ pub use code_maps::CodeMaps;
 pub use file_span::FileSpan;
 pub use file_span_ref::FileSpanRef;
 pub use positions::Pos;
-pub use refusals::SourceTooLong;
+pub use refusals::{SourceTooLong, is_source_len};
 pub use resolved::{ResolvedFileLine, ResolvedFileSpan, ResolvedPos, ResolvedSpan};
 pub use spanned_nodes::Spanned;
 pub use spans::Span;

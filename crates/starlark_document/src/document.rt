@@ -20,7 +20,7 @@ use crate::line_places::{Place, newlines_in, offset_in_segments, place_in};
 use crate::segments::{Faults, Lexemes, Segment, SegmentPlace, passed_len, segment_at};
 use starlark_base::edit::Edit;
 use starlark_devices::WriteDevice;
-use starlark_syntax::codemap::{CodeMap, CodeMapId, OrMemory, SourceTooLong};
+use starlark_syntax::codemap::{CodeMap, CodeMapId, OrMemory, SourceTooLong, is_source_len};
 use std::alloc::{AllocError, Global};
 use std::marker::Model;
 use std::{fmt, io};
@@ -196,7 +196,7 @@ impl Document {
         ensures text { IfOk result (λ document. document ≡ text.now) }
         ensures too_long { IsRefused result ↔ (2 ^ 32 ≤ length text.now) }
     {
-        if text.len() > u32::MAX as usize {
+        if !is_source_len(text.len()) {
             return Err(OrMemory::Error(SourceTooLong));
         }
         let file = empty_file(alloc)?;
@@ -250,13 +250,13 @@ impl Document {
         let Some(range) = range_in(&self.segments, from, to) else {
             return Err(EditError::BadRange);
         };
-        if text.len() > u32::MAX as usize - (self.len - (to - from)) {
+        let len = self.len - (to - from) + text.len();
+        if !is_source_len(len) {
             return Err(EditError::TooLong);
         }
         let part = part_of_edit(self.alloc, &self.segments, range, from, to, text)?;
         let first = part.first;
         let lexed = lex_part(self.alloc, &self.file, &self.segments, part, self.least_len)?;
-        let len = self.len - (to - from) + text.len();
         let change = replace(&mut self.segments, first, lexed, self.len, len)?;
         self.len = len;
         Ok(change)

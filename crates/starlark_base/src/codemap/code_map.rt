@@ -12,7 +12,9 @@ ghost use Rattle.starlark_base.specs.Starts.{line_starts};
 ghost use Rattle.starlark_base.specs.declared.codemap.character_counts.TheConstants.{STEP};
 
 use crate::codemap::character_counts::{characters_between, counts_of};
-use crate::codemap::{FileSpan, OrMemory, Pos, ResolvedPos, ResolvedSpan, SourceTooLong, Span};
+use crate::codemap::{
+    FileSpan, OrMemory, Pos, ResolvedPos, ResolvedSpan, SourceTooLong, Span, is_source_len,
+};
 use std::alloc::{AllocError, Global};
 use std::fmt;
 use std::hash::{Hash, Hasher};
@@ -134,7 +136,7 @@ impl CodeMap {
         ensures ok { IfOk result (λ map. map ≡ record { id = id; filename = string_bytes filename; source = string_bytes source }) }
         ensures too_long { IsRefused result ↔ (2 ^ 32 ≤ length (string_bytes source)) }
     {
-        if source.len() > u32::MAX as usize {
+        if !is_source_len(source.len()) {
             return Err(OrMemory::Error(SourceTooLong));
         }
         let starts = starts_of_lines(alloc, source.as_str())?;

@@ -1,4 +1,6 @@
-//! The error of making a code map.
+//! The greatest length of a source text, and the error for a longer one.
+
+ghost use Rattle.std.specs.Prelude.{◌<◌, ◌^◌, ◌↔◌, IsTrue};
 
 use thiserror::Error;
 
@@ -8,3 +10,10 @@ use thiserror::Error;
 #[derive(Debug, Drop, Error)]
 #[error("source is longer than 4294967295 bytes")]
 pub struct SourceTooLong;
+
+/// Whether a source text may have this length in bytes: at most 4294967295, the greatest position.
+pub fn is_source_len(len: usize) -> bool
+    ensures { IsTrue result ↔ (len < 2 ^ 32) }
+{
+    len <= u32::MAX as usize
+}

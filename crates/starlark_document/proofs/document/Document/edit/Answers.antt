@@ -31,7 +31,7 @@ invariant_of-self-2 c =
     let at = goal.at.invariant_of-self-2 c in
     let len = len_is at.In_ok-part in
     let same_len = ap length (c.in_ok-change.ensures.text _ c.in_ok-part.part (part_is at.In_ok-part) refl (lexed_is at.In_ok-lexed)) in
-    (c.in_ok-change.ensures.laid, omega (arith, len, same_len), omega (arith, len, same_len, c.if-text-self.false))
+    (c.in_ok-change.ensures.laid, omega (arith, len, same_len), omega (arith, len, same_len, c.is_source_len.ensures.0 c.if-not-is_source_len.false))
 
 pub returns-clause-text : goal.returns-clause-text
 returns-clause-text c =
@@ -41,11 +41,11 @@ returns-clause-text c =
 pub returns-in_err-change-clause-too_long : goal.returns-in_err-change-clause-too_long
 returns-in_err-change-clause-too_long c = (
   λ is. search (rules, is),
-  λ long. absurd (omega (arith, c.if-text-self.false, edited_len c.args.self.now c.args.from c.args.to c.args.text.now long.0, long.1, c.self.invariant.1, ap length c.self.view_is)),
+  λ long. absurd (omega (arith, c.is_source_len.ensures.0 c.if-not-is_source_len.false, edited_len c.args.self.now c.args.from c.args.to c.args.text.now long.0, long.1, c.self.invariant.1, ap length c.self.view_is)),
 )
 
 pub returns-clause-too_long : goal.returns-clause-too_long
 returns-clause-too_long c = (
   λ is. cc,
-  λ long. absurd (omega (arith, c.if-text-self.false, edited_len c.args.self.now c.args.from c.args.to c.args.text.now long.0, long.1, c.self.invariant.1, ap length c.self.view_is)),
+  λ long. absurd (omega (arith, c.is_source_len.ensures.0 c.if-not-is_source_len.false, edited_len c.args.self.now c.args.from c.args.to c.args.text.now long.0, long.1, c.self.invariant.1, ap length c.self.view_is)),
 )
