@@ -29,6 +29,7 @@ PART = "documents"
 EDITS_OF_A_TEXT = 20
 SHOWN = 5
 SPAN = re.compile(rb"(fault )?([0-9]+)-([0-9]+)(.*)")
+READS = re.compile(rb"(?<=[0-9]) [0-9]+(?=, same$)")
 
 # What is typed in turn into a stored document, and deleted again: literals, brackets and blocks that open and close.
 TYPED = [b'"""', b"(", b")", b"'", b"f'{", b"\\", b"#", b"if x:\n  ", b"\n", b" ", b"\t", b"$", b"is ", b"f'\n"]
@@ -83,15 +84,15 @@ def line_edits(lines, least_len, typed):
     text = LINE * lines
     for begin, end in line_segments(lines, least_len):
         at, later = begin + len(LINE), end + len(typed)
-        yield edit_command(at, at, typed), text[:at] + typed + text[at:], f"{begin} {end} {later} {later - begin} same".encode()
-        yield edit_command(at, at + len(typed), b""), text, f"{begin} {later} {end} {end - begin} same".encode()
+        yield edit_command(at, at, typed), text[:at] + typed + text[at:], f"{begin} {end} {later} {later - begin}, same".encode()
+        yield edit_command(at, at + len(typed), b""), text, f"{begin} {later} {end} {end - begin}, same".encode()
 
 
 def line_documents():
     """Lines put into an empty document, and few lines in a new one, with edits of each, and what each command returns."""
     text, few = LINE * LINES, LINE * FEW_LINES
     lexed = sum(len(text) - begin for begin, _ in line_segments(LINES, SEGMENT_LEN))
-    yield edit_command(0, 0, text), text, f"0 0 {len(text)} {lexed} same".encode()
+    yield edit_command(0, 0, text), text, f"0 0 {len(text)} {lexed}, same".encode()
     yield from line_edits(LINES, SEGMENT_LEN, b"y")
     yield new_command(FEW_BYTES, few), few, b"same"
     yield from line_edits(FEW_LINES, FEW_BYTES, b"zz")
@@ -99,8 +100,8 @@ def line_documents():
 
 # What some stored commands return: that each edit lexes a segment, and of one edit made twice how many were made, or which is refused.
 WANTED = {
-    b"twice 0 1 2\n<<\n": b"2 same",
-    b"twice 0 60 0\n\n": b"1 bad range same",
+    b"twice 0 1 2\n<<\n": b"2, same",
+    b"twice 0 60 0\n\n": b"1 the range isn't one of the text, same",
     **{command: output for command, _, output in line_documents()},
 }
 
@@ -211,6 +212,11 @@ def slice_text(text, begin, end):
     return text[begin:end].rstrip(b"\n") if end <= len(text) else b"none"
 
 
+def without_reads(output):
+    """What an edit returned, without its count of reads, which nothing else counts."""
+    return READS.sub(b"", output)
+
+
 def is_unchanged(change, before, after):
     """Whether what is found before and after an edit is the same outside of what it says that it changed."""
     begin, old_end, new_end, _ = map(int, change.split()[:4])
@@ -225,7 +231,7 @@ def fault_at(commands, texts, outputs, wanted):
     for number, (command, text, output) in enumerate(zip(commands, texts, outputs)):
         if command.startswith((b"new", b"edit", b"twice")) and not output.endswith(b"same"):
             return number
-        if output != wanted.get(command, output):
+        if command in wanted and without_reads(output) != wanted[command]:
             return number
         if command.startswith(b"slice") and output != slice_text(text, *map(int, command.split()[1:])):
             return number

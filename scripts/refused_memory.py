@@ -40,7 +40,7 @@ from shared.programs import TOP, built, give_up
 from shared.stored import Edit, edited_record, list_of, parts_of, read_part
 
 OUT_OF_MEMORY = b"out of memory"
-OUT_OF_MEMORY_OF_AN_EDIT = b"memory same\n"
+OUT_OF_MEMORY_OF_AN_EDIT = b"out of memory, same\n"
 MOST_ALLOCATIONS = 100_000
 NO_COMPILER = 2
 

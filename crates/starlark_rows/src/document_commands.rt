@@ -3,7 +3,8 @@
 //! A command is a line, and for `new`, `edit` and `twice` a text of LEN bytes and an LF after it:
 //!
 //! - `new LEAST LEN`: a document of the text, whose segments have at least LEAST bytes;
-//! - `edit FROM TO LEN`: replaces the bytes from FROM to TO by the text;
+//! - `edit FROM TO LEN`: replaces the bytes from FROM to TO by the text, and prints what changed, the
+//!   bytes that were lexed and the reads, or the error;
 //! - `twice FROM TO LEN`: does that two times by one call;
 //! - `show`: prints all lexemes, and then all faults;
 //! - `from AT`: prints the lexemes from the first one on that ends after byte AT;
@@ -21,20 +22,11 @@ mod found_lines;
 use crate::document_commands::commands::{Command, read_command};
 use crate::document_commands::found_lines::{add_faults, add_lexemes, found_in};
 use crate::stored_parts::invalid_data;
-use starlark_document::{Change, Document, Edit, EditError, Place};
+use starlark_document::{Change, Document, Edit, Place};
 use std::alloc::{AllocError, Global};
 use std::fmt::Write as FmtWrite;
 use std::io;
 use std::io::Write;
-
-/// The word for an error of an edit.
-fn word_of(error: EditError) -> &'static str {
-    match error {
-        EditError::BadRange => "bad range",
-        EditError::TooLong => "too long",
-        EditError::Memory => "memory",
-    }
-}
 
 /// The lines of all lexemes and faults of a document.
 fn lines_of(alloc: Global, document: &Document) -> Result<String, AllocError> {
@@ -73,14 +65,15 @@ fn compared(alloc: Global, document: &Document) -> io::Result<&'static str> {
 fn shown_change(alloc: Global, change: &Change) -> Result<String, AllocError> {
     let mut numbers = String::new(alloc);
     write!(numbers, "{} {} ", change.begin, change.old_end)?;
-    write!(numbers, "{} {}", change.new_end, change.lexed)?;
+    write!(numbers, "{} {} ", change.new_end, change.lexed)?;
+    write!(numbers, "{}", change.reads)?;
     Ok(numbers)
 }
 
 /// What a call returned, and the word for the document after it.
 fn with_comparison(alloc: Global, returned: &str, document: &Document) -> io::Result<String> {
     let word = compared(alloc, document)?;
-    Ok(format!(in alloc; "{returned} {word}")?)
+    Ok(format!(in alloc; "{returned}, {word}")?)
 }
 
 /// Runs an edit, and returns the line that says what it returned.
@@ -93,7 +86,7 @@ fn edit_line(
 ) -> io::Result<String> {
     let edited = match document.edit(from, to, text) {
         Ok(change) => shown_change(alloc, &change)?,
-        Err(error) => word_of(error).to_string(alloc)?,
+        Err(error) => error.to_string(alloc)?,
     };
     with_comparison(alloc, edited.as_str(), document)
 }
@@ -102,7 +95,7 @@ fn edit_line(
 fn twice_line(alloc: Global, document: &mut Document, edit: Edit<'_>) -> io::Result<String> {
     let edited = match document.edit_all(&[edit, edit]) {
         Ok(count) => count.to_string(alloc)?,
-        Err((index, error)) => format!(in alloc; "{index} {}", word_of(error))?,
+        Err((index, error)) => format!(in alloc; "{index} {error}")?,
     };
     with_comparison(alloc, edited.as_str(), document)
 }

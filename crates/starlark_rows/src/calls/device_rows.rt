@@ -2,6 +2,7 @@
 
 use crate::calls::failing_devices::{Sink, Source, behaviour_of};
 use starlark_calls::rows::{Answer, Row, both, unknown};
+use starlark_document::Document;
 use starlark_run::{RunFault, RunStatus, Watched, run};
 use std::alloc::{AllocError, Global};
 use std::io;
@@ -123,6 +124,19 @@ fn flush_twice(alloc: Global, row: &Row) -> Answer {
     format!(in alloc; "{first} {second} {}", writer.failed())
 }
 
+/// A document of the text written to a writer: whether that failed, and how much of it is missing.
+fn write_document(alloc: Global, row: &Row) -> Answer {
+    let text = row.text(2);
+    let document = Document::with_segment_len(alloc, text, 1).map_err(|_| AllocError)?;
+    let mut writer = Sink {
+        wanted: text.as_bytes(),
+        other_came: false,
+        behaviour: behaviour_of(row, 3),
+    };
+    let written = shown(alloc, document.write_to(&mut writer).map(|()| 0))?;
+    format!(in alloc; "{written} {}", missing(text.len(), &writer))
+}
+
 /// The answer to a call over devices.
 pub fn answer(alloc: Global, row: &Row) -> Answer {
     match row.text(1) {
@@ -134,6 +148,7 @@ pub fn answer(alloc: Global, row: &Row) -> Answer {
         "read" => read_twice(alloc, row),
         "write" => write_twice(alloc, row),
         "flush" => flush_twice(alloc, row),
+        "document" => write_document(alloc, row),
         "faults" => both(alloc, &RunFault::TooLong, &RunFault::Memory),
         _ => unknown(alloc, row),
     }
