@@ -3,6 +3,7 @@
 use crate::rows::{Answer, Row, both, given, shown, unknown};
 use starlark_syntax::codemap::{
     CodeMapId, CodeMaps, FileSpan, OrMemory, Pos, ResolvedFileSpan, SourceTooLong, Span, Spanned,
+    is_source_len,
 };
 use std::alloc::{AllocError, Global};
 
@@ -103,6 +104,12 @@ fn positions(alloc: Global) -> Answer {
     shown(alloc, &(pos - 2).get())
 }
 
+/// Whether a source text may have the length that is the sum of two fields.
+fn sum_is_source_len(alloc: Global, row: &Row) -> Answer {
+    let len = row.count(2) as usize + row.count(3) as usize;
+    shown(alloc, &is_source_len(len))
+}
+
 /// The answer to a call of files, or of what stands in them.
 pub fn answer(alloc: Global, row: &Row) -> Answer {
     match row.text(1) {
@@ -113,6 +120,7 @@ pub fn answer(alloc: Global, row: &Row) -> Answer {
         "refusals" => refusals(alloc),
         "spanned" => spanned(alloc, row),
         "positions" => positions(alloc),
+        "is_source_len" => sum_is_source_len(alloc, row),
         _ => unknown(alloc, row),
     }
 }
