@@ -1,4 +1,5 @@
-//! Runs over devices that fail, give or take little, or take nothing, and calls of watched devices.
+//! Runs over devices that fail, give or take little, or take nothing, calls of watched devices, and
+//! documents that are written.
 
 use crate::calls::failing_devices::{Sink, Source, behaviour_of};
 use starlark_calls::rows::{Answer, Row, both, unknown};
