@@ -15,8 +15,8 @@ use Rattle.starlark_reader.specs.Inner.Reader.{IsAhead, IsAheadAfter, IsAheadPas
 use Rattle.starlark_reader.specs.declared.reader.Reader.{Reader}
 use Rattle.starlark_reader.specs.declared.reader.Stage.TheVariants as stages
 use Rattle.starlark_reader.proofs.TakenPieces.PieceTaken.{left_onward}
-use Rattle.starlark_lexemes.specs.Inner.LexerStates.{HasAnswered, HasTold, HasToldNext, HasAdvanced, HasTaken, IsLexing, IsOfMark, is_out_of_memory, left_in, lexer_view, told_as, told_count, plain_fstring_text, plain_mark, plain_string}
-use Rattle.starlark_lexemes.specs.Lexer.{LexerView, most_reads}
+use Rattle.starlark_lexemes.specs.Inner.LexerStates.{HasAnswered, HasRunOut, StateView, known_cut, view_of, HasTold, HasToldNext, HasAdvanced, HasTaken, IsLexing, IsOfMark, is_out_of_memory, left_in, lexer_view, told_as, told_count, plain_fstring_text, plain_mark, plain_string}
+use Rattle.starlark_lexemes.specs.Lexer.{LexerView, is_ended_by, most_reads, yielded_by}
 use Rattle.starlark_lexemes.specs.PlainLexemes.{IsPlainIn, plain_token, plain_value, plain_view, token_of}
 use Rattle.starlark_errors.specs.declared.error.kinds.ErrorKind.{ErrorKind}
 use Rattle.starlark_lexemes.proofs.LexerItems.{given_between, lexeme_item}
@@ -186,6 +186,20 @@ whole_going state file has_run_out lexer none is going = by state.has_ended refl
     by : (b : Bool) → state.has_ended ≡ b → state.has_ended ≡ false
     by true e = let both : true ≡ false = sym (ap (λ (b : Bool). b && true) e) ∙ ap (λ (b : Bool). state.has_ended && not b) (sym none) ∙ ended in cc
     by false e = e
+
+-- what a lexer says of itself after an answer of its state, which no error had ended
+pub view_after : (file : SourceFile) (has_run_out : Bool) (old : LexerState) (answer : Option (Result (ℕ × Token × ℕ) (OrMemory (Diagnosed ErrorKind)))) (new : LexerState) → (has_run_out ≡ true → HasRunOut old) → old.has_ended ≡ false
+    → view_of new ≡ record (view_of old) { yielded_count = old.yielded_count + yielded_by answer; has_ended = old.has_ended || is_ended_by answer; reads = new.reader.reads }
+    → lexer_view new file has_run_out ≡ record (lexer_view old file has_run_out) { yielded_count = old.yielded_count + yielded_by answer; has_ended = (lexer_view old file has_run_out).has_ended || is_ended_by answer; reads = new.reader.reads; cut = known_cut new }
+view_after file true old answer new run going after = absurd (let ended = (run refl).ended in cc)
+view_after file false old answer new run going after =
+    ap (λ (v : StateView). record { text = v.text; code_map = file; yielded_count = v.yielded_count; has_ended = v.has_ended && true; reads = v.reads; cut = known_cut new }) after
+    ∙ ap (λ has_ended. record { text = old.reader.text.now; code_map = file; yielded_count = old.yielded_count + yielded_by answer; has_ended = has_ended; reads = new.reader.reads; cut = known_cut new }) (both old.has_ended (is_ended_by answer))
+  where
+    both : (a b : Bool) → ((a || b) && true) ≡ ((a && true) || b)
+    both true b = refl
+    both false true = refl
+    both false false = refl
 
 -- an ended state yields nothing
 pub some_going : (state : LexerState) (found : Option (Result (ℕ × Token × ℕ) (OrMemory (Diagnosed ErrorKind)))) (new : LexerState) → is_some found ≡ true → (state.has_ended ≡ true → (found ≡ None) × (new ≡ state)) → state.has_ended ≡ false

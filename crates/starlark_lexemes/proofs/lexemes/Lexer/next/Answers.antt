@@ -10,7 +10,7 @@ use Rattle.starlark_token.specs.declared.tokens.Token.{Token}
 use Rattle.starlark_lexemes.proofs.LexerCuts.{answers_cut}
 use Rattle.starlark_lexemes.proofs.LexerItems.{next_between, some_item}
 use Rattle.starlark_lexemes.proofs.LexerStates.{answers_item, answers_read, answers_within, ends_here, fault_going, moved_item, none_at_end, none_same, thrown_item, thrown_read, thrown_within}
-use Rattle.starlark_lexemes.proofs.PlainLexemes.{some_going, whole_going}
+use Rattle.starlark_lexemes.proofs.PlainLexemes.{some_going, view_after, whole_going}
 use Rattle.starlark_lexemes.proofs.lexemes.Lexer.next.Goals as goal
 
 pub returns-then-is_some-clause-item : goal.returns-then-is_some-clause-item
@@ -32,6 +32,12 @@ returns-then-is_some-clause-between c =
     rw (← c.self.view_is)
     (next_between c.self.inside.state.reader.text.now c.self.inside.code_map c.self.inside.state.yielded_count c.next-item.result c.self.invariant.0.0.utf8
     (answers_item c.self.inside.code_map c.self.inside.state c.next-item.result c.next-item.new.self some (c.self.invariant.0.1 going).0 (c.next-item.ensures.answer going)))
+
+pub returns-then-is_some-clause-after : goal.returns-then-is_some-clause-after
+returns-then-is_some-clause-after c =
+    let some : is_some c.next-item.result ≡ true = (let is = c.is_some.ensures in let yes = c.if-is_some.true in cc) in
+    let going = some_going c.self.inside.state c.next-item.result c.next-item.new.self some c.next-item.ensures.ended in
+    rw (← c.self.view_is) (view_after c.self.inside.code_map c.self.inside.has_run_out c.self.inside.state c.next-item.result c.next-item.new.self c.self.invariant.1 going c.next-item.ensures.after)
 
 pub returns-then-is_some-clause-cut : goal.returns-then-is_some-clause-cut
 returns-then-is_some-clause-cut c =
