@@ -73,17 +73,34 @@ fn type_all(
     Ok(lexed)
 }
 
+/// Makes a document of a text. Returns the document and the nanoseconds.
+fn timed_document(rt: &HostRuntime, text: &str) -> Result<(Document, u128), BenchFault> {
+    let start = Instant::now(rt)?;
+    let document = Document::new(rt.alloc(), text)?;
+    let elapsed = start.elapsed(rt)?;
+    Ok((document, elapsed.as_nanos()))
+}
+
+/// Types `count` characters into a document that took `made` nanoseconds to make, and deletes each
+/// again. Prints the line.
+fn print_typed(
+    rt: &HostRuntime,
+    document: &mut Document,
+    made: u128,
+    count: u32,
+) -> Result<(), BenchFault> {
+    let mut times = Vec::new(rt.alloc());
+    let lexed = type_all(rt, document, count, &mut times)?;
+    times.sort_unstable();
+    let (median, most) = (percentile(&times, 50), percentile(&times, 99));
+    let mean = lexed / (count as usize).max(1);
+    Ok(println!(rt; "{} {made} {median} {most} {mean}", document.len())?)
+}
+
 /// Makes a document of a text, types `count` characters in its middle half, each at another place, and
 /// deletes each again. Prints a line: the text's bytes, the nanoseconds of making the document, those
 /// of a keystroke at the median and at 99 %, and the bytes that a keystroke lexed on average.
 pub fn print_keystrokes(rt: &HostRuntime, text: &str, count: u32) -> Result<(), BenchFault> {
-    let start = Instant::now(rt)?;
-    let mut document = Document::new(rt.alloc(), text)?;
-    let made = start.elapsed(rt)?.as_nanos();
-    let mut times = Vec::new(rt.alloc());
-    let lexed = type_all(rt, &mut document, count, &mut times)?;
-    times.sort_unstable();
-    let (median, most) = (percentile(&times, 50), percentile(&times, 99));
-    let mean = lexed / (count as usize).max(1);
-    Ok(println!(rt; "{} {made} {median} {most} {mean}", text.len())?)
+    let (mut document, made) = timed_document(rt, text)?;
+    print_typed(rt, &mut document, made, count)
 }

@@ -57,24 +57,35 @@ enum Request {
     Relexed(u32),
 }
 
-/// What the arguments ask for; `None` where they are wrong.
-fn read_request<R: Env + AllocGlobal>(rt: &R) -> Option<Request> {
-    let mut arguments = env::args(rt).ok()?;
-    let _program = arguments.next();
-    let Some(flag) = arguments.next() else {
-        return Some(Request::Once);
-    };
-    let count = arguments.next()?.as_str().parse().ok()?;
-    if arguments.next().is_some() {
-        return None;
-    }
-    match flag.as_str() {
+/// What a flag and its count ask for; `None` where they are wrong.
+fn request_of(flag: &str, count: &str) -> Option<Request> {
+    let count = count.parse().ok()?;
+    match flag {
         "--bench" => Some(Request::Timed(count)),
         "--keystrokes" => Some(Request::Keystrokes(count)),
         "--places" => Some(Request::Places(count)),
         "--relex" => Some(Request::Relexed(count)),
         _ => None,
     }
+}
+
+/// What the arguments after the program's name ask for; `None` where they are wrong.
+fn next_request(arguments: &mut env::Args) -> Option<Request> {
+    let Some(flag) = arguments.next() else {
+        return Some(Request::Once);
+    };
+    let count = arguments.next()?;
+    if arguments.next().is_some() {
+        return None;
+    }
+    request_of(flag.as_str(), count.as_str())
+}
+
+/// What the arguments ask for; `None` where they are wrong.
+fn read_request<R: Env + AllocGlobal>(rt: &R) -> Option<Request> {
+    let mut arguments = env::args(rt).ok()?;
+    let _program = arguments.next();
+    next_request(&mut arguments)
 }
 
 /// Reads the text on standard input, and makes its code map.
