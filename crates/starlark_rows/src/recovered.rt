@@ -62,11 +62,21 @@ fn lexer_in<'a>(
     RecoveringLexer::new(alloc, text, &Dialect::Standard, file.dupe()?).map_err(|_| AllocError)
 }
 
+/// Appends the lines of all lexemes and all faults of a text.
+fn add_found(
+    alloc: Global,
+    lines: &mut String,
+    text: &str,
+    file: &CodeMap,
+) -> Result<(), AllocError> {
+    let mut lexer = lexer_in(alloc, text, file)?;
+    add_all(lines, file, &mut lexer)
+}
+
 /// The lines of all lexemes and all faults of a text.
 fn lines_in(alloc: Global, text: &str, file: &CodeMap) -> Result<String, AllocError> {
     let mut lines = String::new(alloc);
-    let mut lexer = lexer_in(alloc, text, file)?;
-    add_all(&mut lines, file, &mut lexer)?;
+    add_found(alloc, &mut lines, text, file)?;
     Ok(lines)
 }
 

@@ -100,10 +100,16 @@ fn add_all(
     lines.push_str(faults.as_str())
 }
 
+/// Appends the lines of all lexemes of a text that is lexed on after its faults, and then of all
+/// faults.
+fn add_found(alloc: Global, lines: &mut String, text: &str) -> Result<(), AllocError> {
+    let mut lexer = lexer_of(alloc, text)?;
+    add_all(lines, &mut String::new(alloc), &mut lexer)
+}
+
 /// The lines of all lexemes of a text that is lexed on after its faults, and then of all faults.
 pub fn found_in(alloc: Global, text: &str) -> Result<String, AllocError> {
-    let mut lexer = lexer_of(alloc, text)?;
     let mut lines = String::new(alloc);
-    add_all(&mut lines, &mut String::new(alloc), &mut lexer)?;
+    add_found(alloc, &mut lines, text)?;
     Ok(lines)
 }

@@ -212,18 +212,32 @@ fn are_next(
     Ok(!is_plain_first || lexer.next_plain().is_none())
 }
 
-/// Whether a lexer yields nothing more than a text's fault, if it has one. `None` must come twice.
-fn is_ended(
+/// Whether the next item of a lexer is a text's fault. True for a text without a fault.
+fn is_fault_next(
     alloc: Global,
     lexer: &mut Lexer<'_>,
     lexed: &LexedText<'_>,
 ) -> Result<bool, AllocError> {
-    if let Some(fault) = lexed.fault() {
-        if !is_fault(alloc, &lexer.next(), fault)? {
-            return Ok(false);
-        }
+    match lexed.fault() {
+        Some(fault) => is_fault(alloc, &lexer.next(), fault),
+        None => Ok(true),
     }
-    Ok(lexer.next().is_none() && lexer.next().is_none())
+}
+
+/// Whether a lexer yields `None`, twice.
+fn is_ended(lexer: &mut Lexer<'_>) -> bool {
+    lexer.next().is_none() && lexer.next().is_none()
+}
+
+/// Whether a lexer yields the lexemes and the fault of a text, and then `None`, twice.
+fn yields_items(
+    alloc: Global,
+    lexer: &mut Lexer<'_>,
+    lexed: &LexedText<'_>,
+    is_plain_first: bool,
+) -> Result<bool, AllocError> {
+    let has_all = are_next(alloc, lexer, lexed, is_plain_first)?;
+    Ok(has_all && is_fault_next(alloc, lexer, lexed)? && is_ended(lexer))
 }
 
 /// A lexer of a text with a code map of an empty text.
@@ -242,8 +256,7 @@ fn is_yielded(
     is_plain_first: bool,
 ) -> Result<bool, AllocError> {
     let mut lexer = lexer_of(alloc, lexed.text())?;
-    let has_all = are_next(alloc, &mut lexer, lexed, is_plain_first)?;
-    Ok(has_all && is_ended(alloc, &mut lexer, lexed)?)
+    yields_items(alloc, &mut lexer, lexed, is_plain_first)
 }
 
 /// What is wrong with the lexemes of a text, if anything is.
