@@ -5,7 +5,7 @@ ghost use Rattle.std.specs.List.{AllByRecursion};
 ghost use Rattle.starlark_grammar.specs.Tokens.{Fault, Spanned, moved};
 ghost use Rattle.starlark_errors.specs.Exceptions.{IsFaultIn};
 ghost use Rattle.starlark_lexemes.specs.Inner.RawItems.{IsRawIn};
-ghost use Rattle.starlark_lexed_text.specs.Inner.LexedTexts.{IsMet, IsReadPart, IsReadPartTo, cuts_at, end_cuts, part_view};
+ghost use Rattle.starlark_lexed_text.specs.Inner.LexedTexts.{IsMet, IsReadPart, IsReadPartTo, cuts_at, part_view};
 ghost use Rattle.starlark_lexemes.specs.Inner.LexerStates.{IsBegun, IsLexing};
 ghost use Rattle.starlark_lexemes.specs.Lexer.{most_reads};
 
