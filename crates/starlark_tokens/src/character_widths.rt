@@ -24,7 +24,6 @@ fn is_in(ranges: &[(char, char)], character: char) -> bool
 
 /// Number of columns of a terminal that a character takes: 0 where it combines with the one before
 /// it, 2 where it is wide, else 1. A control character counts as one column.
-#[tactic(auto, unfolding(crate::specs::CharacterWidths::width))]
 pub fn width(character: char) -> usize
     ensures { result ≡ spec.width character }
 {

@@ -5,7 +5,7 @@ ghost use Rattle.starlark_devices.specs.Calls.{Going};
 ghost use Rattle.starlark_base.specs.Sources.{SourceFile};
 ghost use Rattle.starlark_syntax.specs.RecoveringLexer.{all_items, left_after};
 ghost use Rattle.starlark_tokens.specs.Inner.Reporters.{IsReady, Keeps};
-ghost use Rattle.starlark_tokens.specs.Reports.{fault_count, is_fault, item_report, report};
+ghost use Rattle.starlark_tokens.specs.Reports.{fault_count, is_fault, item_report, items_report, report};
 ghost use Rattle.starlark_tokens.specs.ReportWrites.{Takes};
 ghost use Rattle.starlark_syntax.specs.Lexer.{Answers, AnswersBetween, AnswersWithin};
 ghost use Rattle.starlark_token.specs.TextItems.{LexerItem};
@@ -63,6 +63,26 @@ fn lexer_of(alloc: Global, text: &str) -> Result<RecoveringLexer<'_>, AllocError
     RecoveringLexer::new(alloc, text, &Dialect::Extended, file).map_err(|_| AllocError)
 }
 
+/// Writes the lines of all items that a lexer has left, and returns how many of them are faults.
+fn report_left<W: WriteDevice>(
+    reporter: &mut Reporter<'_>,
+    lexer: &mut RecoveringLexer<'_>,
+    writer: &mut W,
+) -> io::Result<usize>
+    requires ready { IsReady reporter.old }
+    requires source { lexer.old.text ≡ reporter.old.text.now }
+    ensures written { Takes W.calls Going writer.old writer.new (items_report reporter.old.form (string_bytes reporter.old.prefix) reporter.old.text.now lexer.old.left) result }
+    ensures counted { IfOk result (λ faults. faults ≡ min (count_by is_fault lexer.old.left) (2 ^ 64 - 1)) }
+{
+    let mut faults: usize = 0;
+    while let Some(item) = lexer.next() {
+        let count = report_item(reporter, item)?;
+        write_all(writer, reporter.lines.as_bytes())?;
+        faults = faults.saturating_add(count);
+    }
+    Ok(faults)
+}
+
 /// Prints the report of the text `name` in a form, and returns how many faults it has.
 ///
 /// The text must be shorter than 2^32 bytes. Fails at the first write that fails, which isn't tried
@@ -80,11 +100,5 @@ pub fn report_text<W: WriteDevice>(
 {
     let mut reporter = Reporter::new(alloc, form, name, text)?;
     let mut lexer = lexer_of(alloc, text)?;
-    let mut faults: usize = 0;
-    while let Some(item) = lexer.next() {
-        let count = report_item(&mut reporter, item)?;
-        write_all(writer, reporter.lines.as_bytes())?;
-        faults = faults.saturating_add(count);
-    }
-    Ok(faults)
+    report_left(&mut reporter, &mut lexer, writer)
 }

@@ -1,83 +1,12 @@
-use Rattle.std.proofs.Common.{ℕ, ◌≡◌, ◌+◌, ◌-◌, ◌^◌, ◌∙◌, ◌++◌, [], Some, ap, append_assoc, append-nil, arith, count_by, drop, min, string_bytes, subst, sym}
+use Rattle.std.proofs.Common.{◌≡◌, ◌-◌, ◌^◌, ◌∙◌, ap, count_by, min, subst, sym}
+use Rattle.std.specs.Prelude.{IfOk}
 use Rattle.std.proofs.lemmas.Result.{err_from_is_err_and}
 use Rattle.starlark_devices.specs.Calls.{Going}
-use Rattle.starlark_syntax.specs.RecoveringLexer.{RecoveringView, all_items}
-use Rattle.starlark_syntax.specs.Lexer.{AnswersBetween, AnswersWithin}
-use Rattle.starlark_tokens.specs.Reports.{is_fault, item_report, items_report, prefix_of}
-use Rattle.starlark_tokens.proofs.ReportWrites.{no_memory, same_error, stops_later, stops_longer, took_nil, took_then, written_all}
-use Rattle.starlark_tokens.specs.ReportWrites.{StopsWithin, Took}
-use Rattle.starlark_tokens.proofs.Reported.{count_all, count_cons, report_all, report_cons, report_nil}
-use Rattle.starlark_lexemes.proofs.NextItems.{next_item, next_none}
+use Rattle.starlark_tokens.specs.Reports.{is_fault}
+use Rattle.starlark_tokens.proofs.ReportWrites.{no_memory}
+use Rattle.starlark_tokens.specs.ReportWrites.{Takes}
+use Rattle.starlark_tokens.proofs.Reported.{count_all, report_all}
 use Rattle.starlark_tokens.proofs.report.report_text.Goals as goal
-
-none_before : (n : ℕ) → 0 + n ≡ n
-none_before n = omega arith
-
-pub loop-item-init : goal.loop-item-init
-loop-item-init g c =
-    let left = c.in_ok-lexer.ensures.left in
-    let form = c.args.form in
-    let name = c.args.name.now in
-    let text = c.args.text.now in
-    record {
-      ready = c.in_ok-reporter.ensures.ready;
-      form = c.in_ok-reporter.ensures.form;
-      text = c.in_ok-reporter.ensures.text;
-      prefix = c.in_ok-reporter.ensures.prefix;
-      source = c.in_ok-lexer.ensures.text;
-      written = ([], took_nil g.W.WriteDevice.calls c.args.writer.now, ap (items_report form (prefix_of form name) text) left ∙ sym (report_all form name text));
-      fits = omega arith;
-      counted = ap (λ items. min (0 + count_by is_fault items) (2 ^ 64 - 1)) left ∙ ap (λ n. min n (2 ^ 64 - 1)) (none_before (count_by is_fault (all_items text)) ∙ sym (count_all text));
-    }
-
-pub loop-item-preserved : goal.loop-item-preserved
-loop-item-preserved g c =
-    let inv = c.loop-item.invariant in
-    let form = c.args.form in
-    let text = c.args.text.now in
-    let prefix = prefix_of form c.args.name.now in
-    let old = c.loop-item.lexer in
-    let next = next_item old.code_map old.left c.in-Some.item c.in-Some.ensures.item in
-    let kept = c.in_ok-count.ensures.kept in
-    let more = drop 1 old.left in
-    let after : c.next.new.self.left ≡ more = ap (λ (r : RecoveringView). r.left) c.in-Some.ensures.after ∙ c.in_ok-count.ensures.going old.left in
-    let source : c.next.new.self.text ≡ text = ap (λ (r : RecoveringView). r.text) c.in-Some.ensures.after ∙ inv.source in
-    let item = item_report form prefix text next.next in
-    let lines : string_bytes c.report_item.new.reporter.lines ≡ item = rw (inv.form, inv.prefix, inv.text) at (c.in_ok-count.ensures.lines old.code_map next.next next.answers) in
-    let calls = g.W.WriteDevice.calls in
-    let wrote = written_all calls _ _ _ _ _ (rw (c.as_bytes.ensures.value, lines) at c.in_ok-write_all.ensures) in
-    let split : items_report form prefix text old.left ≡ item ++ items_report form prefix text more = ap (items_report form prefix text) next.is ∙ report_cons form prefix text next.next more in
-    let whole = append_assoc inv.written.0 item (items_report form prefix text more) ∙ ap (λ t. inv.written.0 ++ t) (sym split) ∙ inv.written.2 in
-    let count = c.in_ok-count.ensures.counted old.code_map next.next next.answers in
-    let total = ap (count_by is_fault) next.is ∙ count_cons next.next more in
-    rw after (record {
-      ready = c.in_ok-count.ensures.ready;
-      form = kept.form ∙ inv.form;
-      text = kept.text ∙ inv.text;
-      prefix = kept.prefix ∙ inv.prefix;
-      source = source;
-      written = (inv.written.0 ++ item, took_then calls Going _ _ _ inv.written.0 item inv.written.1 wrote, whole);
-      fits = omega (arith, c.saturating_add-faults.ensures);
-      counted = omega (arith, c.saturating_add-faults.ensures, count, total, inv.counted, inv.fits);
-    })
-
-pub report_item-requires-clause-ready : goal.report_item-requires-clause-ready
-report_item-requires-clause-ready g c = c.loop-item.invariant.ready
-
-pub report_item-requires-clause-answered : goal.report_item-requires-clause-answered
-report_item-requires-clause-answered g c =
-    let next = next_item c.loop-item.lexer.code_map c.loop-item.lexer.left c.in-Some.item c.in-Some.ensures.item in
-    (c.loop-item.lexer.code_map, next.next, next.answers)
-
-pub report_item-requires-clause-within : goal.report_item-requires-clause-within
-report_item-requires-clause-within g c =
-    let inv = c.loop-item.invariant in
-    subst (λ t. AnswersWithin t (Some c.in-Some.item)) (inv.source ∙ sym inv.text) c.in-Some.ensures.within
-
-pub report_item-requires-clause-between : goal.report_item-requires-clause-between
-report_item-requires-clause-between g c =
-    let inv = c.loop-item.invariant in
-    subst (λ t. AnswersBetween t (Some c.in-Some.item)) (inv.source ∙ sym inv.text) c.in-Some.ensures.between
 
 pub returns-in_err-reporter-clause-written : goal.returns-in_err-reporter-clause-written
 returns-in_err-reporter-clause-written g c =
@@ -89,42 +18,13 @@ returns-in_err-lexer-clause-written g c =
     let p = err_from_is_err_and c.from_residual-in_err-lexer.result c.from_residual-in_err-lexer.ensures.1 in
     rw p.1 (no_memory g.W.WriteDevice.calls c.args.writer.now p.0 _ p.2)
 
-pub returns-in_err-count-clause-written : goal.returns-in_err-count-clause-written
-returns-in_err-count-clause-written g c =
-    let p = err_from_is_err_and c.from_residual-in_err-count.result c.from_residual-in_err-count.ensures.1 in
-    let calls = g.W.WriteDevice.calls in
-    let inv = c.loop-item.invariant in
-    let stopped = stops_later calls _ _ _ p.0 inv.written.0 _ inv.written.1 (no_memory calls c.loop-item.writer p.0 _ p.2) in
-    rw p.1 (subst (StopsWithin calls c.args.writer.now c.loop-item.writer p.0) inv.written.2 stopped)
-
-pub returns-in_err-write_all-clause-written : goal.returns-in_err-write_all-clause-written
-returns-in_err-write_all-clause-written g c =
-    let p = err_from_is_err_and c.from_residual-in_err-write_all.result c.from_residual-in_err-write_all.ensures.1 in
-    let calls = g.W.WriteDevice.calls in
-    let old = c.loop-item.lexer in
-    let next = next_item old.code_map old.left c.in-Some.item c.in-Some.ensures.item in
-    let more = drop 1 old.left in
-    let inv = c.loop-item.invariant in
-    let form = c.args.form in
-    let text = c.args.text.now in
-    let prefix = prefix_of form c.args.name.now in
-    let item = item_report form prefix text next.next in
-    let lines : string_bytes c.report_item.new.reporter.lines ≡ item = rw (inv.form, inv.prefix, inv.text) at (c.in_ok-count.ensures.lines old.code_map next.next next.answers) in
-    let within = same_error calls _ _ _ p.0 _ p.2 (written_all calls _ _ _ _ _ (rw (c.as_bytes.ensures.value, lines) at c.in_err-write_all.ensures)) in
-    let split : items_report form prefix text old.left ≡ item ++ items_report form prefix text more = ap (items_report form prefix text) next.is ∙ report_cons form prefix text next.next more in
-    let stopped = stops_later calls _ _ _ p.0 inv.written.0 _ inv.written.1 (stops_longer calls _ _ p.0 item (items_report form prefix text more) within) in
-    rw p.1 (subst (StopsWithin calls c.args.writer.now c.write_all.new.writer p.0) (ap (λ t. inv.written.0 ++ t) (sym split) ∙ inv.written.2) stopped)
-
 pub returns-clause-written : goal.returns-clause-written
 returns-clause-written g c =
-    let inv = c.loop-item.invariant in
-    let none = next_none c.loop-item.lexer.code_map c.loop-item.lexer.left c.in_default.ensures.item in
-    let whole = rw (none, report_nil c.args.form (prefix_of c.args.form c.args.name.now) c.args.text.now, append-nil inv.written.0) at inv.written.2 in
-    subst (Took g.W.WriteDevice.calls Going c.args.writer.now c.loop-item.writer) whole inv.written.1
+    let reporter = c.in_ok-reporter.ensures in
+    let written = rw (reporter.form, reporter.prefix, reporter.text, c.in_ok-lexer.ensures.left) at c.report_left.ensures.written in
+    subst (λ t. Takes g.W.WriteDevice.calls Going c.args.writer.now c.report_left.new.writer t c.report_left.result) (sym (report_all c.args.form c.args.name.now c.args.text.now)) written
 
 pub returns-clause-counted : goal.returns-clause-counted
 returns-clause-counted g c =
-    let inv = c.loop-item.invariant in
-    let none = next_none c.loop-item.lexer.code_map c.loop-item.lexer.left c.in_default.ensures.item in
-    let counted = rw none at inv.counted in
-    omega (arith, counted, inv.fits)
+    let all = ap (count_by is_fault) c.in_ok-lexer.ensures.left ∙ sym (count_all c.args.text.now) in
+    subst (λ n. IfOk c.report_left.result (λ faults. faults ≡ min n (2 ^ 64 - 1))) all c.report_left.ensures.counted
