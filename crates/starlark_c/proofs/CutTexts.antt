@@ -20,7 +20,7 @@ use Rattle.starlark_grammar.proofs.Joining.LineCuts.{kept_parts}
 use Rattle.starlark_grammar.proofs.Joining.Tabs.{HasTab, after_tab, first_margin_is, tab}
 use Rattle.starlark_grammar.proofs.Reading.Readings.{one_longest, read_is}
 use Rattle.starlark_lexemes.proofs.LexerCuts.{kept_some}
-use Rattle.starlark_syntax.specs.CutAfter.{IsCutAfter}
+use Rattle.starlark_lexemes.specs.CutAfter.{IsCutAfter}
 use Rattle.starlark_token.specs.Lexemes.{shown_lexeme}
 
 -- a text is what is before a kept cut of it, joined with the rest

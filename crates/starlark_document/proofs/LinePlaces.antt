@@ -206,16 +206,7 @@ position_bounds text to position utf8 cut is =
     length-take-within : (xs : Text) (n : ℕ) → length (take n xs) ≤ length xs
     length-take-within xs n = omega (arith, length-append (take n xs) (drop n xs), ap length (take-append-drop n xs))
 
--- a position stands where its counts say, …
-pub stands_of : (text : Text) (position : Position) (at : ℕ) → IsCharBoundary text at → position ≡ position_at text at
-    → StandsAt text position.place.line (position.place.column + position.pairs) at
-stands_of text position at cut is = record {
-  boundary = cut;
-  line = ap (λ (p : Position). p.place.line) (sym is);
-  column = ap (λ (p : Position). p.place.column + p.pairs) (sym is);
-}
-
--- … and nowhere else
+-- a position stands at no other line and column
 pub stands_same : (text : Text) (position : Position) (on column at : ℕ) → position ≡ position_at text at → StandsAt text on column at
     → (position.place.line ≡ on) × (position.place.column + position.pairs ≡ column)
 stands_same text position on column at is stands =

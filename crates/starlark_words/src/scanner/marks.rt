@@ -44,8 +44,8 @@ fn quote(quote: Quote) -> Class
     }
 }
 
-/// The longest mark at the front of a text, by its first three bytes, which are 0 after its end.
-/// `None` if there is none, as where a point begins a number.
+/// The longest mark at the front of three bytes, of which those after the text's end are 0. `None`
+/// if there is none, as where a point begins a number.
 #[tactic(auto, unfolding(starlark_grammar::specs::Front::longest_front, starlark_grammar::specs::Words::line_ends, starlark_grammar::specs::Words::symbols, crate::specs::Inner::ScannedWords::marks))]
 #[inline(always)]
 pub(crate) fn mark(first: u8, second: u8, third: u8) -> Option<Word>
