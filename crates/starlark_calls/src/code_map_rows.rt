@@ -1,14 +1,9 @@
 //! Lines and places of a source.
 
 use crate::row_files::code_map;
-use crate::rows::{Answer, Row, shown, unknown};
+use crate::rows::{Answer, Row, bounds, shown, unknown};
 use starlark_syntax::codemap::{CodeMap, Pos, Span};
 use std::alloc::Global;
-
-/// The first and the last place of a span.
-fn bounds(span: Span) -> (u32, u32) {
-    (span.begin().get(), span.end().get())
-}
 
 /// The answer to a call with a line of the source.
 fn of_line(alloc: Global, map: &CodeMap, row: &Row) -> Answer {

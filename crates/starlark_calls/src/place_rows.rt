@@ -1,6 +1,6 @@
 //! Spans and places without a source.
 
-use crate::rows::{Answer, Row, shown, unknown};
+use crate::rows::{Answer, Row, bounds, shown, unknown};
 use starlark_syntax::codemap::{Pos, ResolvedFileSpan, ResolvedPos, ResolvedSpan, Span};
 use std::alloc::Global;
 
@@ -17,11 +17,6 @@ fn place(row: &Row, index: usize) -> ResolvedPos {
         line: row.count(index) as usize,
         column: row.count(index.saturating_add(1)) as usize,
     }
-}
-
-/// The first and the last place of a span.
-fn bounds(span: Span) -> (u32, u32) {
-    (span.begin().get(), span.end().get())
 }
 
 /// The answer to a call with two spans.

@@ -2,6 +2,7 @@
 
 ghost use Rattle.std.specs.Prelude.{◌≡◌, IfOk, Ok};
 
+use starlark_syntax::codemap::Span;
 use std::alloc::{AllocError, Global};
 use std::fmt::{Debug, Display};
 
@@ -101,4 +102,9 @@ pub fn both<A: Display, B: Display>(alloc: Global, first: &A, second: &B) -> Ans
 /// What is said where a row asks for a call that its group doesn't have.
 pub fn unknown(alloc: Global, row: &Row) -> Answer {
     format!(in alloc; "no call {}", row.text(1))
+}
+
+/// The offsets at which a span begins and ends.
+pub fn bounds(span: Span) -> (u32, u32) {
+    (span.begin().get(), span.end().get())
 }

@@ -34,7 +34,7 @@ map_shown n (lexeme ∷ lexemes) = ap (λ ls. shown_lexeme (moved n lexeme) ∷ 
 
 -- The text of the segments after one
 
-plain_append : (first second : Text) → begins_plainly first ≡ true → begins_plainly (first ++ second) ≡ true
+pub plain_append : (first second : Text) → begins_plainly first ≡ true → begins_plainly (first ++ second) ≡ true
 unfolding begins_plainly
 plain_append [] second plain = cc
 plain_append (b ∷ bs) second plain = plain

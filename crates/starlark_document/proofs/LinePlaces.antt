@@ -80,10 +80,10 @@ unfolding EndsLines
 closed_lines [] closed = inl refl
 closed_lines (b ∷ bs) closed = inr (ends_line_front (b ∷ bs) (ends_line_of (b ∷ bs) (closed_ends (b ∷ bs) closed (omega arith))))
 
-lines_joined : (first second : Text) → EndsLines first → EndsLines second → EndsLines (first ++ second)
+lines_append : (first second : Text) → EndsLines first → EndsLines second → EndsLines (first ++ second)
 unfolding EndsLines
-lines_joined first second ends (inl none) = subst EndsLines (sym (append-nil first) ∙ ap (λ (t : Text). first ++ t) (sym none)) ends
-lines_joined first second ends (inr more) =
+lines_append first second ends (inl none) = subst EndsLines (sym (append-nil first) ∙ ap (λ (t : Text). first ++ t) (sym none)) ends
+lines_append first second ends (inr more) =
     inr (first ++ more.0, ap (λ (t : Text). first ++ t) more.1 ∙ sym (append_assoc first more.0 (10 ∷ [])))
 
 -- segments that others follow end with a line
@@ -91,7 +91,7 @@ pub open_lines : (is_first : Bool) (segments : List Segment) → AreOpen is_firs
 unfolding EndsLines
 open_lines is_first [] are_open = inl refl
 open_lines is_first (segment ∷ more) are_open =
-    lines_joined (text_in segment) (text_of more) (closed_lines (text_in segment) are_open.1.is_closed) (open_lines false more are_open.2)
+    lines_append (text_in segment) (text_of more) (closed_lines (text_in segment) are_open.1.is_closed) (open_lines false more are_open.2)
 
 -- what passes a test before an element that doesn't
 prefix_stopped : (p : ℕ → Bool) (xs ys : Text) (y : ℕ) → p y ≡ false → prefix_len p (xs ++ y ∷ ys) ≡ prefix_len p xs

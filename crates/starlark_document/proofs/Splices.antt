@@ -1,4 +1,5 @@
 -- Parts of a document that are lexed anew, and put in their place.
+use Rattle.starlark_document.proofs.FoundInSegments.{plain_append}
 use Rattle.std.proofs.Common.{◌≡◌, ◌≤◌, ◌<◌, ◌+◌, ◌-◌, ℕ, zero, suc, Option, Some, None, inl, inr, Bool, true, false, List, [], ◌∷◌, ◌++◌, ◌∙◌, sym, ap, refl, subst, arith, length, take, drop, get_or, append_assoc, append-nil, take-append-drop, length-append, length-take, length-drop}
 use Rattle.std.specs.Prelude.{◌⊎◌, IsSome, nat_eq, string_bytes}
 use Rattle.std.specs.Str.{IsCharBoundary, IsUtf8}
@@ -29,12 +30,6 @@ use Rattle.starlark_document.specs.declared.segments.Segment.{Segment}
 use Rattle.starlark_document.specs.declared.segments.SegmentPlace.{SegmentPlace}
 use Rattle.starlark_grammar.specs.Words.{Text}
 use Rattle.starlark_grammar.specs.Joining.{begins_plainly}
-
--- a text that begins plainly does so whatever follows it
-pub plain_append : (front more : Text) → begins_plainly front ≡ true → begins_plainly (front ++ more) ≡ true
-unfolding begins_plainly
-plain_append [] more plain = cc
-plain_append (b ∷ bs) more plain = plain
 
 pub utf8_texts : (xs : List Segment) → IsUtf8 (text_of xs)
 utf8_texts [] = IsUtf8-nil
