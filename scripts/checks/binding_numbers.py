@@ -1,11 +1,12 @@
 #!/usr/bin/env python3
-"""Compares the numbers that cross to C, Rust and Python: in the definitions, the header, the crate
-and the package.
+"""Compares the numbers that cross to C, Rust, Python and JavaScript: in the definitions, the header, the
+crate, the package and the module.
 
     scripts/checks/binding_numbers.py [--write]
 
-The numbers of keywords and symbols are those of the grammar's table (class.rt), those of other kinds
-and of faults stand in crates/starlark_c/specs, those of statuses in its src. A number never changes.
+The numbers and classes of keywords and symbols are those of the grammar's table (class.rt), those of
+other kinds, of faults and of classes stand in crates/starlark_c/specs, those of statuses in its src. A
+number never changes.
 With --write, keywords and symbols that are new in the table are added after the last ones. The exit
 status is 0 where all agree, and 1 where some don't.
 """
@@ -20,6 +21,7 @@ CRATE = TOP / "crates/starlark_c"
 HEADER = TOP / "bindings/c/starlark_lex.h"
 PACKAGE = TOP / "bindings/python/starlark_lexer"
 RUST = TOP / "bindings/rust/src"
+SCRIPT = TOP / "bindings/web/lexer.js"
 TABLE = TOP / "crates/starlark_grammar/src/class.rt"
 
 # Where the last keyword or symbol stands, by its text, name and number, and what goes after it for a
@@ -27,8 +29,13 @@ TABLE = TOP / "crates/starlark_grammar/src/class.rt"
 KIND_LINES = [
     (HEADER, "STARLARK_KIND_{upper} = {number}", ",\n    STARLARK_KIND_{upper} = {number}"),
     (PACKAGE / "kinds.py", "    {upper} = {number}\n", "    {upper} = {number}\n"),
+    (PACKAGE / "kinds.py", "    Kind.{upper}: KindClass.{of_class},\n", "    Kind.{upper}: KindClass.{of_class},\n"),
     (PACKAGE.parent / "src/library.h", "STARLARK_KIND_{upper} + 1", None),
-    (RUST / "token.rs", "        {name} = {number},\n", "        /// `{text}`\n        {name} = {number},\n"),
+    (
+        RUST / "token.rs",
+        "        {name}: {in_class} = {number},\n",
+        "        /// {described}\n        {name}: {in_class} = {number},\n",
+    ),
     (TOP / "bindings/web/lexer.d.ts", '    | "{name}"', '\n    | "{name}"'),
 ]
 
@@ -44,15 +51,19 @@ def found(file, pattern):
 
 
 def table():
-    """The texts, names and numbers of keywords and symbols, in order of the numbers."""
-    rows = re.findall(r'^ +\S.* "(\S+)" (\w+) = (\d+),$', TABLE.read_text(), re.M)
-    return sorted(((text, name, int(number)) for text, name, number in rows), key=lambda row: row[2])
+    """The texts, names, numbers and classes of keywords and symbols, in order of the numbers."""
+    rows = re.findall(r'^ +\S.* "(\S+)" (\w+) = (\d+)(?: (\w+))?,$', TABLE.read_text(), re.M)
+    filled = ((text, name, int(number), kind_class or "Keyword") for text, name, number, kind_class in rows)
+    return sorted(filled, key=lambda row: row[2])
 
 
 def fields(row):
     """The fields of a row, for what is written of it."""
-    text, name, number = row
-    return {"text": text, "name": name, "upper": re.sub(r"\B(?=[A-Z])", "_", name).upper(), "number": number}
+    text, name, number, kind_class = row
+    upper = re.sub(r"\B(?=[A-Z])", "_", name).upper()
+    described = f"The keyword `{text}`." if kind_class == "Keyword" else f"`{text}`"
+    of_class = {"in_class": kind_class, "of_class": kind_class.upper(), "described": described}
+    return {"name": name, "upper": upper, "number": number, **of_class}
 
 
 def write():
@@ -77,7 +88,9 @@ def arms(file, name):
     text = file.read_text()
     pairs = [(plain(variant), int(number)) for number, variant in re.findall(rf"^ +(\d+) => {name}::(\w+)", text, re.M)]
     if name == "TokenKind":
-        pairs += found(file, r"(?m)^        (\w+)(?:\(.*\))? = (\d+),$")
+        pairs += found(file, r"(?m)^        (\w+)(?:\(.*\))?: \w+ = (\d+),$")
+    if name == "KindClass":
+        pairs += found(file, r"(?m)^    (\w+) = (\d+),$")
     return sorted(pairs, key=lambda pair: pair[1])
 
 
@@ -99,21 +112,63 @@ def defined_quotes():
     return [(plain(("Triple" if is_triple == "true" else "") + quote), int(number)) for quote, is_triple, number in found_quotes]
 
 
+def classed(kinds, classes):
+    """The numbers of kinds, each with the names of a kind and its class."""
+    return [(f"{name} is {plain(classes.get(number, ''))}", number) for name, number in kinds]
+
+
+def defined_classes():
+    """The classes of kinds by their numbers, in the definitions."""
+    other = re.findall(r"\((\d+), class\.(\w+)\)", (CRATE / "specs/KindClasses.antt").read_text())
+    return {**{int(number): name for number, name in other}, **{number: name for _, _, number, name in table()}}
+
+
+def package_classes(kinds):
+    """The classes of kinds by their numbers, in the package."""
+    pairs = re.findall(r"^    Kind\.(\w+): KindClass\.(\w+),$", (PACKAGE / "kinds.py").read_text(), re.M)
+    numbers = dict(kinds)
+    return {numbers[plain(name)]: kind_class for name, kind_class in pairs}
+
+
+def crate_classes():
+    """The classes of kinds by their numbers, in the crate."""
+    rows = re.findall(r"^        \w+(?:\(.*\))?: (\w+) = (\d+),$", (RUST / "token.rs").read_text(), re.M)
+    return {int(number): kind_class for kind_class, number in rows}
+
+
+def script_classes():
+    """The numbers of classes in the module for JavaScript."""
+    body = re.search(r"const CLASSES = \[(.*?)\];", SCRIPT.read_text(), re.S)
+    names = re.findall(r'"(\w*)"', body[1])
+    return [(plain(name), number) for number, name in enumerate(names) if name]
+
+
 def compared():
-    """What is compared: a name, the numbers that are right, and those of the header, the package and the crate."""
-    kinds = CRATE / "specs/Kinds.antt"
-    records = CRATE / "specs/Records.antt"
+    """What is compared: a name, the numbers that are right, and those of each place.
+
+    The header has no classes of kinds, and the module neither these nor kinds: they call the library.
+    """
+    kinds, token, package = CRATE / "specs/Kinds.antt", RUST / "token.rs", PACKAGE / "kinds.py"
+    records, classes = CRATE / "specs/Records.antt", CRATE / "specs/KindClasses.antt"
     right = found(kinds, r"token_number \(?grammar\.(\w+)(?: \w+\))? = (\d+)")
-    right += [(plain(name), number) for _, name, number in table()]
-    yield "kinds", right, enumerators("KIND_"), members(PACKAGE / "kinds.py", "Kind"), arms(RUST / "token.rs", "TokenKind")
-    fault = r"fault_number \(?grammar\.(\w+)(?: \w+\))? = (\d+)"
-    right = found(records, fault)
-    yield "faults", right, enumerators("FAULT_"), members(PACKAGE / "kinds.py", "FaultKind"), arms(RUST / "fault.rs", "FaultKind")
-    yield "quotes", defined_quotes(), enumerators("QUOTES_"), members(PACKAGE / "kinds.py", "Quotes"), arms(RUST / "token.rs", "FStringQuote")
+    right += [(plain(name), number) for _, name, number, _ in table()]
+    of_package, of_crate = members(package, "Kind"), arms(token, "TokenKind")
+    yield "kinds", right, {"header": enumerators("KIND_"), "package": of_package, "crate": of_crate}
+    of_package, of_crate = classed(of_package, package_classes(of_package)), classed(of_crate, crate_classes())
+    yield "classes of kinds", classed(right, defined_classes()), {"package": of_package, "crate": of_crate}
+    right = found(classes, r"class_number class\.(\w+) = (\d+)")
+    of_package, of_crate = members(package, "KindClass"), arms(token, "KindClass")
+    places = {"header": enumerators("CLASS_"), "package": of_package, "crate": of_crate, "module": script_classes()}
+    yield "classes", right, places
+    right = found(records, r"fault_number \(?grammar\.(\w+)(?: \w+\))? = (\d+)")
+    of_package, of_crate = members(package, "FaultKind"), arms(RUST / "fault.rs", "FaultKind")
+    yield "faults", right, {"header": enumerators("FAULT_"), "package": of_package, "crate": of_crate}
+    of_package, of_crate = members(package, "Quotes"), arms(token, "FStringQuote")
+    yield "quotes", defined_quotes(), {"header": enumerators("QUOTES_"), "package": of_package, "crate": of_crate}
     status = r"pub const (\w+): u32 = (\d+);"
     right = found(CRATE / "src/outcomes.rt", status) + found(CRATE / "src/replies.rt", status)
     # The package is compiled over the header, and has no statuses of its own.
-    yield "statuses", right, statuses(), right, found(RUST / "ffi.rs", r"const (\w+): u32 = (\d+);")
+    yield "statuses", right, {"header": statuses(), "crate": found(RUST / "ffi.rs", r"const (\w+): u32 = (\d+);")}
 
 
 def main():
@@ -123,13 +178,13 @@ def main():
     if parser.parse_args().write:
         write()
     wrong = 0
-    for name, right, header, package, crate in compared():
+    for name, right, places in compared():
         if not right or [number for _, number in right] != sorted({number for _, number in right}):
             print(f"{name}: the definitions have no numbers, or one twice")
             wrong += 1
-        for place, numbers in [("the header", header), ("the package", package), ("the crate", crate)]:
+        for place, numbers in places.items():
             if numbers != right:
-                print(f"{name} of {place} differ: {sorted(set(numbers) ^ set(right))}")
+                print(f"{name} of the {place} differ: {sorted(set(numbers) ^ set(right))}")
                 wrong += 1
         print(f"{len(right)} {name}")
     return 1 if wrong else 0
