@@ -57,7 +57,7 @@ try_part() {
     fuzz) try oracles/fuzz.py --count 3000 ;;
     edits) try oracles/random_edits.py --texts 20 ;;
     recovered) try oracles/recovered_texts.py --count 2000 --stored ;;
-    repaired) try oracles/repaired_texts.py --count 200 ;;
+    repaired) scripts/oracles/repaired_texts.py --count 200 ;;
     documents) try oracles/document_edits.py --edits 2000 ;;
     status) try oracles/exit_status.py ;;
     reports) try oracles/token_reports.py --count 100 ;;
