@@ -70,16 +70,25 @@ fn class_by_number(kind: u32) -> Option<KindClass>
 {
     terminals!(class_by_number!(kind, {
         1 => Some(KindClass::Comment),
-        2..=4 => Some(KindClass::Layout),
+        2 => Some(KindClass::Layout),
+        3 => Some(KindClass::Layout),
+        4 => Some(KindClass::Layout),
         5 => Some(KindClass::Name),
-        6 | 7 => Some(KindClass::Number),
-        8..=11 | 15 => Some(KindClass::String),
-        12 | 13 => Some(KindClass::Bracket),
+        6 => Some(KindClass::Number),
+        7 => Some(KindClass::Number),
+        8 => Some(KindClass::String),
+        9 => Some(KindClass::String),
+        10 => Some(KindClass::String),
+        11 => Some(KindClass::String),
+        12 => Some(KindClass::Bracket),
+        13 => Some(KindClass::Bracket),
         14 => Some(KindClass::Punctuation),
+        15 => Some(KindClass::String),
     }))
 }
 
 /// The number of a class, which never changes: a new class gets the next one.
+#[tactic(auto, unfolding(crate::specs::KindClasses::class_number))]
 fn number_of_class(class: KindClass) -> u32
     ensures { result ≡ class_number class }
 {
@@ -97,6 +106,7 @@ fn number_of_class(class: KindClass) -> u32
 }
 
 /// The number of the class of the kind with a number; 0 where no kind has it.
+#[tactic(auto, unfolding(crate::specs::KindClasses::kind_class))]
 pub fn kind_class_number(kind: u32) -> u32
     ensures { result ≡ kind_class kind }
 {
