@@ -3,6 +3,7 @@
 ghost use Rattle.std.specs.Prelude.{◌≡◌};
 ghost use Rattle.starlark_c.specs.KindClasses.{class_number, class_of_kind, kind_class};
 
+use starlark_grammar::class::KINDS;
 use starlark_grammar::terminals;
 
 /// What a kind is to those who show or parse lexemes.
@@ -43,7 +44,7 @@ macro_rules! class_rows {
 }
 
 /// The numbers of kinds of keywords and symbols, with their classes.
-pub const WORD_CLASSES: [(u32, KindClass); 58] = terminals!(class_rows!());
+pub const WORD_CLASSES: [(u32, KindClass); KINDS.len()] = terminals!(class_rows!());
 
 /// A `match` of a number on those of kinds, whose arms for keywords and symbols stand after the other
 /// arms.
