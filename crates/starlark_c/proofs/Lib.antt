@@ -9,6 +9,7 @@
 -- Wanted: how much is wanted for the first lexemes of a text.
 -- NextLexemes: the buffers after the next lexeme of a text, and the lexer after it.
 -- KindNames: the names of the grammar's tokens, found by their numbers.
+-- UnlistedKinds: a number that no row has.
 -- ErrorMessages: the messages of errors, found by the numbers of their faults.
 -- FaultNumbers: where lexing begins again, by the numbers of a fault.
 -- AddedItems: what belongs to items, one after another.
@@ -34,6 +35,7 @@ pub mod LastStops
 pub mod Wanted
 pub mod NextLexemes
 pub mod KindNames
+pub mod UnlistedKinds
 pub mod ErrorMessages
 pub mod FaultNumbers
 pub mod AddedItems

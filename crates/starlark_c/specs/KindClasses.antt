@@ -1,15 +1,13 @@
 -- The classes of kinds, by which highlighters, editors and parsers group them.
-use Rattle.std.specs.Prelude.{◌≡◌, ℕ, List, Option, Some, None, [], ◌∷◌, ◌++◌, nat_eq, unwrap_or}
+use Rattle.std.specs.Prelude.{ℕ, List, Option, [], ◌∷◌, ◌++◌, nat_eq, unwrap_or}
 use Rattle.std.specs.Map.{lookup}
 use Rattle.std.specs.Option.{option_map}
-use Rattle.starlark_c.specs.Kinds.{token_number}
 use Rattle.starlark_c.specs.declared.kind_classes.KindClass.{KindClass}
 use Rattle.starlark_c.specs.declared.kind_classes.KindClass.TheVariants as class
 use Rattle.starlark_c.specs.declared.kind_classes.TheConstants.{WORD_CLASSES}
-use Rattle.starlark_grammar.specs.Tokens as grammar
 
 -- the numbers of classes; a number never changes: a new class gets the next one
-pub class_number : KindClass → ℕ
+unfoldable pub class_number : KindClass → ℕ
 class_number class.Comment = 1
 class_number class.Layout = 2
 class_number class.Name = 3

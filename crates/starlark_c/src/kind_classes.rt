@@ -3,6 +3,7 @@
 ghost use Rattle.std.specs.Prelude.{◌≡◌};
 ghost use Rattle.starlark_c.specs.KindClasses.{class_number, class_of_kind, kind_class};
 
+use starlark_grammar::class::KINDS;
 use starlark_grammar::terminals;
 
 /// What a kind is to those who show or parse lexemes.
@@ -43,7 +44,7 @@ macro_rules! class_rows {
 }
 
 /// The numbers of kinds of keywords and symbols, with their classes.
-pub const WORD_CLASSES: [(u32, KindClass); 58] = terminals!(class_rows!());
+pub const WORD_CLASSES: [(u32, KindClass); KINDS.len()] = terminals!(class_rows!());
 
 /// A `match` of a number on those of kinds, whose arms for keywords and symbols stand after the other
 /// arms.
@@ -70,16 +71,25 @@ fn class_by_number(kind: u32) -> Option<KindClass>
 {
     terminals!(class_by_number!(kind, {
         1 => Some(KindClass::Comment),
-        2..=4 => Some(KindClass::Layout),
+        2 => Some(KindClass::Layout),
+        3 => Some(KindClass::Layout),
+        4 => Some(KindClass::Layout),
         5 => Some(KindClass::Name),
-        6 | 7 => Some(KindClass::Number),
-        8..=11 | 15 => Some(KindClass::String),
-        12 | 13 => Some(KindClass::Bracket),
+        6 => Some(KindClass::Number),
+        7 => Some(KindClass::Number),
+        8 => Some(KindClass::String),
+        9 => Some(KindClass::String),
+        10 => Some(KindClass::String),
+        11 => Some(KindClass::String),
+        12 => Some(KindClass::Bracket),
+        13 => Some(KindClass::Bracket),
         14 => Some(KindClass::Punctuation),
+        15 => Some(KindClass::String),
     }))
 }
 
 /// The number of a class, which never changes: a new class gets the next one.
+#[tactic(auto, unfolding(crate::specs::KindClasses::class_number))]
 fn number_of_class(class: KindClass) -> u32
     ensures { result ≡ class_number class }
 {
@@ -97,6 +107,7 @@ fn number_of_class(class: KindClass) -> u32
 }
 
 /// The number of the class of the kind with a number; 0 where no kind has it.
+#[tactic(auto, unfolding(crate::specs::KindClasses::kind_class))]
 pub fn kind_class_number(kind: u32) -> u32
     ensures { result ≡ kind_class kind }
 {
