@@ -12,11 +12,15 @@ and 2 where a share wasn't done after N seconds.
 """
 
 import argparse
+import contextlib
+import os
 import re
 import shutil
+import signal
 import subprocess
 import sys
 import tempfile
+import threading
 from pathlib import Path
 
 from shared.edits import edits_by_hand, last_refused, write_last_refused
@@ -74,16 +78,30 @@ def put_edits(clone, edits):
         shutil.copyfile(clone / edit.path.relative_to(TOP), folder / edit.path.name)
 
 
+def end(run):
+    """Ends rt and what it started."""
+    with contextlib.suppress(ProcessLookupError):
+        os.killpg(run.pid, signal.SIGKILL)
+
+
 def said_of(clone, seconds):
     """What rt prints in a clone; None where it isn't done in time. Its own lines also go to standard error."""
     words = {"cwd": clone, "stdin": subprocess.DEVNULL, "stdout": subprocess.PIPE, "stderr": subprocess.STDOUT, "errors": "replace"}
-    with subprocess.Popen(["timeout", f"{seconds}", "rt", "ci"] if seconds else ["rt", "ci"], **words) as run:
-        said = []
-        for line in run.stdout:
-            said.append(line)
-            if line.startswith("rt: "):
-                print(line, end="", file=sys.stderr, flush=True)
-    return None if seconds and run.returncode == 124 else "".join(said)
+    names = {**os.environ, "PYTHONUNBUFFERED": "1"}
+    said, late = [], threading.Event()
+    with subprocess.Popen(["rt", "ci"], env=names, start_new_session=True, **words) as run:
+        timer = threading.Timer(seconds, lambda: (late.set(), end(run)))
+        if seconds:
+            timer.start()
+        try:
+            for line in run.stdout:
+                said.append(line)
+                if line.startswith("rt: "):
+                    print(line, end="", file=sys.stderr, flush=True)
+        finally:
+            timer.cancel()
+            end(run)
+    return None if late.is_set() else "".join(said)
 
 
 def tried(edits, seconds=0):

@@ -47,8 +47,11 @@ def difference(crate):
     if (status, printed) == (0, stored):
         return ""
     pairs = itertools.zip_longest(stored.splitlines(True), printed.splitlines(True), fillvalue=b"")
-    found = next(((number, *pair) for number, pair in enumerate(pairs, 1) if pair[0] != pair[1]), (0, b"", b""))
-    return f"{crate}: status {status}, line {found[0]}\nstored  {found[1][:500]!r}\nprinted {found[2][:500]!r}"
+    differing = [(number, *pair) for number, pair in enumerate(pairs, 1) if pair[0] != pair[1]]
+    # The head of a part has its length, so that it differs where any line of the part does.
+    heads = itertools.takewhile(lambda line: line[1].startswith(b"part "), differing)
+    number, line, other = next((line for line in differing[len(list(heads)) :]), (0, b"", b""))
+    return f"{crate}: status {status}, line {number}\nstored  {line[:500]!r}\nprinted {other[:500]!r}"
 
 
 def main():

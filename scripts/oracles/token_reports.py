@@ -365,8 +365,9 @@ def random_runs(tester, count, seed):
     for text in random_texts(count, seed):
         for form in FORMS:
             found = tester.run(OPTIONS[form], text)
-            tester.compare(f"{form} of {text!r}", found, ended(tester, form, [("<stdin>", text)]))
-            if form == "tokens":
+            wanted = ended(tester, form, [("<stdin>", text)])
+            tester.compare(f"{form} of {text!r}", found, wanted)
+            if form == "tokens" and found == wanted:
                 pairs = zip(found.stdout.splitlines(), items_of(text))
                 values = [is_read_back(line, item) for line, (what, item) in pairs if what == "lexeme"]
                 tester.compare(f"values of {text!r}", all(values), True)
