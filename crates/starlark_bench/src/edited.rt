@@ -42,6 +42,37 @@ fn agree(first: &str, second: &str, from: usize) -> bool
     first[..from] == second[..from]
 }
 
+/// Lexes a text. Returns the lexed text and the nanoseconds.
+fn timed_lexed<'a>(
+    rt: &HostRuntime,
+    text: &'a str,
+    code_map: CodeMap,
+) -> Result<(LexedText<'a>, u128), BenchFault> {
+    let start = Instant::now(rt)?;
+    let lexed = LexedText::lex(rt.alloc(), text, &Dialect::Extended, code_map)?;
+    let elapsed = start.elapsed(rt)?;
+    Ok((lexed, elapsed.as_nanos()))
+}
+
+/// Lexes a text again after an edit at byte `from`. Returns the reads and the nanoseconds.
+fn timed_relexed<'a>(
+    rt: &HostRuntime,
+    lexed: LexedText<'a>,
+    file: &CodeMap,
+    from: usize,
+    edited: &'a str,
+) -> Result<(u64, u128), BenchFault> {
+    if !agree(lexed.text(), edited, from) || edited.len() > u32::MAX as usize {
+        return Err(BenchFault::TooLong);
+    }
+    let start = Instant::now(rt)?;
+    let Ok(lexed) = lexed.relex(from, edited, file) else {
+        return Err(BenchFault::Memory);
+    };
+    let elapsed = start.elapsed(rt)?;
+    Ok((lexed.reads(), elapsed.as_nanos()))
+}
+
 /// Lexes the source of a code map, and again after an edit at byte `from`, and prints a line.
 pub fn print_relexed(
     rt: &HostRuntime,
@@ -49,21 +80,11 @@ pub fn print_relexed(
     from: usize,
     edited: &str,
 ) -> Result<(), BenchFault> {
-    let text = file.source();
-    if !agree(text, edited, from) || edited.len() > u32::MAX as usize {
-        return Err(BenchFault::TooLong);
-    }
-    let code_map = file.dupe()?;
-    let start = Instant::now(rt)?;
-    let lexed = LexedText::lex(rt.alloc(), text, &Dialect::Extended, code_map)?;
-    let first = start.elapsed(rt)?.as_nanos();
+    let (lexed, first) = timed_lexed(rt, file.source(), file.dupe()?)?;
     let first_reads = lexed.reads();
-    let start = Instant::now(rt)?;
-    let Ok(lexed) = lexed.relex(from, edited, file) else {
-        return Err(BenchFault::Memory);
-    };
-    let again = start.elapsed(rt)?.as_nanos();
-    let len = text.len();
-    println!(rt; "{len} {first_reads} {first} {} {again}", lexed.reads())?;
-    Ok(())
+    let (reads, again) = timed_relexed(rt, lexed, file, from, edited)?;
+    Ok(println!(rt;
+        "{} {first_reads} {first} {reads} {again}",
+        file.source().len()
+    )?)
 }

@@ -80,12 +80,17 @@ impl fmt::Display for Tally {
     }
 }
 
-/// Lexes the source of a code map, and counts its lexemes and faults.
-pub fn tally_of(alloc: Global, file: &CodeMap) -> Result<Tally, BenchFault> {
-    let lexer = Lexer::new(alloc, file.source(), &Dialect::Extended, file.dupe()?)?;
+/// Counts the lexemes and faults of a lexer.
+fn tally_items(lexer: &mut Lexer<'_>) -> Result<Tally, AllocError> {
     let mut tally = Tally::NONE;
     for item in lexer {
         tally.add(&item)?;
     }
     Ok(tally)
+}
+
+/// Lexes the source of a code map, and counts its lexemes and faults.
+pub fn tally_of(alloc: Global, file: &CodeMap) -> Result<Tally, BenchFault> {
+    let mut lexer = Lexer::new(alloc, file.source(), &Dialect::Extended, file.dupe()?)?;
+    Ok(tally_items(&mut lexer)?)
 }

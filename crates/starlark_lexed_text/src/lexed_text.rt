@@ -1,6 +1,6 @@
 //! Texts with all their lexemes: lexed, joined, and lexed again after an edit.
 
-ghost use Rattle.std.specs.Prelude.{◌≡◌, ◌<◌, ◌≤◌, ◌+◌, ◌*◌, ◌-◌, ◌++◌, ◌==◌, ◌||◌, ◌^◌, ◌↔◌, ℕ, List, None, length, map, true, IfOk, IfErr, option_copied, take};
+ghost use Rattle.std.specs.Prelude.{◌≡◌, ◌<◌, ◌≤◌, ◌+◌, ◌*◌, ◌-◌, ◌++◌, ◌==◌, ◌||◌, ◌^◌, ◌↔◌, ℕ, List, None, length, map, true, IfOk, IfErr, OnErr, OnOk, option_copied, take};
 ghost use Rattle.std.specs.List.{All};
 ghost use Rattle.std.specs.Str.{IsCharBoundary};
 ghost use Rattle.starlark_base.specs.Refusals.{IsRefused};
@@ -18,7 +18,7 @@ ghost use Rattle.starlark_token.specs.Lexemes.{IsWithin};
 use crate::cuts::{Cut, append_cuts, begin_of, is_cut_after};
 use crate::meetings::{cuts_to_meet, put_part};
 use crate::read_parts::{exception_of, read_part};
-use crate::tails::{append_later, given_after, kept_of, make_room};
+use crate::tails::{append_later, make_room, put_rest};
 use starlark_base::codemap::{CodeMap, OrMemory, SourceTooLong};
 use starlark_base::dialect::Dialect;
 use starlark_errors::eval_exception::EvalException;
@@ -241,74 +241,62 @@ impl<'a> LexedText<'a> {
         ensures reads { IfOk result (IsReadFrom self.entry edited.now from) }
         ensures refused { IfErr result (λ lexed. lexed ≡ self.entry) }
     {
-        let mut state = LexerState::new(*self.lexemes.allocator(), edited);
-        self.relex_with(&mut state, from, edited, code_map)
+        let mut lexed = self;
+        let mut state = LexerState::new(*lexed.lexemes.allocator(), edited);
+        match lexed.relex_with(&mut state, from, edited, code_map) {
+            Ok(()) => Ok(lexed),
+            Err(_) => Err(lexed),
+        }
     }
 
-    /// Lexes the text again after an edit, as `relex` says. It puts the state that lexes the rest in
-    /// the place of `state`, whose count of reads is that of the lexed text.
+    /// Lexes the text again after an edit, as `relex` says. On `AllocError` the lexed text doesn't
+    /// change.
+    ///
+    /// It puts the state that lexes the rest in the place of `state`, whose count of reads is that of
+    /// the lexed text.
     fn relex_with(
-        self,
+        &mut self,
         state: &mut LexerState<'a>,
         from: usize,
         edited: &'a str,
         code_map: &CodeMap,
-    ) -> Result<LexedText<'a>, LexedText<'a>>
-        requires old { IsCharBoundary self.text from }
+    ) -> Result<(), AllocError>
+        requires old { IsCharBoundary self.old.text from }
         requires new { IsCharBoundary edited.now from }
-        requires same { take from self.text ≡ take from edited.now }
+        requires same { take from self.old.text ≡ take from edited.now }
         requires fits { length edited.now < 2 ^ 32 }
-        ensures text { IfOk result (λ lexed. lexed.text ≡ edited.now) }
-        ensures lexed { IfOk result (λ lexed. IsLexed code_map.now lexed) }
-        ensures counted { IfOk result (λ lexed. lexed.reads ≡ state.new.reader.reads) }
-        ensures reads { IfOk result (IsReadFrom self.entry edited.now from) }
-        ensures refused { IfErr result (λ lexed. lexed ≡ self.entry) }
+        ensures text { OnOk result (self.new.text ≡ edited.now) }
+        ensures lexed { OnOk result (IsLexed code_map.now self.new) }
+        ensures counted { OnOk result (self.new.reads ≡ state.new.reader.reads) }
+        ensures reads { OnOk result (IsReadFrom self.old edited.now from self.new) }
+        ensures refused { OnErr result (self.new ≡ self.old) }
     {
-        let mut old = self;
-        let alloc = *old.lexemes.allocator();
-        let begin = begin_of(&old.cuts, from);
+        let alloc = *self.lexemes.allocator();
+        let begin = begin_of(&self.cuts, from);
         let rest = &edited[begin.at..];
         *state = LexerState::new(alloc, rest);
-        let cuts = cuts_to_meet(&old.cuts, begin.cuts, old.fault.is_some());
-        let Ok(part) = read_part(alloc, state, old.text.as_bytes(), cuts) else {
-            return Err(old);
-        };
+        let cuts = cuts_to_meet(&self.cuts, begin.cuts, self.fault.is_some());
+        let part = read_part(alloc, state, self.text.as_bytes(), cuts)?;
+        let reads = part.reads;
         if let Some(meeting) = part.met {
-            let reads = part.reads;
-            let mut lexemes = old.lexemes;
-            let mut cuts = old.cuts;
-            let put = put_part(&mut lexemes, &mut cuts, begin, part, meeting);
-            old.lexemes = lexemes;
-            old.cuts = cuts;
-            if put.is_err() {
-                return Err(old);
-            }
-            return Ok(LexedText {
-                text: edited,
-                fault: None,
-                reads,
-                ..old
-            });
-        }
-        let kept = kept_of(&old.lexemes, &old.cuts, begin, part.has_tab);
-        let Ok(fault) = exception_of(alloc, part.fault, kept.fault_at, code_map) else {
-            return Err(old);
-        };
-        let more = given_after(part.lexemes, kept);
-        if make_room(&mut old.lexemes, kept.lexemes, more.len()).is_err()
-            || make_room(&mut old.cuts, kept.cuts, part.cuts.len()).is_err()
-        {
-            return Err(old);
+            // With a fault no cut is met, so `fault` is `None` already.
+            put_part(&mut self.lexemes, &mut self.cuts, begin, part, meeting)?;
+            self.text = edited;
+            self.reads = reads;
+            return Ok(());
         }
         let is_cut = is_cut_after(part.is_cut, rest, begin.at);
-        append_later(&mut old.lexemes, kept.lexemes, more, begin.at);
-        append_cuts(&mut old.cuts, kept.cuts, part.cuts, begin.at, begin.lexemes);
-        Ok(LexedText {
-            text: edited,
-            fault,
-            is_cut,
-            reads: part.reads,
-            ..old
-        })
+        self.fault = put_rest(
+            alloc,
+            &mut self.lexemes,
+            &mut self.cuts,
+            begin,
+            part,
+            code_map,
+        )?;
+        self.text = edited;
+        self.is_cut = is_cut;
+        self.reads = reads;
+        Ok(())
     }
 }

@@ -1,12 +1,16 @@
 //! Replaces the end of a list of lexemes.
 
-ghost use Rattle.std.specs.Prelude.{◌≡◌, ◌<◌, ◌≤◌, ◌+◌, ◌++◌, ◌^◌, [], ℕ, None, IfSome, OnErr, OnOk, Some, if◌then◌else◌, drop, false, length, map, take, true, vec_capacity, vec_len};
-ghost use Rattle.starlark_lexed_text.specs.Inner.LexedTexts.{AllAfter, AllNear, IsTakenBack, last_newline_of, later, moved_lexeme};
+ghost use Rattle.std.specs.Prelude.{◌≡◌, ◌<◌, ◌≤◌, ◌+◌, ◌++◌, ◌^◌, [], ℕ, None, IfOk, IfSome, OnErr, OnOk, Some, if◌then◌else◌, drop, false, length, map, take, true, vec_capacity, vec_len};
+ghost use Rattle.starlark_grammar.specs.Words.{Text};
+ghost use Rattle.starlark_lexed_text.specs.Inner.LexedTexts.{AllAfter, AllNear, AllNearCuts, IsRest, IsRestPut, IsTakenBack, last_newline_of, later, later_cut, moved_lexeme, part_view};
 ghost use Rattle.starlark_token.specs.Lexemes.{lexeme_view};
 
-use crate::cuts::{Begin, Cut, cuts_up_to};
+use crate::cuts::{Begin, Cut, append_cuts, cuts_up_to};
+use crate::read_parts::{ReadPart, exception_of};
+use starlark_base::codemap::CodeMap;
+use starlark_errors::eval_exception::EvalException;
 use starlark_token::tokens::Token;
-use std::alloc::AllocError;
+use std::alloc::{AllocError, Global};
 
 /// Reserves room for `more` items after the first `kept` of a list. Nothing changes on
 /// `AllocError`.
@@ -123,12 +127,7 @@ pub struct Kept {
 /// If the indentation there has a tab, the last `Newline` and all lexemes after it are dropped, and
 /// the fault begins where it began. Where there is no `Newline`, all before the cut is comments,
 /// and the fault begins at the start of the text.
-pub(crate) fn kept_of(
-    lexemes: &[(usize, Token, usize)],
-    cuts: &[Cut],
-    begin: Begin,
-    has_tab: bool,
-) -> Kept
+fn kept_of(lexemes: &[(usize, Token, usize)], cuts: &[Cut], begin: Begin, has_tab: bool) -> Kept
     requires { begin.lexemes ≤ length lexemes.now }
     ensures plain { has_tab ≡ false → result ≡ record { lexemes = begin.lexemes; cuts = begin.cuts; fault_at = begin.at; gives_more = true } }
     ensures comments { has_tab ≡ true → last_newline_of (map lexeme_view (take begin.lexemes lexemes.now)) ≡ None → result ≡ record { lexemes = begin.lexemes; cuts = 0; fault_at = 0; gives_more = true } }
@@ -163,10 +162,7 @@ pub(crate) fn kept_of(
 }
 
 /// The lexemes to append to what is kept.
-pub(crate) fn given_after(
-    lexemes: Vec<(usize, Token, usize)>,
-    kept: Kept,
-) -> Vec<(usize, Token, usize)>
+fn given_after(lexemes: Vec<(usize, Token, usize)>, kept: Kept) -> Vec<(usize, Token, usize)>
     ensures { result.items ≡ (if kept.gives_more then lexemes.items else []) }
 {
     let mut more = lexemes;
@@ -174,4 +170,54 @@ pub(crate) fn given_after(
         more.clear();
     }
     more
+}
+
+/// Keeps the first lexemes and cuts of two lists, and appends others, moved as they were lexed from
+/// `begin` on. Nothing changes on `AllocError`.
+fn put_after(
+    lexemes: &mut Vec<(usize, Token, usize)>,
+    cuts: &mut Vec<Cut>,
+    kept: Kept,
+    begin: Begin,
+    more: Vec<(usize, Token, usize)>,
+    more_cuts: Vec<Cut>,
+) -> Result<(), AllocError>
+    requires lexemes_fit { kept.lexemes + vec_len more < 2 ^ 64 }
+    requires cuts_fit { kept.cuts + vec_len more_cuts < 2 ^ 64 }
+    requires near { AllNear more.items }
+    requires cuts_near { AllNearCuts more_cuts.items }
+    requires begin { (begin.at < 2 ^ 32) × (begin.lexemes < 2 ^ 34) }
+    ensures lexemes { OnOk result (lexemes.new.items ≡ take kept.lexemes lexemes.old.items ++ map (later begin.at) more.items) }
+    ensures cuts { OnOk result (cuts.new.items ≡ take kept.cuts cuts.old.items ++ map (later_cut begin.at begin.lexemes) more_cuts.items) }
+    ensures same { OnErr result ((lexemes.new.items ≡ lexemes.old.items) × (cuts.new.items ≡ cuts.old.items)) }
+{
+    make_room(lexemes, kept.lexemes, more.len())?;
+    make_room(cuts, kept.cuts, more_cuts.len())?;
+    append_later(lexemes, kept.lexemes, more, begin.at);
+    append_cuts(cuts, kept.cuts, more_cuts, begin.at, begin.lexemes);
+    Ok(())
+}
+
+/// Puts the rest of an edited text in the place of what it replaces in the known text's lists. It was
+/// lexed from `begin` on.
+///
+/// Returns the exception of the edited text's fault, if it has one. Nothing changes on `AllocError`.
+pub(crate) fn put_rest(
+    alloc: Global,
+    lexemes: &mut Vec<(usize, Token, usize)>,
+    cuts: &mut Vec<Cut>,
+    begin: Begin,
+    rest: ReadPart,
+    code_map: &CodeMap,
+) -> Result<Option<EvalException>, AllocError>
+    requires { (known : Text) × (edited : Text) × IsRest known edited lexemes.old.items cuts.old.items begin (part_view rest) }
+    ensures put { IfOk result (λ exception. (known edited : Text) → IsRest known edited lexemes.old.items cuts.old.items begin (part_view rest) → IsRestPut code_map.now edited begin lexemes.old.items lexemes.new.items cuts.new.items exception) }
+    ensures none { IfOk result (λ exception. exception ≡ None → rest.fault ≡ None) }
+    ensures same { OnErr result ((lexemes.new.items ≡ lexemes.old.items) × (cuts.new.items ≡ cuts.old.items)) }
+{
+    let kept = kept_of(lexemes, cuts, begin, rest.has_tab);
+    let exception = exception_of(alloc, rest.fault, kept.fault_at, code_map)?;
+    let more = given_after(rest.lexemes, kept);
+    put_after(lexemes, cuts, kept, begin, more, rest.cuts)?;
+    Ok(exception)
 }

@@ -1,6 +1,10 @@
 -- The lexemes and cuts of a lexed text, as the code stores them.
 use Rattle.std.specs.Prelude.{◌≡◌, Bool, true, false, ℕ, suc, ◌+◌, ◌-◌, ◌<◌, ◌≤◌, ◌^◌, List, [], ◌∷◌, ◌++◌, map, length, drop, take, slice_get, ◌==◌, Option, Some, None, ⊤, ◌⊎◌}
 use Rattle.std.specs.List.{AllByRecursion, list_any}
+use Rattle.starlark_base.specs.Diagnostics.{Diagnosed}
+use Rattle.starlark_base.specs.Sources.{SourceFile}
+use Rattle.starlark_errors.specs.Exceptions.{IsFaultIn}
+use Rattle.starlark_errors.specs.declared.error.kinds.ErrorKind.{ErrorKind}
 use Rattle.starlark_grammar.specs.Words.{Text}
 use Rattle.starlark_grammar.specs.Tokens as grammar
 use Rattle.starlark_grammar.specs.Reading.{outcome}
@@ -160,6 +164,29 @@ pub record IsPutIn (known text : Text) (lexemes : List (ℕ × Token × ℕ)) (c
   pub to : IsReadPartTo text meeting.at part
   pub known_short : length known < 2 ^ 32
   pub short : begin.at + length text < 2 ^ 32
+
+-- the rest of an edited text, lexed from `begin` on: the text begins as a known one does, up to byte
+-- `from` at least
+pub record IsRest (known edited : Text) (lexemes : List (ℕ × Token × ℕ)) (cuts : List Cut) (begin : Begin) (rest : PartView) : Type 0 where
+  pub from : ℕ
+  pub lexed : map lexeme_view lexemes ≡ map shown_lexeme (outcome known).lexemes
+  pub are : AreCuts known cuts
+  pub begins : IsBegin known cuts from begin
+  pub same : take from known ≡ take from edited
+  pub inside : from ≤ length edited
+  pub is_read : IsReadPart (drop begin.at edited) rest
+  pub known_short : length known < 2 ^ 32
+  pub short : length edited < 2 ^ 32
+
+-- the lists and the exception of an edited text: some of the lexemes are the old ones, and the others
+-- were lexed from `begin` on
+pub record IsRestPut (file : SourceFile) (edited : Text) (begin : Begin) (old lexemes : List (ℕ × Token × ℕ)) (cuts : List Cut) (exception : Option (Diagnosed ErrorKind)) : Type 0 where
+  pub lexed : map lexeme_view lexemes ≡ map shown_lexeme (outcome edited).lexemes
+  pub are : AreCuts edited cuts
+  pub kept : ℕ
+  pub more : List (ℕ × Token × ℕ)
+  pub put : lexemes ≡ take kept old ++ map (later begin.at) more
+  pub fault : IsFaultIn file (outcome edited).fault exception
 
 -- the index of the last `Newline` in a list
 abbrev pub last_newline_of : List (grammar.Spanned TokenView) → Option ℕ
