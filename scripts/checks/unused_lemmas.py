@@ -1,7 +1,7 @@
 #!/usr/bin/env python3
 """Lists lemmas that nothing uses.
 
-    scripts/unused_lemmas.py
+    scripts/checks/unused_lemmas.py
 
 A lemma is a declaration of a file in proofs/ that isn't the proof of a function. It is used where a
 source, a definition, the proof of a function or a lemma that is used names it. Worked rows
@@ -12,6 +12,7 @@ import re
 import sys
 from collections import defaultdict
 
+sys.path.append(f"{sys.path[0]}/..")  # where shared/ lies
 from shared.programs import TOP
 
 # The files of a function's proof: the prover takes what they declare by its name.
