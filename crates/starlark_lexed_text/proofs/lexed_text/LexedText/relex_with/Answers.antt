@@ -66,7 +66,7 @@ invariant_of-self-2 c =
     let rest = rest_is at.After-is_cut_after-is_cut begin in
     let put = c.in_ok-self-inside.ensures.put c.self.inside.text.now c.args.edited.now rest in (
       c.requires.fits,
-      end_cut_is c.args.edited.now c.begin_of-begin.result.at (part_view c.in_ok-part.part) c.is_cut_after-is_cut.result (omega (arith, begin.before, c.requires.new.0)) (begin_clean c.self.inside.text.now c.args.edited.now c.self.inside.cuts.items c.args.from c.begin_of-begin.result begin rest.same) rest.is_read
+      end_cut_is c.args.edited.now c.begin_of-begin.result.at (part_view c.in_ok-part.part) c.is_cut_after-is_cut.result (omega (arith, begin.before, c.requires.new.0)) (begin_clean c.self.inside.text.now c.args.edited.now c.self.inside.cuts.items c.args.from c.begin_of-begin.result begin (same_is at.After-begin_of-begin)) rest.is_read
           (c.is_cut_after-is_cut.ensures ∙ ap (λ (t : Text). c.in_ok-part.part.is_cut || (length t == 0 && nat_lt 0 c.begin_of-begin.result.at)) c.range_from-rest.ensures.value),
       put.are,
       (c.args.code_map.now, record { lexemes = put.lexed; fault = put.fault }),
@@ -84,7 +84,7 @@ returns-clause-reads c =
     let begin = begun at.After-begin_of-begin in
     let put = c.in_ok-self-inside.ensures.put c.self.inside.text.now c.args.edited.now (rest_is at.After-is_cut_after-is_cut begin) in
     let rest : length c.new.result.reader.text.now ≡ length c.args.edited.now - c.begin_of-begin.result.at = ap length (ap (λ (v : StateView). v.text) c.new.ensures.begun.view ∙ c.range_from-rest.ensures.value) ∙ length-drop c.begin_of-begin.result.at c.args.edited.now in
-    let made : LexedView = record { text = c.args.edited.now; lexemes = map lexeme_view c.put_rest.new.lexemes.items; fault = c.in_ok-self-inside.field-0.0; reads = c.in_ok-part.part.reads } in
+    let made : LexedView = record { text = c.args.edited.now; lexemes = map lexeme_view c.put_rest.new.lexemes.items; fault = c.in_ok-self-inside.field-0; reads = c.in_ok-part.part.reads } in
     subst (λ (v : LexedView). IsReadFrom v c.args.edited.now c.args.from made) c.self.view_is
     (read_from (record { text = c.self.inside.text.now; lexemes = map lexeme_view c.self.inside.lexemes.items; fault = c.self.inside.fault; reads = c.self.inside.reads }) c.args.edited.now c.args.from c.self.inside.lexemes.items put.more c.self.inside.cuts.items c.begin_of-begin.result made put.kept
     refl c.self.invariant.2 begin (ap (map lexeme_view) put.put) (omega (arith, rest, c.in_ok-part.ensures.most)) (λ none. omega (arith, rest, c.in_ok-part.ensures.least (c.in_ok-self-inside.ensures.none none))))
