@@ -174,35 +174,6 @@ fn replace(
     Ok(change)
 }
 
-/// Lexes a part that an edit changes, puts its segments in the place of the old ones, and says what
-/// changed.
-///
-/// The text had `old_len` bytes, and has `len` bytes after it. After an error the segments are the
-/// old ones.
-fn lex_and_replace(
-    alloc: Global,
-    file: &CodeMap,
-    segments: &mut Vec<Segment>,
-    part: EditedPart,
-    least_len: usize,
-    old_len: usize,
-    len: usize,
-) -> Result<Change, AllocError>
-    requires part { (new : Text) × IsEditedPart segments.old.items new part × (len ≡ length new) }
-    requires some { part.first.index < part.end }
-    requires laid { AreLaid true segments.old.items }
-    requires old_len { old_len ≡ length (text_of segments.old.items) }
-    requires fits { (old_len < 2 ^ 32) × (len < 2 ^ 32) }
-    ensures text { OnOk result ((new : Text) → IsEditedPart segments.old.items new part → text_of segments.new.items ≡ new) }
-    ensures laid { AreLaid true segments.new.items }
-    ensures change { IfOk result (IsChange (text_of segments.old.items) (text_of segments.new.items)) }
-    ensures refused { OnErr result (text_of segments.new.items ≡ text_of segments.old.items) }
-{
-    let first = part.first;
-    let lexed = lex_part(alloc, file, segments, part, least_len)?;
-    replace(segments, first, lexed, old_len, len)
-}
-
 impl Document {
     /// A document of a text.
     ///
@@ -284,15 +255,9 @@ impl Document {
             return Err(EditError::TooLong);
         }
         let part = part_of_edit(self.alloc, &self.segments, range, from, to, text)?;
-        let change = lex_and_replace(
-            self.alloc,
-            &self.file,
-            &mut self.segments,
-            part,
-            self.least_len,
-            self.len,
-            len,
-        )?;
+        let first = part.first;
+        let lexed = lex_part(self.alloc, &self.file, &self.segments, part, self.least_len)?;
+        let change = replace(&mut self.segments, first, lexed, self.len, len)?;
         self.len = len;
         Ok(change)
     }
