@@ -15,26 +15,17 @@ use Rattle.starlark_run.specs.declared.ends.RunStatus.{RunStatus}
 
 module _ {R W : Type 0} (calls : WriterCalls W) (name came : Text) (last : Result Text RunFault) (reader : Watch R) (old new : Watch W) where
   -- a text is printed
-  pub printed_is : (text : Text) (r : Result RunStatus RunFault) → WritesAll calls old new (output name text) r → IfOk r (λ status. status ≡ status_of (outcome text).fault) → IsPrinted calls name (Ok text) old new r
+  pub run_printed : (text : Text) (r : Result RunStatus RunFault) → last ≡ Ok text → IsWhole reader came → IsUtf8 came → WritesAll calls old new (output name text) r → IfOk r (λ status. status ≡ status_of (outcome text).fault) → IsRun calls name came last reader old new r
   unfolding Writes WritesAll
-  printed_is text (Ok status) writes same =
+  run_printed text (Ok status) is whole utf8 writes same =
       let all = subst (Went calls Done old.device new.device) (sym (append-nil writes.0.0) ∙ writes.0.2) writes.0.1 in
-      (record { went = all; sound = writes.1 }, same)
-  printed_is text (Err fault.Write) writes same = (writes.0, writes.1)
-  printed_is text (Err fault.Memory) writes same = (writes.0, writes.1)
-  printed_is text (Err fault.NotUtf8) writes same = absurd writes
-  printed_is text (Err fault.TooLong) writes same = absurd writes
-  printed_is text (Err fault.Read) writes same = absurd writes
-  printed_is text (Err (fault.BadEdit at)) writes same = absurd writes
-
-  -- what was printed of a text that was read to its end
-  pub run_printed : (l : Result Text RunFault) (r : Result RunStatus RunFault) → IsWhole reader came → IsUtf8 came → IsPrinted calls name l old new r → IsRun calls name came l reader old new r
-  run_printed l (Ok status) whole utf8 printed = (whole, utf8, printed)
-  run_printed l (Err fault.Write) whole utf8 printed = (whole, utf8, printed)
-  run_printed l (Err (fault.BadEdit at)) whole utf8 printed = (whole, utf8, printed)
-  run_printed l (Err fault.TooLong) whole utf8 printed = inr (whole, utf8, printed)
-  run_printed l (Err fault.Memory) whole utf8 printed = inr (whole, utf8, printed)
-  run_printed l r whole utf8 printed = absurd printed
+      rw is (whole, utf8, (record { went = all; sound = writes.1 }, same))
+  run_printed text (Err fault.Write) is whole utf8 writes same = rw is (whole, utf8, (writes.0, writes.1))
+  run_printed text (Err fault.Memory) is whole utf8 writes same = rw is (inr (whole, utf8, (writes.0, writes.1)))
+  run_printed text (Err fault.NotUtf8) is whole utf8 writes same = absurd writes
+  run_printed text (Err fault.TooLong) is whole utf8 writes same = absurd writes
+  run_printed text (Err fault.Read) is whole utf8 writes same = absurd writes
+  run_printed text (Err (fault.BadEdit at)) is whole utf8 writes same = absurd writes
 
   whole_sound : IsWhole reader came → reader.failed ≡ true → ⊥
   whole_sound whole e = let sound = whole.sound in cc

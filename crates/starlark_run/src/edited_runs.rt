@@ -1,15 +1,13 @@
 //! Reads a text, edits it, and prints the lexemes of the edited text.
 
-ghost use Rattle.std.specs.Prelude.{◌≡◌, ◌≤◌, ◌↔◌, ℕ, List, true, false, length, Ok, OnOk, IfOk, IsErrOf};
+ghost use Rattle.std.specs.Prelude.{◌≡◌, ◌↔◌, ℕ, List, true, false, OnOk, IfOk, IsErrOf};
 ghost use Rattle.std.specs.Io.KnownBytes.{IsAtEnd};
 ghost use Rattle.starlark_devices.specs.Calls.{Came};
-ghost use Rattle.starlark_run.specs.Runs.{IsPrinted, IsRun, ending_of};
+ghost use Rattle.starlark_run.specs.Runs.{IsRun, ending_of};
 ghost use Rattle.starlark_run.specs.Edits.{text_after};
-ghost use Rattle.starlark_run.specs.Inner.EditedTexts.{AreVersions, AreVersionsLexed, newest_text};
 ghost use Rattle.starlark_run.specs.Relexed.{AreLexed};
-ghost use Rattle.starlark_run.specs.declared.ends.TheConstants.{GREATEST_LEN};
 
-use crate::edited_texts::{Version, relexed, versions_of};
+use crate::edited_texts::{relexed, versions_of};
 use crate::ends::{RunFault, RunStatus};
 use crate::input::read_text;
 use crate::lexed_printing::print_lexed;
@@ -25,48 +23,6 @@ pub struct EditedRun {
     pub status: RunStatus,
     /// How often bytes were read, of the first text and of the text after each edit.
     pub reads: Vec<u64>,
-}
-
-/// Lexes a text, and each version from the one before it, and prints what `run` prints for the last
-/// one.
-///
-/// Fails only with `Memory` and `Write`.
-fn print_last<W: WriteDevice>(
-    alloc: Global,
-    name: &str,
-    first: &str,
-    versions: &[Version],
-    writer: &mut Watched<W>,
-) -> Result<EditedRun, RunFault>
-    requires sound { writer.old.failed ≡ false }
-    requires fits { length first.now ≤ GREATEST_LEN }
-    requires versions { AreVersions first.now versions.now }
-    ensures printed { IsPrinted W.calls name.now (Ok (newest_text first.now versions.now)) writer.old writer.new (ending_of result) }
-    ensures lexed { IfOk result (λ edited. AreVersionsLexed first.now versions.now edited.reads.items) }
-{
-    let last = relexed(alloc, first, versions)?;
-    let status = print_lexed(alloc, name, &last.lexed, writer)?;
-    Ok(EditedRun {
-        status,
-        reads: last.reads,
-    })
-}
-
-/// Edits a text, and prints what `run` prints for the edited text, as `run_edits` says.
-fn print_edited<W: WriteDevice>(
-    alloc: Global,
-    name: &str,
-    first: &str,
-    edits: &[Edit<'_>],
-    writer: &mut Watched<W>,
-) -> Result<EditedRun, RunFault>
-    requires sound { writer.old.failed ≡ false }
-    requires fits { length first.now ≤ GREATEST_LEN }
-    ensures printed { IsPrinted W.calls name.now (text_after 0 first.now edits.now) writer.old writer.new (ending_of result) }
-    ensures lexed { IfOk result (λ edited. AreLexed first.now edits.now edited.reads.items) }
-{
-    let versions = versions_of(alloc, first, edits)?;
-    print_last(alloc, name, first, &versions, writer)
 }
 
 /// Reads a text to its end, edits it, and prints what `run` prints for the edited text.
@@ -101,5 +57,11 @@ pub fn run_edits<R: ReadDevice, W: WriteDevice>(
     ensures nothing_left { OnOk result (IsAtEnd (R.calls.remaining reader.new.device)) }
 {
     let first = read_text(alloc, reader)?;
-    print_edited(alloc, name, first.as_str(), edits, writer)
+    let versions = versions_of(alloc, first.as_str(), edits)?;
+    let last = relexed(alloc, first.as_str(), &versions)?;
+    let status = print_lexed(alloc, name, &last.lexed, writer)?;
+    Ok(EditedRun {
+        status,
+        reads: last.reads,
+    })
 }

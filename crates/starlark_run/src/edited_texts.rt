@@ -62,28 +62,6 @@ fn newest<'v>(first: &'v str, versions: &'v [Version]) -> &'v str
     }
 }
 
-/// Appends the versions of a text after each edit of a list to an empty list. Fails at the first edit
-/// that fails.
-fn add_versions(
-    alloc: Global,
-    first: &str,
-    edits: &[Edit<'_>],
-    versions: &mut Vec<Version>,
-) -> Result<(), RunFault>
-    requires fits { length first.now ≤ GREATEST_LEN }
-    requires none { versions.old.items ≡ [] }
-    ensures versions { OnOk result (AreVersions first.now versions.new.items) }
-    ensures edited { OnOk result (AreVersionsAfter first.now edits.now versions.new.items) }
-    ensures last { OnOk result (text_after 0 first.now edits.now ≡ Ok (newest_text first.now versions.new.items)) }
-    ensures refused { IfErr result (IsRefusal (text_after 0 first.now edits.now)) }
-{
-    for (at, edit) in edits.iter().enumerate() {
-        let version = next_version(alloc, newest(first, versions), at, edit)?;
-        versions.push(version).map_err(|_| RunFault::Memory)?;
-    }
-    Ok(())
-}
-
 /// The versions of a text after each edit of a list. Fails at the first edit that fails.
 pub fn versions_of(alloc: Global, first: &str, edits: &[Edit<'_>]) -> Result<Vec<Version>, RunFault>
     requires { length first.now ≤ GREATEST_LEN }
@@ -93,7 +71,10 @@ pub fn versions_of(alloc: Global, first: &str, edits: &[Edit<'_>]) -> Result<Vec
     ensures refused { IfErr result (IsRefusal (text_after 0 first.now edits.now)) }
 {
     let mut versions = Vec::new(alloc);
-    add_versions(alloc, first, edits, &mut versions)?;
+    for (at, edit) in edits.iter().enumerate() {
+        let version = next_version(alloc, newest(first, &versions), at, edit)?;
+        versions.push(version).map_err(|_| RunFault::Memory)?;
+    }
     Ok(versions)
 }
 

@@ -3,12 +3,12 @@ use Rattle.starlark_run.proofs.Edited.{newest_fits, newest_more, one_taken, vers
 use Rattle.starlark_run.specs.Edits.{text_after}
 use Rattle.starlark_run.specs.Inner.EditedTexts.{AreVersions, AreVersionsAfter, newest_text}
 use Rattle.starlark_run.specs.declared.ends.TheConstants.{GREATEST_LEN}
-use Rattle.starlark_run.proofs.edited_texts.add_versions.Goals as goal
+use Rattle.starlark_run.proofs.edited_texts.versions_of.Goals as goal
 
 pub next_version-requires : goal.next_version-requires
 next_version-requires c =
     let newest : c.newest.result.now ≡ newest_text c.args.first.now c.loop-at.versions.items = c.newest.ensures ∙ ap (newest_text c.args.first.now) c.deref.ensures.value in
-    subst (λ t. length t ≤ GREATEST_LEN) (sym newest) (newest_fits c.args.first.now c.loop-at.versions.items c.loop-at.invariant.versions c.requires.fits)
+    subst (λ t. length t ≤ GREATEST_LEN) (sym newest) (newest_fits c.args.first.now c.loop-at.versions.items c.loop-at.invariant.versions c.requires)
 
 pub loop-at-preserved : goal.loop-at-preserved
 loop-at-preserved c =

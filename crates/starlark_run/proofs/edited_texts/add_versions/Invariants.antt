@@ -1,7 +1,7 @@
 use Rattle.std.proofs.Common.{◌≡◌, drop, take}
 use Rattle.starlark_run.specs.Edits.{text_after}
 use Rattle.starlark_run.specs.Inner.EditedTexts.{AreVersions, AreVersionsAfter, newest_text}
-use Rattle.starlark_run.proofs.edited_texts.add_versions.Given as goal
+use Rattle.starlark_run.proofs.edited_texts.versions_of.Given as goal
 
 -- what all edits leave is what those that are left leave of the newest version
 abbrev pub invariant-loop-at : goal.invariant-loop-at

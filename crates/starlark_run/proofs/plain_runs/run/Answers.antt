@@ -1,8 +1,8 @@
 -- What came is the text that is printed, under the name that was given.
-use Rattle.std.proofs.Common.{◌≡◌, Ok, rules, string_bytes, subst}
+use Rattle.std.proofs.Common.{◌≡◌, Ok, refl, rules, string_bytes, subst}
 use Rattle.std.proofs.lemmas.Str.{IsUtf8-string_bytes}
 use Rattle.std.specs.Str.{IsUtf8}
-use Rattle.starlark_run.proofs.RunEnds.{printed_is, run_printed, read_told, write_told}
+use Rattle.starlark_run.proofs.RunEnds.{run_printed, read_told, write_told}
 use Rattle.starlark_run.proofs.plain_runs.run.Goals as goal
 
 pub returns-clause-run : goal.returns-clause-run
@@ -11,8 +11,7 @@ returns-clause-run g c =
     let same : string_bytes c.in_ok-text.text ≡ came = c.in_ok-text.ensures.2.1 in
     let text : c.as_str.result.now ≡ came = search (rules, same) in
     let utf8 : IsUtf8 came = subst IsUtf8 same (IsUtf8-string_bytes c.in_ok-text.text) in
-    let printed = printed_is g.W.WriteDevice.calls c.args.name.now came (Ok came) c.read_text.new.reader c.args.writer.now c.print.new.writer came c.print.result (rw text at c.print.ensures.writes) (rw text at c.print.ensures.status) in
-    (came, c.in_ok-text.ensures.1, run_printed g.W.WriteDevice.calls c.args.name.now came (Ok came) c.read_text.new.reader c.args.writer.now c.print.new.writer (Ok came) c.print.result c.in_ok-text.ensures.2.0 utf8 printed)
+    (came, c.in_ok-text.ensures.1, run_printed g.W.WriteDevice.calls c.args.name.now came (Ok came) c.read_text.new.reader c.args.writer.now c.print.new.writer came c.print.result refl c.in_ok-text.ensures.2.0 utf8 (rw text at c.print.ensures.writes) (rw text at c.print.ensures.status))
 
 pub returns-clause-read : goal.returns-clause-read
 returns-clause-read g c =
