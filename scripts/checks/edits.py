@@ -2,12 +2,13 @@
 """Checks the edits of all crates: the wrong changes that the prover has to refuse.
 
     scripts/checks/edits.py                      fails where an edit doesn't say what it shows or can't be applied, a mistake is
-                                                 lost, or nobody knows whether an edit is refused
+                                                 lost, or the list names an edit that is gone
     scripts/checks/edits.py --print [CRATE..]    prints what each edit shows, and what else shows it, as a table
 
 The gate tries those of crates/*/must-fail, and scripts/edits_by_hand.py those of crates/*/must-fail-by-hand. An edit has a
 line `# shows: MISTAKE`, and where something else shows the mistake too a line `# also: WHAT`. Each line of mistakes.txt is a
-mistake that some edit has to show in these words. scripts/edits_by_hand.txt has each edit by hand, and no other.
+mistake that some edit has to show in these words. scripts/edits_by_hand.txt has edits by hand alone; of those that it hasn't,
+which nobody has tried yet, a line says how many each crate has.
 """
 
 import sys
@@ -62,10 +63,17 @@ def findings(edits):
 
 
 def findings_of_list(edits):
-    """Where the edits by hand and the list of when they were last refused differ."""
+    """What is wrong with the list of when the edits by hand were last refused."""
     listed, by_hand = set(last_refused()), {edit.name for edit in edits if edit.tried == "by hand"}
-    yield from (f"{name} was never refused: scripts/edits_by_hand.py {name.split('/')[0]} tries it" for name in sorted(by_hand - listed))
     yield from (f"scripts/edits_by_hand.txt names {name}, which is gone" for name in sorted(listed - by_hand))
+
+
+def print_untried(edits):
+    """Prints how many edits by hand of each crate the list doesn't have."""
+    listed = set(last_refused())
+    untried = Counter(edit.crate for edit in edits if edit.tried == "by hand" and edit.name not in listed)
+    if untried:
+        print("edits by hand that nobody has tried yet: " + ", ".join(f"{count} of {crate}" for crate, count in sorted(untried.items())))
 
 
 def print_table(edits, crates):
@@ -81,6 +89,7 @@ def main():
     if sys.argv[1:2] == ["--print"]:
         print_table(edits, sys.argv[2:])
         return 0
+    print_untried(edits)
     found = [*findings(edits), *findings_of_list(edits)]
     print("\n".join(found or [f"edits: {len(edits)} say what they show, and can be applied; no mistake is lost"]))
     return 1 if found else 0
