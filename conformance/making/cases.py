@@ -9,6 +9,7 @@ differences.json, which reports.py makes.
 """
 
 import json
+import re
 import sys
 from collections import Counter
 from pathlib import Path
@@ -23,6 +24,20 @@ NOT_UTF8 = {
     "a byte that begins no character": b"x = '\xff'", "a character that is cut off": b"# \xe2\x82", "a continuation byte alone": b"\x80",
     "a surrogate's bytes": b"'\xed\xa0\x80'", "a character in more bytes than it needs": b"# \xc0\xaf", "a Latin letter in one byte": b"# caf\xe9\n",
 }
+
+
+TAGS = {  # that a case gets by its text
+    "bytes": rb"(?<![A-Za-z0-9_])(b|br|rb)['\"]", "fstrings": rb"(?<![A-Za-z0-9_])(f|fr|rf)['\"]", "crlf": rb"\r\n", "cr": rb"\r(?!\n)",
+}
+
+
+def all_tags(tags, text, answer):
+    """The tags of a case: those that are given, and those that its text and its answer give."""
+    found = tags.split() + [tag for tag, pattern in TAGS.items() if re.search(pattern, text)]
+    kinds = [item[0] for item in (answer["tokens"] or []) + answer["faults"]]
+    found += ["bytes"] * ("bytes" in kinds) + ["fstrings"] * ("fstring_start" in kinds)
+    found += ["faults"] * bool(answer["faults"]) + ["reserved"] * ("reserved_word" in kinds) + ["tabs"] * ("invalid_tab" in kinds)
+    return list(dict.fromkeys(found))
 
 
 class Cases:
@@ -41,8 +56,9 @@ class Cases:
             return
         self.names.add(name)
         self.texts.add(key)
-        case = {"name": name, "tags": tags.split(), **text_fields(text), **more}
-        self.cases.append({**case, **answered(case)})
+        case = {"name": name, **text_fields(text), **more}
+        answer = answered(case)
+        self.cases.append({**case, "tags": all_tags(tags, text, answer), **answer})
 
 
 def made():

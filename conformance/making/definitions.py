@@ -335,6 +335,34 @@ def rows_of_the_code():
     return [tuple(map(tuple, group)) for group in rows.values()]
 
 
+# -- Changes
+
+
+def truth(value):
+    return Node("constant", [str(value)], str(value).lower())
+
+
+def changes_of(node):
+    """What an expression can be changed to, each with words."""
+    if node.what == "if":
+        return [("always holds", node.parts[1]), ("never holds", node.parts[2])]
+    if node.what == "operator":
+        operator, left, right = node.parts
+        sides = [("is its first part", left), ("is its second part", right)]
+        truths = [("holds", truth(True)), ("fails", truth(False))]
+        return {"&&": sides, "||": sides, "==": truths, "∷": sides[1:], "++": sides, "+": sides[:1], "-": sides[:1]}.get(operator, [])
+    if node.what == "number":
+        return [("is one more", Node("number", [node.parts[0] + 1]))]
+    if node.what == "string":
+        text = node.parts[0].encode().decode("unicode_escape")
+        return [("is the next character", Node("string", [chr(ord(text[0]) + 1).encode("unicode_escape").decode()]))]
+    if node.what == "name" and node.parts[0] in ("true", "false"):
+        return [("is the other", truth(node.parts[0] == "false"))]
+    if node.what == "apply" and node.parts[0].parts[:1] == ["not"]:
+        return [("isn't turned", node.parts[1])]
+    return []
+
+
 # -- Definitions as functions
 
 
@@ -344,7 +372,7 @@ class Definitions:
     def __init__(self, change=None):
         self.modules = {name: module_definitions(name) for name in MODULES}
         self.cases, self.reached, self.lines, self.known_names = [], set(), [], 0
-        self.places, self.change = [], change
+        self.places, self.change, self.clause_case = [], change, -1
         self.scope = {"NATIVE": NATIVE, "curried": curried, "remembered": remembered, "record_type": record_type,
                       "reach": self.reach, "lookup": self.lookup, "longest_front": self.longest_front}
         self.scope["SYMBOLS"], self.scope["NAMES"] = rows_of_the_code()
@@ -426,7 +454,11 @@ class Definitions:
             for name, pattern in zip(names, clause.patterns):
                 self.match(pattern, name, tests, bound)
             self.lines.append(f"{pad}  if {' and '.join(tests) or 'True'}:")
-            reached = self.case(module, clause.words)
+            reached = self.case(module, clause.words) if clause.patterns else -1
+            self.clause_case = reached
+            if self.is_dropped(clause, reached):
+                self.lines.append(f"{pad}    pass")
+                continue
             self.lines.append(f"{pad}    reach({reached})")
             for key, inner in clause.local.items():
                 inner_count = len(inner[0].patterns)
@@ -562,7 +594,24 @@ class Definitions:
             return f"curried({count}, {text})" + "".join(f"({argument})" for argument in arguments)
         return f"{text}({', '.join(arguments[:count])})" + "".join(f"({argument})" for argument in arguments[count:])
 
+    # Changes
+
+    def is_dropped(self, clause, reached):
+        """Whether a clause is left out."""
+        return reached >= 0 and self.is_changed(reached, "is left out", clause.words)
+
+    def is_changed(self, reached, what, words):
+        """Notes a change that can be made; whether it is the one to make."""
+        self.places.append((reached, f"{self.cases[reached]}: `{words}` {what}"))
+        return self.change == len(self.places) - 1
+
     def changed(self, module, clause, node):
+        """An expression, or what it is changed to."""
+        if self.clause_case < 0 or module not in MEASURED:
+            return node
+        for what, other in changes_of(node):
+            if self.is_changed(self.clause_case, what, node.words):
+                return other
         return node
 
     # Texts

@@ -95,7 +95,8 @@ func main() {
 	out := json.NewEncoder(os.Stdout)
 	out.Encode(map[string]interface{}{
 		"lexer":   "starlark-go",
-		"skips":   []string{"fstrings", "recovering", "edits", "not_utf8"},
+		// Debian's version has no bytes literals.
+		"skips":   []string{"fstrings", "bytes", "recovering", "edits", "not_utf8"},
 		"ignores": []string{"comments", "blank_lines", "layout_before_faults"},
 	})
 	lines := bufio.NewScanner(os.Stdin)

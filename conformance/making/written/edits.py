@@ -1,11 +1,12 @@
 """Cases of edits: a text, replaced bytes of it, and the tokens of the new text."""
 
-BASE = 'load("a", "b")\nx = [\n  1,\n]\n\ndef f(x):\n  # c\n  return f"{x}"\n\n# d\ny = \'\'\'e\n\'\'\'\nz = 2\n'
+BASE = 'load("a", "b")\nx = [\n  1,\n]\n\ndef f(x):\n  # c\n  return "x"\n\n# d\ny = \'\'\'e\n\'\'\'\nz = 2\n'
 PLACES = {
     "at the start": 0, "in the first string": BASE.index('a"'), "in brackets": BASE.index("1,"), "at a blank line": BASE.index("\n\ndef") + 1,
-    "at the start of an indented line": BASE.index("  return"), "in an f-string's text": BASE.index('{x}'),
-    "in an f-string's expression": BASE.index('x}"'), "in a triple string": BASE.index("e\n"), "at the end": len(BASE),
+    "at the start of an indented line": BASE.index("  return"), "in a triple string": BASE.index("e\n"), "at the end": len(BASE),
 }
+FSTRINGS = 'x = f"a{y}"\nz = 1\n'
+FSTRING_PLACES = {"in an f-string's text": FSTRINGS.index("a{"), "in an f-string's expression": FSTRINGS.index("y}")}
 TYPED = {
     "a letter": "a", "a digit": "1", "a space": " ", "an LF": "\n", "a number sign": "#", "an empty string": "''", "a comma": ",", "brackets": "()", "a line": "a = 1\n", "a comment line": "# e\n",
 }
@@ -30,8 +31,10 @@ PAIRS = {
 def cases(add):
     for name, (text, edits) in PAIRS.items():
         add("edits", f"edit: {name}", text, edits=edits)
-    for where, place in PLACES.items():
-        for what, typed in TYPED.items():
-            add("edits", f"edit: {what} is typed {where}", BASE, edits=[(place, place, typed)])
-        for what, typed in OPENING.items():
-            add("edits", f"edit: {what} is typed {where}, and deleted", BASE, edits=[(place, place, typed), (place, place + len(typed), "")])
+    for text, places in [(BASE, PLACES), (FSTRINGS, FSTRING_PLACES)]:
+        for where, place in places.items():
+            for what, typed in TYPED.items():
+                add("edits", f"edit: {what} is typed {where}", text, edits=[(place, place, typed)])
+            for what, typed in OPENING.items():
+                edits = [(place, place, typed), (place, place + len(typed), "")]
+                add("edits", f"edit: {what} is typed {where}, and deleted", text, edits=edits)

@@ -97,8 +97,8 @@ def cases(add):
         ("ends", ENDS), ("blanks", BLANKS), ("blocks", BLOCKS), ("comments", COMMENTS), ("tabs", TABS), ("brackets", BRACKETS), ("files", FILES),
     ]:
         for name, text in group.items():
-            add(f"layout {tag}" + (" crlf" if "\r\n" in text else ""), name, text)
+            add(f"layout {tag}", name, text)
     for tag, group in [("blocks", BLOCKS), ("comments", COMMENTS), ("brackets", BRACKETS), ("files", FILES)]:
         for name, text in group.items():
             if "\n" in text and "\r" not in text:
-                add(f"layout {tag} crlf", f"{name}; each line with CR LF", crlf(text))
+                add(f"layout {tag}", f"{name}; each line with CR LF", crlf(text))

@@ -23,13 +23,19 @@ def is_joined(first, second):
     return kinds(first + second) != kinds(first + " " + second)
 
 
+def closed(text):
+    """A text whose brackets are closed as often as opened, and that doesn't end in a backslash's line: some lexers want that."""
+    opened, shut = text.count("("), text.count(")")
+    return max(0, shut - opened) * "(" + text + "y" * text.endswith("\\\n") + max(0, opened - shut) * ")"
+
+
 def cases(add):
     for one, first in KINDS.items():
         for other, second in KINDS.items():
             text = FIRST.get(one, first)
-            add("neighbours", f"{other} right after {one}", text + second)
+            add("neighbours", f"{other} right after {one}", closed(text + second))
             if first == "\n" or is_joined(text, second):
-                add("neighbours", f"{other} after {one} and a space", f"{text} {second}")
+                add("neighbours", f"{other} after {one} and a space", closed(f"{text} {second}"))
     for first in SYMBOLS:
         for second in SYMBOLS:
             if is_joined(first, second):

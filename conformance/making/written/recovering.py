@@ -17,4 +17,4 @@ TEXTS = {
 
 def cases(add):
     for name, text in TEXTS.items():
-        add("recovering" + (" crlf" if "\r\n" in text else ""), f"{name}; lexed on", text, recovering=True)
+        add("recovering", f"{name}; lexed on", text, recovering=True)

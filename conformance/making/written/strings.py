@@ -188,9 +188,9 @@ def cases(add):
     for name, text in BODIES.items():
         add("strings quotes", name, text)
     for name, text in LINES.items():
-        add("strings lines" + (" cr" if "\r" in text else ""), name, text)
+        add("strings lines", name, text)
     for name, text in UNFINISHED.items():
-        add("strings unfinished faults", name, text)
+        add("strings unfinished", name, text)
     for name, text in RAW_PAIRS.items():
         add("strings raw", name, text)
         add("bytes raw", f"{name}; in a bytes literal", "b" + text)

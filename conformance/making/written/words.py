@@ -257,10 +257,10 @@ def cases(add):
     for name, text in LONGEST.items():
         add("words longest", name, text)
     for name, text in NO_WORDS.items():
-        add("words faults", name, text)
+        add("words characters", name, text)
     for number in [*range(1, 9), *range(14, 32)]:
         if number not in (10, 13, 9, 12, 11, 27):
-            add("words faults", f"{spelled(chr(number))} begins no word", chr(number))
+            add("words characters", f"{spelled(chr(number))} begins no word", chr(number))
     for name, text in COMMENTS.items():
         add("words comments", name, text)
     for name, text in CONTINUED.items():

@@ -1,0 +1,188 @@
+#!/usr/bin/env python3
+"""Says which cases of the grammar's definitions no case of the suite reaches, and which could be wrong without a case to tell.
+
+    coverage.py             runs the definitions on each text, and fails where they give another answer or a case isn't reached
+    coverage.py --mutants   also changes each place of the definitions, and tells the changes that no case shows
+    coverage.py --list      prints each case of the definitions with the name of the first case that reaches it
+
+Definitions are those of the modules Words, Items, Numbers, Margins, Pieces and Depths. definitions.py says what a case of
+them is. UNREACHABLE names those that no text reaches, and why.
+"""
+
+import argparse
+import concurrent.futures
+import os
+import re
+import sys
+from pathlib import Path
+
+from answers import FAULTS, KINDS, QUOTES, is_utf8, text_of
+from definitions import MEASURED, Definitions
+
+HERE = Path(__file__).resolve().parent
+sys.path.append(str(HERE.parent))
+
+from runner import read_cases  # noqa: E402
+
+# What no text reaches: a pattern on the case's words, and the reason.
+UNREACHABLE = [
+    (r"^Words: (is_identifier|is_comment) \[\]", "a word isn't empty"),
+    (r"^Words: begins test \[\]", "a word of digits alone is a decimal integer by an earlier row, and a point alone a symbol"),
+    (r"^Numbers: is_negative \[\]", "a number has a digit"),
+    (r"^Numbers: (is_small|signed) .*(minus|2 \^ 31 \) \|\| \.\.: by)", "a number of a text has no sign"),
+    (r"^Numbers: (is_number|integer_in) ", "only the library's call on a number's text asks it"),
+    (r"^Items: found_at literal \[\]", "a body at the end of the text is ended before"),
+    (r"^Margins: begins_with_line_end ", "only lexing on after a fault asks it"),
+    (r"^Margins: without_return \[\]", "a comment isn't empty"),
+    (r"^Pieces: (starts_zero|is_bang) \[\]", "a word isn't empty"),
+]
+
+
+def value_of(node):
+    """The value of a token of the definitions, as the suite has it."""
+    kind = node[0]
+    if kind in ("Identifier", "Comment", "Float", "String", "FStringText"):
+        return [bytes(node[1]).decode()]
+    if kind == "Bytes":
+        return [bytes(node[1]).hex()]
+    if kind == "Int":
+        number = node[1]
+        return [str(number[1] if number[0] == "Small" else int(bytes(number[2]).decode(), number[3]))]
+    if kind == "FStringStart":
+        quote = node[1].quote[0].removesuffix("Quote")
+        return [QUOTES["Triple" * node[1].is_triple + quote]]
+    return []
+
+
+def answer_by(definitions, text):
+    """The answer for a text by the definitions."""
+    outcome = definitions.outcome(text)
+    tokens = []
+    for lexeme in outcome.lexemes:
+        kind = lexeme.node[1][0] if lexeme.node[0] == "Word" else lexeme.node[0]
+        tokens.append([KINDS[kind], lexeme.begin, lexeme.end, *value_of(lexeme.node)])
+    fault = outcome.fault[1:]
+    return {"tokens": tokens, "faults": [[FAULTS[found.node[0]], found.begin, found.end] for found in fault]}
+
+
+def is_measured(case):
+    """Whether a case is one of the definitions: a text without edits that is UTF-8 and lexed up to its first fault."""
+    return "recovering" not in case and "edits" not in case and is_utf8(text_of(case))
+
+
+def reached_by(cases):
+    """Each case of the definitions that is reached, with the number of the first case; and the names of cases that differ."""
+    definitions, first, wrong = Definitions(), {}, []
+    for number, case in cases:
+        definitions.reached.clear()
+        if answer_by(definitions, text_of(case)) != {"tokens": case["tokens"], "faults": case["faults"]}:
+            wrong.append(case["name"])
+        for reached in definitions.reached:
+            first.setdefault(reached, number)
+    return first, wrong
+
+
+def shares(cases):
+    """Cases in as many shares as there are processors."""
+    count = os.cpu_count() or 1
+    return [cases[number::count] for number in range(count)]
+
+
+def measured(cases):
+    """What all cases reach together."""
+    first, wrong = {}, []
+    with concurrent.futures.ProcessPoolExecutor() as pool:
+        for found, differing in pool.map(reached_by, shares(cases)):
+            wrong += differing
+            for reached, number in found.items():
+                first[reached] = min(number, first.get(reached, number))
+    return first, wrong
+
+
+# -- Changed definitions
+
+LONGEST_CHANGED = 40
+SHARED = {}  # the cases, and the texts that reach each case of the definitions, for the processes that are started later
+
+
+def reached_alone(cases):
+    """Of each case of the definitions, the numbers of the texts that reach it when they are read by themselves."""
+    definitions, found = Definitions(), {}
+    for number, case in cases:
+        definitions.reached.clear()
+        definitions.classes.clear()
+        definitions.outcome(text_of(case))
+        for reached in definitions.reached:
+            found.setdefault(reached, []).append(number)
+    return found
+
+
+def shows(definitions, case):
+    """Whether changed definitions give another answer for a case."""
+    try:
+        return answer_by(definitions, text_of(case)) != {"tokens": case["tokens"], "faults": case["faults"]}
+    except (ValueError, IndexError, TypeError, AttributeError, KeyError, UnicodeDecodeError, RecursionError):
+        return True
+
+
+def unshown(change):
+    """The words of a change of the definitions, if no case shows it."""
+    definitions = Definitions(change)
+    reached, words = definitions.places[change]
+    cases = [SHARED["cases"][number] for number in SHARED["reached"].get(reached, [])]
+    cases.sort(key=lambda case: len(text_of(case)))
+    return "" if any(shows(definitions, case) for case in cases) else words
+
+
+def try_changes(cases):
+    """Tries all changes, and prints those that no case shows."""
+    cases = {number: case for number, case in cases if len(text_of(case)) <= LONGEST_CHANGED}
+    reached = {}
+    with concurrent.futures.ProcessPoolExecutor() as pool:
+        for found in pool.map(reached_alone, shares(list(cases.items()))):
+            for case, numbers in found.items():
+                reached.setdefault(case, []).extend(numbers)
+    SHARED.update(cases=cases, reached=reached)
+    changes = range(len(Definitions().places))
+    with concurrent.futures.ProcessPoolExecutor() as pool:
+        words = [word for word in pool.map(unshown, changes) if word]
+    for word in words:
+        print(f"no case shows that {word}")
+    print(f"{len(changes) - len(words)} of {len(changes)} changes of the definitions are shown by a case")
+
+
+def reason_of(words):
+    """Why no text reaches a case; none where nothing says so."""
+    return next((reason for pattern, reason in UNREACHABLE if re.search(pattern, words)), "")
+
+
+def main():
+    parser = argparse.ArgumentParser()
+    parser.add_argument("--mutants", action="store_true")
+    parser.add_argument("--list", action="store_true")
+    options = parser.parse_args()
+    cases = [(number, case) for number, case in enumerate(read_cases([HERE.parent / "cases"])) if is_measured(case)]
+    first, wrong = measured(cases)
+    names = dict(cases)
+    words = Definitions().cases
+    for name in wrong:
+        print(f"the definitions give another answer: {name}")
+    missed = [number for number in range(len(words)) if number not in first and not reason_of(words[number])]
+    for number in missed:
+        print(f"not reached: {words[number]}")
+    if options.mutants:
+        try_changes(cases)
+    if options.list:
+        for number, name in enumerate(words):
+            print(f"{name}\n    {names[first[number]]['name'] if number in first else reason_of(name)}")
+    unreachable = sum(1 for number in range(len(words)) if number not in first)
+    print(f"{len(first)} of {len(words)} cases of the definitions are reached by {len(cases)} cases; no text reaches "
+          f"{unreachable - len(missed)}")
+    for module in MEASURED:
+        of_module = [number for number, name in enumerate(words) if name.startswith(module + ":")]
+        print(f"    {module}: {sum(1 for number in of_module if number in first)} of {len(of_module)}")
+    return 1 if wrong or missed else 0
+
+
+if __name__ == "__main__":
+    sys.exit(main())
