@@ -4,8 +4,8 @@
     cases.py          compares the folder cases with what is written here, and fails where they differ
     cases.py --write  writes the files of the folder
 
-Names and texts are in the folder written, answers are the plain lexer's, and how other lexers are known to differ is in
-differences.json, which reports.py makes.
+Names and texts are in the folder written, and answers are the plain lexer's. How other lexers differ is in the lists of the
+folder expected, which reports.py makes, and in KNOWN.
 """
 
 import json
@@ -14,12 +14,16 @@ import sys
 from collections import Counter
 from pathlib import Path
 
-from answers import answered, case_line, text_fields
+from answers import answered, case_line, text_fields, text_of
 from written import edits, fstrings, layout, neighbours, numbers, recovering, strings, words
 
 HERE = Path(__file__).resolve().parent
 CASES = HERE.parent / "cases"
-DIFFERENCES = HERE / "differences.json"
+EXPECTED = HERE.parent / "expected"
+KNOWN = [  # of lexers that aren't run here: the lexer, how it differs, and a pattern on texts
+    ("starlark_syntax 0.14.2", "`rf` is a name", rb"(?<![A-Za-z0-9_])rf['\"]"),
+    ("Bazel", "a raw backslash before a quote stays", rb"(?<![A-Za-z0-9_])r('|\")(?:[^\\]|\\[^'\"])*\\['\"]"),
+]
 NOT_UTF8 = {
     "a byte that begins no character": b"x = '\xff'", "a character that is cut off": b"# \xe2\x82", "a continuation byte alone": b"\x80",
     "a surrogate's bytes": b"'\xed\xa0\x80'", "a character in more bytes than it needs": b"# \xc0\xaf", "a Latin letter in one byte": b"# caf\xe9\n",
@@ -71,12 +75,26 @@ def made():
     return found.cases
 
 
+def differences(path):
+    """The name of a lexer, and how it differs by the name of the case: a list has its reasons as comments above the names."""
+    head, *lines = path.read_text(encoding="utf-8").split("\n")
+    lexer, reason, found = re.match(r"# What (.*) is known to read otherwise", head)[1], "", {}
+    for line in lines:
+        if line.startswith("# "):
+            reason = line[2:]
+        elif line:
+            found[line] = reason
+    return lexer, found
+
+
 def with_differences(cases):
     """Cases with how other lexers differ."""
-    known = json.loads(DIFFERENCES.read_text(encoding="utf-8")) if DIFFERENCES.exists() else {}
+    lists = [differences(path) for path in sorted(EXPECTED.glob("*.txt"))]
     for case in cases:
-        if case["name"] in known:
-            case["differs"] = known[case["name"]]
+        known = {lexer: found[case["name"]] for lexer, found in lists if case["name"] in found}
+        known.update({lexer: how for lexer, how, pattern in KNOWN if re.search(pattern, text_of(case))})
+        if known:
+            case["differs"] = known
     return cases
 
 

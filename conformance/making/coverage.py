@@ -121,7 +121,7 @@ def shows(definitions, case):
     """Whether changed definitions give another answer for a case."""
     try:
         return answer_by(definitions, text_of(case)) != {"tokens": case["tokens"], "faults": case["faults"]}
-    except (ValueError, IndexError, TypeError, AttributeError, KeyError, UnicodeDecodeError, RecursionError):
+    except (ValueError, IndexError, TypeError, AttributeError, KeyError, OverflowError, RecursionError):
         return True
 
 
