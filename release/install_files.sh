@@ -3,7 +3,7 @@
 #
 #     release/install_files.sh LIBRARY PROGRAMS PREFIX LIBDIR DOCDIR
 #
-# LIBRARY is a folder that scripts/link_library.sh has made. PROGRAMS is
+# LIBRARY is a folder that scripts/bindings/link_library.sh has made. PROGRAMS is
 # one with both programs and with what release/program_files.py makes, or `none`. LIBDIR and DOCDIR
 # are below PREFIX, as lib and share/doc/starlark-lex.
 set -eu

@@ -3,7 +3,7 @@
 #
 #     release/make_wheels.sh LIBRARIES TARGETS OUTPUT
 #
-# LIBRARIES has a folder for each target, made by scripts/link_library.sh. TARGETS is a list of
+# LIBRARIES has a folder for each target, made by scripts/bindings/link_library.sh. TARGETS is a list of
 # x86_64 and aarch64. SOURCE_DATE_EPOCH is the time of all files. Where no python3 has setuptools
 # and wheel the exit status is 2, and nothing is made.
 set -eu

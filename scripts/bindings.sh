@@ -3,7 +3,7 @@
 #
 #     scripts/bindings.sh [c | rust | python | web | library]
 #
-# It lets scripts/build_archive.py prove and build the archive of crates/starlark_c, where that is
+# It lets scripts/bindings/build_archive.py prove and build the archive of crates/starlark_c, where that is
 # missing or older than a source. Then out/bindings has
 #
 #     libstarlark_lex.a, libstarlark_lex.so, starlark_lex.h       for C
@@ -29,14 +29,14 @@ fail() {
 # Makes the static and the shared library.
 link_libraries() {
     kit=$(dirname "$(rt doc)")
-    CC=$cc "$top/scripts/link_library.sh" '' "$archive" "$kit/c/liblibc_c.a" "$made"
+    CC=$cc "$top/scripts/bindings/link_library.sh" '' "$archive" "$kit/c/liblibc_c.a" "$made"
 }
 
 # Compares the numbers that cross to the header, the crate and the package, where there is a
 # python3.
 compare_numbers() {
     if command -v python3 >/dev/null; then
-        python3 "$top/scripts/binding_numbers.py"
+        python3 "$top/scripts/checks/binding_numbers.py"
     fi
 }
 
@@ -160,7 +160,7 @@ if ! cc=$(compiler) || ! command -v objcopy >/dev/null; then
     case $part in all) exec "$top/scripts/web.sh" ;; esac
     exit 0
 fi
-"$top/scripts/build_archive.py" || fail 'the archive of starlark_c is not proved'
+"$top/scripts/bindings/build_archive.py" || fail 'the archive of starlark_c is not proved'
 link_libraries
 case $part in c | all) test_c ;; esac
 case $part in rust | all) test_rust ;; esac

@@ -20,7 +20,7 @@ tests="$top/bindings/web/tests"
 is_current() {
     [ -e "$module" ] || return 1
     newer=$(find "$top/crates" "$top/crates.txt" "$top/HANDLES" "$top/bindings/web/heap.c" \
-        "$top/bindings/c/starlark_lex.h" "$top/scripts/web_module.py" \
+        "$top/bindings/c/starlark_lex.h" "$top/scripts/bindings/web_module.py" \
         -name out -prune -o -type f -newer "$module" -print)
     [ -z "$newer" ]
 }
@@ -28,11 +28,11 @@ is_current() {
 build() {
     if ! is_current; then
         echo 'proving and building the module of starlark_c' >&2
-        "$top/scripts/web_module.py" "$module"
+        "$top/scripts/bindings/web_module.py" "$module"
     fi
     cp "$top/LICENSE" "$top/bindings/web"/*.js "$top/bindings/web"/*.d.ts \
         "$top/bindings/web/package.json" "$package"
-    "$top/scripts/web_page.py" "$module" "$page"
+    "$top/scripts/bindings/web_page.py" "$module" "$page"
 }
 
 # Prints the option that gives this Node a memory of 64 bits, or nothing where it needs none.

@@ -1,35 +1,26 @@
 // Colours of the tokens and faults that are shown, by highlights of ranges: no element is made.
 
+// The groups of classes. A group names its colour.
 const GROUPS = {
     Comment: "comment",
-    Indent: "layout",
-    Dedent: "layout",
-    Newline: "layout",
-    Identifier: "name",
-    Int: "number",
-    Float: "number",
+    Layout: "layout",
+    Name: "name",
+    Number: "number",
     String: "string",
-    Bytes: "string",
-    FStringStart: "string",
-    FStringText: "string",
-    FStringEnd: "string",
-    FStringExprStart: "insert",
-    FStringExprEnd: "insert",
-    FStringBang: "insert",
+    Keyword: "keyword",
+    Operator: "operator",
+    Punctuation: "punctuation",
+    Bracket: "punctuation",
 };
-const KEYWORDS = "And Break Continue Def Elif Else For If In Lambda Load Not Or Pass Return".split(" ");
-const PUNCTUATION = (
-    "Comma Semicolon Colon Dot Ellipsis OpeningSquare OpeningCurly OpeningRound ClosingSquare ClosingCurly ClosingRound"
-).split(" ");
-KEYWORDS.forEach((kind) => (GROUPS[kind] = "keyword"));
-PUNCTUATION.forEach((kind) => (GROUPS[kind] = "punctuation"));
+// Kinds with a group of their own.
+const INSERTS = new Set(["FStringExprStart", "FStringExprEnd", "FStringBang"]);
 
 // A line end, and the lines of comments before an indentation.
 const BEFORE_MARGIN = /(?:\r?\n)?(?:[ \t\r]*#[^\n]*\n)*/y;
 
-/** The group of a kind, which names its colour. */
-export function groupOf(kind) {
-    return GROUPS[kind] ?? "operator";
+/** The group of a token, which names its colour. */
+export function groupOf(tokens, index) {
+    return INSERTS.has(tokens.kind(index)) ? "insert" : GROUPS[tokens.kindClass(index)];
 }
 
 /** The number of the first token that ends after an offset. */
@@ -63,7 +54,7 @@ export function tokenRanges(text, tokens, base, start, end) {
             break;
         }
         const to = tokens.end(index) + base;
-        const group = groupOf(tokens.kind(index));
+        const group = groupOf(tokens, index);
         if (from < to && group !== "name") {
             ranges.set(group, ranges.get(group) ?? []);
             ranges.get(group).push(rangeOf(text, from, to));

@@ -31,7 +31,7 @@ class Row {
     show(tokens, index, top, isCurrent) {
         const token = tokens.at(index);
         this.#set("id", `token-${index}`);
-        this.#set("className", `row ${groupOf(token.kind)}`);
+        this.#set("className", `row ${groupOf(tokens, index)}`);
         this.#set("ariaSetSize", String(tokens.length));
         this.#set("ariaPosInSet", String(index + 1));
         this.#set("ariaSelected", String(isCurrent));

@@ -16,6 +16,7 @@ PROVED(starlark_restart);
 PROVED(starlark_place);
 PROVED(starlark_move_place);
 PROVED(starlark_kind_name);
+PROVED(starlark_kind_class);
 PROVED(starlark_fault_code);
 PROVED(starlark_fault_message);
 PROVED(starlark_document_open);
@@ -101,6 +102,11 @@ bool starlark_move_place(const uint8_t *text, size_t text_len, size_t from, size
 size_t starlark_kind_name(uint32_t kind, uint8_t *name, size_t name_cap)
 {
     return proved_starlark_kind_name(kind, output(name, name_cap), name_cap);
+}
+
+uint32_t starlark_kind_class(uint32_t kind)
+{
+    return proved_starlark_kind_class(kind);
 }
 
 size_t starlark_fault_code(uint32_t kind, uint8_t *code, size_t code_cap)

@@ -1,5 +1,6 @@
-/* Tries the calls that other tests leave out: the version, codes of faults, empty buffers by NULL,
- * places that are moved along a text, full buffers, and faults of fronts that are final. */
+/* Tries the calls that other tests leave out: the version, codes of faults, classes of kinds, empty
+ * buffers by NULL, places that are moved along a text, full buffers, and faults of fronts that are
+ * final. */
 #include "starlark_lex.h"
 
 #include <stdio.h>
@@ -55,6 +56,32 @@ static void try_codes(void)
         require(starlark_fault_code(kind, code, sizeof code) == len, "length of a code", kind);
         require(memcmp(code, wanted, len) == 0 && code[len] == '-', "a code", kind);
     }
+}
+
+/* A kind of each class has it, and what is no kind has none. */
+static void try_classes(void)
+{
+    static const uint32_t classes[][2] = {
+        {STARLARK_KIND_COMMENT, STARLARK_CLASS_COMMENT},
+        {STARLARK_KIND_DEDENT, STARLARK_CLASS_LAYOUT},
+        {STARLARK_KIND_IDENTIFIER, STARLARK_CLASS_NAME},
+        {STARLARK_KIND_FLOAT, STARLARK_CLASS_NUMBER},
+        {STARLARK_KIND_FSTRING_END, STARLARK_CLASS_STRING},
+        {STARLARK_KIND_RETURN, STARLARK_CLASS_KEYWORD},
+        {STARLARK_KIND_GREATER_GREATER_EQUAL, STARLARK_CLASS_OPERATOR},
+        {STARLARK_KIND_FSTRING_BANG, STARLARK_CLASS_PUNCTUATION},
+        {STARLARK_KIND_ELLIPSIS, STARLARK_CLASS_PUNCTUATION},
+        {STARLARK_KIND_FSTRING_EXPR_END, STARLARK_CLASS_BRACKET},
+        {STARLARK_KIND_OPENING_CURLY, STARLARK_CLASS_BRACKET},
+        {0, 0},
+        {UINT16_MAX, 0},
+        {UINT32_MAX, 0},
+    };
+    for (size_t at = 0; at < sizeof classes / sizeof *classes; at++)
+        require(starlark_kind_class(classes[at][0]) == classes[at][1], "a class", classes[at][0]);
+    for (uint32_t kind = 0; kind < 1000; kind++)
+        require((starlark_kind_class(kind) == 0) == (starlark_kind_name(kind, NULL, 0) == 0),
+                "a class of no kind", kind);
 }
 
 /* Each pointer with a length of 0 may be NULL. */
@@ -200,6 +227,7 @@ int main(void)
     size_t final = 0;
     require(starlark_lex_version() == STARLARK_LEX_VERSION, "version", starlark_lex_version());
     try_codes();
+    try_classes();
     try_null();
     for (size_t number = 0; number < count; number++) {
         try_moves(texts[number], number);
@@ -207,7 +235,7 @@ int main(void)
         final += try_final_faults(texts[number], number);
     }
     require(final > 0, "no fault is final", count);
-    printf("codes, empty and full buffers, moved places in %zu texts, %zu final faults\n", count,
-           final);
+    printf("codes, classes, empty and full buffers, moved places in %zu texts, %zu final faults\n",
+           count, final);
     return 0;
 }

@@ -111,6 +111,20 @@ enum starlark_kind {
     STARLARK_KIND_CLOSING_ROUND = 73
 };
 
+/* The classes of kinds, by which highlighters, editors and parsers group them. A number never
+ * changes; a new class gets the next one. */
+enum starlark_class {
+    STARLARK_CLASS_COMMENT = 1,
+    STARLARK_CLASS_LAYOUT = 2,      /* INDENT, DEDENT and NEWLINE */
+    STARLARK_CLASS_NAME = 3,        /* IDENTIFIER */
+    STARLARK_CLASS_NUMBER = 4,      /* INT and FLOAT */
+    STARLARK_CLASS_STRING = 5,      /* STRING, BYTES, and the quotes and the text of an f-string */
+    STARLARK_CLASS_KEYWORD = 6,
+    STARLARK_CLASS_OPERATOR = 7,    /* a symbol that computes, compares or assigns, or is `->` */
+    STARLARK_CLASS_PUNCTUATION = 8, /* `,`, `;`, `:`, `.`, `...`, and the `!` of an f-string */
+    STARLARK_CLASS_BRACKET = 9      /* a bracket; also `{` and `}` of an f-string's expression */
+};
+
 /* The kinds of faults. A number never changes; a new kind gets the next one. */
 enum starlark_fault {
     STARLARK_FAULT_INDENTATION = 1,
@@ -390,6 +404,9 @@ bool starlark_move_place(const uint8_t *text, size_t text_len, size_t from, size
 /* Writes the name of a kind, such as "Identifier", if there is room for it, without a terminating
  * zero. Returns its length in bytes, which is 0 for a number that no kind has. */
 size_t starlark_kind_name(uint32_t kind, uint8_t *name, size_t name_cap);
+
+/* Returns the class of a kind, an enum starlark_class; 0 for a number that no kind has. */
+uint32_t starlark_kind_class(uint32_t kind);
 
 /* Writes the code of a fault, such as "SL008", if there is room for it, without a terminating zero.
  * Returns its length in bytes, which is 0 for a number that no fault has. A code never changes. */

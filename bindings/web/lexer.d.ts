@@ -80,6 +80,23 @@ export type Kind =
     | "ClosingCurly"
     | "ClosingRound";
 
+/** What a kind of token is to a highlighter, an editor or a parser. */
+export type KindClass =
+    | "Comment"
+    /** `Indent`, `Dedent` or `Newline`. */
+    | "Layout"
+    | "Name"
+    | "Number"
+    /** A string, bytes, or the quotes or the text of an f-string. */
+    | "String"
+    | "Keyword"
+    /** A symbol that computes, compares or assigns, or is `->`. */
+    | "Operator"
+    /** `,`, `;`, `:`, `.`, `...`, or the `!` of an f-string's expression. */
+    | "Punctuation"
+    /** Also the `{` and `}` of an f-string's expression. */
+    | "Bracket";
+
 /** The kind of a fault. */
 export type FaultKind =
     | "Indentation"
@@ -122,6 +139,7 @@ export interface Span {
 /** A token with its span. */
 export interface Token extends Span {
     readonly kind: Kind;
+    readonly kindClass: KindClass;
     /** The value, which is decoded each time that it is asked for. */
     readonly value: Value;
 }
@@ -135,6 +153,7 @@ export interface Tokens extends Iterable<Token> {
     /** The token of a number, or undefined where there is none. */
     at(index: number): Token | undefined;
     kind(index: number): Kind;
+    kindClass(index: number): KindClass;
     start(index: number): number;
     end(index: number): number;
     startByte(index: number): number;

@@ -21,7 +21,20 @@ const RECOVERED = { lexemes: 8, values: 16, faults: 24, next: 32, wanted: [40, 4
 
 const STATUS = { WHOLE: 0, FAULT: 1, FULL: 2, NOT_UTF8: 3, TOO_LONG: 4, MEMORY: 5 };
 
-// The kinds of faults and the quotes of f-strings by their numbers, which never change.
+// The classes of kinds, the kinds of faults and the quotes of f-strings by their numbers, which never
+// change.
+const CLASSES = [
+    "",
+    "Comment",
+    "Layout",
+    "Name",
+    "Number",
+    "String",
+    "Keyword",
+    "Operator",
+    "Punctuation",
+    "Bracket",
+];
 const FAULT_KINDS = [
     "",
     "Indentation",
@@ -58,6 +71,10 @@ export class Token {
         this.#index = index;
     }
 
+    get kindClass() {
+        return this.#tokens.kindClass(this.#index);
+    }
+
     get value() {
         return this.#tokens.value(this.#index);
     }
@@ -65,15 +82,16 @@ export class Token {
 
 /** The tokens of a text, in order. A token is made when it is asked for. */
 export class Tokens {
-    #kinds;
+    #names;
     #words;
     #values;
     #units;
 
-    // `words` has the records of the tokens, eight words each. `units` has their offsets in UTF-16,
-    // two each, and is null where these are the offsets in bytes.
-    constructor(kinds, words, values, units) {
-        this.#kinds = kinds;
+    // `names` has the names of kinds, and of their classes, by the numbers of the kinds. `words` has the
+    // records of the tokens, eight words each. `units` has their offsets in UTF-16, two each, and is
+    // null where these are the offsets in bytes.
+    constructor(names, words, values, units) {
+        this.#names = names;
         this.#words = words;
         this.#values = values;
         this.#units = units;
@@ -94,7 +112,11 @@ export class Tokens {
     }
 
     kind(index) {
-        return this.#kinds[this.#words[8 * index + 2] & 0xffff];
+        return this.#names.kinds[this.#number(index)];
+    }
+
+    kindClass(index) {
+        return this.#names.classes[this.#number(index)];
     }
 
     start(index) {
@@ -140,6 +162,10 @@ export class Tokens {
         return this.#values.subarray(begin, begin + length);
     }
 
+    #number(index) {
+        return this.#words[8 * index + 2] & 0xffff;
+    }
+
     #detail(index) {
         return this.#words[8 * index + 2] >>> 16;
     }
@@ -165,8 +191,10 @@ export class Lexer {
         }
         this.#module = wasm instanceof WebAssembly.Module ? wasm : new WebAssembly.Module(wasm);
         const exports = this.#exports();
+        const kinds = namesOf(exports, "starlark_kind_name");
         this.#names = {
-            kinds: namesOf(exports, "starlark_kind_name"),
+            kinds,
+            classes: kinds.map((_, number) => CLASSES[exports.starlark_kind_class(number)]),
             codes: namesOf(exports, "starlark_fault_code"),
         };
     }
@@ -339,7 +367,7 @@ class Call {
         const words = this.#room.words(lexemes.at, (lexemes.length * LEXEME_SIZE) / 4);
         const units = this.#units && this.#units.ofTokens(words);
         const written = this.#room.bytes(values.at, values.length).slice();
-        return { tokens: new Tokens(this.#names.kinds, words.slice(), written, units), faults };
+        return { tokens: new Tokens(this.#names, words.slice(), written, units), faults };
     }
 
     // Numbers of lexemes, of bytes of values and of faults that few texts of this length have more of.

@@ -3,7 +3,7 @@
 #
 #     bindings/web/release.sh OUTPUT
 #
-# scripts/release.sh calls it, and gives it the time of all files as SOURCE_DATE_EPOCH.
+# scripts/releasing/release.sh calls it, and gives it the time of all files as SOURCE_DATE_EPOCH.
 set -eu
 
 output=$1

@@ -8,7 +8,7 @@ import re
 from typing import NamedTuple
 
 from shared.plain_lexer import (
-    LINE_END, Fault, Lexeme, Situation, comment_lines, indentation, moved_lexeme, outcome, restart, step,
+    LINE_END, Fault, Lexeme, Situation, comment_lines, fault_line, indentation, lexeme_line, moved_lexeme, outcome, restart, step,
 )
 
 TABS = re.compile(rb"\t*")
@@ -133,3 +133,9 @@ def found_in(text, part=passed_part):
     items = list(items_of(text, part))
     faults = [(fault.begin, fault.end, fault.message) for what, fault in items if what == "fault"]
     return [lexeme for what, lexeme in items if what == "lexeme"], faults
+
+
+def lines_of(text):
+    """The lines of all that is found in a text."""
+    lines = {"lexeme": lexeme_line, "fault": fault_line}
+    return "".join(lines[what](text, item) for what, item in items_of(text)).encode()

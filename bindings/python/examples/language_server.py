@@ -14,28 +14,25 @@ import json
 import sys
 from typing import Any, BinaryIO, Dict, List, Optional, Tuple
 
-from starlark_lexer import Change, Document, Fault, Kind, Token
+from starlark_lexer import Change, Document, Fault, KindClass, Token
 
 # A token on one line: its column and its length in units of UTF-16, and the number of its type.
 Piece = Tuple[int, int, int]
 Line = List[Piece]
 
 TYPES = ["comment", "keyword", "variable", "number", "string", "operator"]
-WITHOUT_COLOUR = {Kind.INDENT, Kind.DEDENT, Kind.NEWLINE}
+# The types of classes by number. Layout has none.
+NUMBERS = {
+    KindClass.COMMENT: 0,
+    KindClass.KEYWORD: 1,
+    KindClass.NAME: 2,
+    KindClass.NUMBER: 3,
+    KindClass.STRING: 4,
+    KindClass.OPERATOR: 5,
+    KindClass.PUNCTUATION: 5,
+    KindClass.BRACKET: 5,
+}
 METHOD_NOT_FOUND = -32601
-
-
-def type_of(kind: Kind) -> int:
-    """The number of the type that a kind of token has."""
-    if kind == Kind.COMMENT:
-        return 0
-    if Kind.AND <= kind <= Kind.RETURN:
-        return 1
-    if kind == Kind.IDENTIFIER:
-        return 2
-    if kind in (Kind.INT, Kind.FLOAT):
-        return 3
-    return 4 if Kind.STRING <= kind <= Kind.FSTRING_END else 5
 
 
 def units(text: str) -> int:
@@ -45,7 +42,9 @@ def units(text: str) -> int:
 
 def pieces_of(token: Token) -> List[Tuple[int, Piece]]:
     """The pieces of a token on its lines: no client has to show one over several lines."""
-    number = type_of(token.type)
+    number = NUMBERS.get(token.type.kind_class)
+    if number is None:
+        return []
     line, column = token.start
     begin = units(token.line[:column])
     pieces = []
@@ -132,8 +131,6 @@ class OpenFile:
         count = self.last_line() + 1 - (len(self.lines) - (old_end - first))
         made: List[Line] = [[] for _ in range(count)]
         for token in self.document.tokens(begin, end):
-            if token.type in WITHOUT_COLOUR:
-                continue
             for line, piece in pieces_of(token):
                 if first <= line < first + count:
                     made[line - first].append(piece)

@@ -168,6 +168,14 @@ static PyObject *library_kind_name(PyObject *Py_UNUSED(module), PyObject *kind)
         name, number > UINT32_MAX ? 0 : starlark_kind_name((uint32_t)number, name, sizeof name));
 }
 
+static PyObject *library_kind_class(PyObject *Py_UNUSED(module), PyObject *kind)
+{
+    unsigned long number = PyLong_AsUnsignedLong(kind);
+    if (number == (unsigned long)-1 && PyErr_Occurred())
+        return NULL;
+    return PyLong_FromUnsignedLong(number > UINT32_MAX ? 0 : starlark_kind_class((uint32_t)number));
+}
+
 static PyObject *library_fault_code(PyObject *Py_UNUSED(module), PyObject *kind)
 {
     uint8_t code[16];
@@ -232,6 +240,9 @@ static PyMethodDef methods[] = {
     {"kind_name", library_kind_name, METH_O,
      "kind_name(kind, /)\n--\n\n"
      "The name of a kind, as `Identifier`; empty where no kind has the number."},
+    {"kind_class", library_kind_class, METH_O,
+     "kind_class(kind, /)\n--\n\n"
+     "The number of the class of a kind; 0 where no kind has the number."},
     {"fault_code", library_fault_code, METH_O,
      "fault_code(kind, /)\n--\n\n"
      "The code of a fault's kind, as `SL008`; empty where no fault has the number."},

@@ -22,7 +22,7 @@ A `Document` is a text that stays lexed while it is edited. Its offsets count by
     (0, ['x', '=', "'a'", '\\n', ''])
 """
 
-from .kinds import FaultKind, Kind, Quotes
+from .kinds import FaultKind, Kind, KindClass, Quotes
 from .tokens import Change, Fault, StarlarkFault, Token, Value
 
 try:
@@ -42,6 +42,7 @@ __all__ = [
     "Fault",
     "FaultKind",
     "Kind",
+    "KindClass",
     "Quotes",
     "StarlarkFault",
     "Token",

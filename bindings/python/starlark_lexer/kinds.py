@@ -1,10 +1,35 @@
-"""The numbers of kinds, as in bindings/c/starlark_lex.h. They never change."""
+"""The numbers of kinds and of their classes, as in bindings/c/starlark_lex.h. They never change."""
 
 from enum import IntEnum
 
 
+class KindClass(IntEnum):
+    """What a kind is to a highlighter, an editor or a parser."""
+
+    COMMENT = 1
+    # `INDENT`, `DEDENT` and `NEWLINE`.
+    LAYOUT = 2
+    NAME = 3
+    # An integer or a float.
+    NUMBER = 4
+    # A string, bytes, or the quotes or the text of an f-string.
+    STRING = 5
+    KEYWORD = 6
+    # A symbol that computes, compares or assigns, or is `->`.
+    OPERATOR = 7
+    # `,`, `;`, `:`, `.`, `...`, or the `!` of an f-string's expression.
+    PUNCTUATION = 8
+    # Also the `{` and `}` of an f-string's expression.
+    BRACKET = 9
+
+
 class Kind(IntEnum):
     """The kind of a token."""
+
+    @property
+    def kind_class(self) -> KindClass:
+        """What the kind is to a highlighter, an editor or a parser."""
+        return _CLASSES[self]
 
     COMMENT = 1
     INDENT = 2
@@ -79,6 +104,83 @@ class Kind(IntEnum):
     CLOSING_SQUARE = 71
     CLOSING_CURLY = 72
     CLOSING_ROUND = 73
+
+
+_CLASSES = {
+    Kind.COMMENT: KindClass.COMMENT,
+    Kind.INDENT: KindClass.LAYOUT,
+    Kind.DEDENT: KindClass.LAYOUT,
+    Kind.NEWLINE: KindClass.LAYOUT,
+    Kind.IDENTIFIER: KindClass.NAME,
+    Kind.INT: KindClass.NUMBER,
+    Kind.FLOAT: KindClass.NUMBER,
+    Kind.STRING: KindClass.STRING,
+    Kind.BYTES: KindClass.STRING,
+    Kind.FSTRING_START: KindClass.STRING,
+    Kind.FSTRING_TEXT: KindClass.STRING,
+    Kind.FSTRING_EXPR_START: KindClass.BRACKET,
+    Kind.FSTRING_EXPR_END: KindClass.BRACKET,
+    Kind.FSTRING_BANG: KindClass.PUNCTUATION,
+    Kind.FSTRING_END: KindClass.STRING,
+    Kind.AND: KindClass.KEYWORD,
+    Kind.BREAK: KindClass.KEYWORD,
+    Kind.CONTINUE: KindClass.KEYWORD,
+    Kind.DEF: KindClass.KEYWORD,
+    Kind.ELIF: KindClass.KEYWORD,
+    Kind.ELSE: KindClass.KEYWORD,
+    Kind.FOR: KindClass.KEYWORD,
+    Kind.IF: KindClass.KEYWORD,
+    Kind.IN: KindClass.KEYWORD,
+    Kind.LAMBDA: KindClass.KEYWORD,
+    Kind.LOAD: KindClass.KEYWORD,
+    Kind.NOT: KindClass.KEYWORD,
+    Kind.OR: KindClass.KEYWORD,
+    Kind.PASS: KindClass.KEYWORD,
+    Kind.RETURN: KindClass.KEYWORD,
+    Kind.COMMA: KindClass.PUNCTUATION,
+    Kind.SEMICOLON: KindClass.PUNCTUATION,
+    Kind.COLON: KindClass.PUNCTUATION,
+    Kind.PLUS_EQUAL: KindClass.OPERATOR,
+    Kind.MINUS_EQUAL: KindClass.OPERATOR,
+    Kind.STAR_EQUAL: KindClass.OPERATOR,
+    Kind.SLASH_EQUAL: KindClass.OPERATOR,
+    Kind.SLASH_SLASH_EQUAL: KindClass.OPERATOR,
+    Kind.PERCENT_EQUAL: KindClass.OPERATOR,
+    Kind.EQUAL_EQUAL: KindClass.OPERATOR,
+    Kind.BANG_EQUAL: KindClass.OPERATOR,
+    Kind.LESS_EQUAL: KindClass.OPERATOR,
+    Kind.GREATER_EQUAL: KindClass.OPERATOR,
+    Kind.STAR_STAR: KindClass.OPERATOR,
+    Kind.MINUS_GREATER: KindClass.OPERATOR,
+    Kind.EQUAL: KindClass.OPERATOR,
+    Kind.LESS_THAN: KindClass.OPERATOR,
+    Kind.GREATER_THAN: KindClass.OPERATOR,
+    Kind.MINUS: KindClass.OPERATOR,
+    Kind.PLUS: KindClass.OPERATOR,
+    Kind.STAR: KindClass.OPERATOR,
+    Kind.PERCENT: KindClass.OPERATOR,
+    Kind.SLASH: KindClass.OPERATOR,
+    Kind.SLASH_SLASH: KindClass.OPERATOR,
+    Kind.DOT: KindClass.PUNCTUATION,
+    Kind.AMPERSAND: KindClass.OPERATOR,
+    Kind.PIPE: KindClass.OPERATOR,
+    Kind.CARET: KindClass.OPERATOR,
+    Kind.LESS_LESS: KindClass.OPERATOR,
+    Kind.GREATER_GREATER: KindClass.OPERATOR,
+    Kind.TILDE: KindClass.OPERATOR,
+    Kind.AMPERSAND_EQUAL: KindClass.OPERATOR,
+    Kind.PIPE_EQUAL: KindClass.OPERATOR,
+    Kind.CARET_EQUAL: KindClass.OPERATOR,
+    Kind.LESS_LESS_EQUAL: KindClass.OPERATOR,
+    Kind.GREATER_GREATER_EQUAL: KindClass.OPERATOR,
+    Kind.ELLIPSIS: KindClass.PUNCTUATION,
+    Kind.OPENING_SQUARE: KindClass.BRACKET,
+    Kind.OPENING_CURLY: KindClass.BRACKET,
+    Kind.OPENING_ROUND: KindClass.BRACKET,
+    Kind.CLOSING_SQUARE: KindClass.BRACKET,
+    Kind.CLOSING_CURLY: KindClass.BRACKET,
+    Kind.CLOSING_ROUND: KindClass.BRACKET,
+}
 
 
 class Quotes(IntEnum):

@@ -5,7 +5,7 @@ from __future__ import annotations
 from html import escape
 from typing import List, NamedTuple, Sequence, Tuple, Union
 
-from .kinds import Kind
+from .kinds import KindClass
 from .tokens import Fault, Token
 
 _STYLE = """
@@ -43,16 +43,16 @@ mark { background: none; border-bottom: 2px solid var(--fault); color: var(--fau
 mark:empty::after { content: "\\25B2"; font-size: .7em; }
 """
 
-_STRINGS = frozenset(
-    {
-        Kind.STRING,
-        Kind.BYTES,
-        Kind.FSTRING_START,
-        Kind.FSTRING_TEXT,
-        Kind.FSTRING_END,
-    }
-)
-
+# The names of the colours; a name and layout have none.
+_STYLES = {
+    KindClass.COMMENT: "comment",
+    KindClass.KEYWORD: "keyword",
+    KindClass.STRING: "string",
+    KindClass.NUMBER: "number",
+    KindClass.OPERATOR: "operator",
+    KindClass.PUNCTUATION: "operator",
+    KindClass.BRACKET: "operator",
+}
 
 
 class File(NamedTuple):
@@ -75,24 +75,9 @@ class File(NamedTuple):
 Part = Tuple[int, int, str, str]
 
 
-def _style_of(kind: Kind) -> str:
-    """The name of a kind's colour; empty for a name and for layout."""
-    if kind == Kind.COMMENT:
-        return "comment"
-    if kind in _STRINGS:
-        return "string"
-    if kind in (Kind.INT, Kind.FLOAT):
-        return "number"
-    if Kind.AND <= kind <= Kind.RETURN:
-        return "keyword"
-    if kind >= Kind.COMMA or Kind.FSTRING_EXPR_START <= kind <= Kind.FSTRING_BANG:
-        return "operator"
-    return ""
-
-
 def _parts(length: int, tokens: List[Token], faults: List[Fault]) -> List[Part]:
     """The parts of a text with a colour each, in order, without gaps."""
-    styles = ((*token.span, _style_of(token.type), "") for token in tokens)
+    styles = ((*token.span, _STYLES.get(token.type.kind_class, ""), "") for token in tokens)
     coloured: List[Part] = [part for part in styles if part[2]]
     coloured += [(*fault.span, "fault", fault.message) for fault in faults]
     parts: List[Part] = []

@@ -26,7 +26,7 @@ from pygments.token import (
 )
 
 # `pygmentize -x` runs this file outside of its package, where no relative import works.
-from starlark_lexer.kinds import FaultKind, Kind
+from starlark_lexer.kinds import FaultKind, Kind, KindClass
 from starlark_lexer.library import Columns, lex_columns
 from starlark_lexer.tokens import Fault
 
@@ -44,25 +44,29 @@ _FAULT = 0
 # How many tokens are taken from the columns at once.
 _AT_ONCE = 4096
 
-_KINDS: List[Tuple[TokenType, List[Kind]]] = [
-    (Keyword, [kind for kind in Kind if Kind.AND <= kind <= Kind.RETURN]),
-    (Operator, [kind for kind in Kind if kind >= Kind.COMMA]),
-    (Whitespace, [Kind.INDENT, Kind.DEDENT, Kind.NEWLINE]),
-    (Comment.Single, [Kind.COMMENT]),
-    (Number.Float, [Kind.FLOAT]),
-    (String, [Kind.STRING, Kind.BYTES, Kind.FSTRING_START, Kind.FSTRING_TEXT, Kind.FSTRING_END]),
-    (String.Interpol, [Kind.FSTRING_EXPR_START, Kind.FSTRING_EXPR_END, Kind.FSTRING_BANG]),
-    (Operator.Word, [Kind.AND, Kind.IN, Kind.NOT, Kind.OR]),
-    (Keyword.Namespace, [Kind.LOAD]),
-    (Punctuation, [Kind.COMMA, Kind.SEMICOLON, Kind.COLON, Kind.DOT, Kind.ELLIPSIS]),
-    (Punctuation, [kind for kind in Kind if kind >= Kind.OPENING_SQUARE]),
-]
+# The types of classes; None where the text tells it.
+_CLASSES = {
+    KindClass.COMMENT: Comment.Single,
+    KindClass.LAYOUT: Whitespace,
+    KindClass.NAME: None,
+    KindClass.NUMBER: None,
+    KindClass.STRING: String,
+    KindClass.KEYWORD: Keyword,
+    KindClass.OPERATOR: Operator,
+    KindClass.PUNCTUATION: Punctuation,
+    KindClass.BRACKET: Punctuation,
+}
 
-# The types of all kinds by number; None where the text tells it. A later row of the list counts more.
-_TYPES: List[TokenType] = [Error, *[None] * max(Kind)]
-for _type, _kinds in _KINDS:
-    for _kind in _kinds:
-        _TYPES[_kind] = _type
+# The types of kinds that have another one than their class.
+_KINDS = {
+    Kind.FLOAT: Number.Float,
+    **dict.fromkeys([Kind.FSTRING_EXPR_START, Kind.FSTRING_EXPR_END, Kind.FSTRING_BANG], String.Interpol),
+    **dict.fromkeys([Kind.AND, Kind.IN, Kind.NOT, Kind.OR], Operator.Word),
+    Kind.LOAD: Keyword.Namespace,
+}
+
+# The types of all kinds by number.
+_TYPES: List[TokenType] = [Error, *(_KINDS.get(kind, _CLASSES[kind.kind_class]) for kind in Kind)]
 
 # Members of `Kind` as plain numbers, which compare faster.
 _NAME, _DEF, _DOT, _EQUAL, _BANG = map(

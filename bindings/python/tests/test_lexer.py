@@ -13,9 +13,9 @@ from tempfile import TemporaryDirectory
 from time import process_time
 from typing import Iterator, List, Optional, Tuple
 
-from starlark_lexer import Fault, FaultKind, Kind, Quotes, StarlarkFault, Token, faults, lex, lex_all, tokenize
+from starlark_lexer import Fault, FaultKind, Kind, KindClass, Quotes, StarlarkFault, Token, faults, lex, lex_all, tokenize
 from starlark_lexer.__main__ import main
-from starlark_lexer.library import kind_name, place_of
+from starlark_lexer.library import kind_class, kind_name, place_of
 
 TOP = Path(__file__).resolve().parents[3]
 STORED = TOP / "crates/starlark_rows"
@@ -201,6 +201,26 @@ class Tokens(unittest.TestCase):
         for kind in Kind:
             self.assertEqual(kind_name(kind).upper(), kind.name.replace("_", ""))
         self.assertEqual([kind_name(0), kind_name(max(Kind) + 1), kind_name(2**32 - 1)], ["", "", ""])
+
+    def test_every_kind_has_the_class_of_the_library(self) -> None:
+        for kind in Kind:
+            self.assertEqual(kind_class(kind), kind.kind_class)
+        self.assertEqual([kind_class(number) for number in (0, max(Kind) + 1, 2**32 - 1, 2**64 - 1)], [0] * 4)
+
+    def test_classes_of_kinds(self) -> None:
+        classes = {
+            Kind.COMMENT: KindClass.COMMENT,
+            Kind.DEDENT: KindClass.LAYOUT,
+            Kind.IDENTIFIER: KindClass.NAME,
+            Kind.INT: KindClass.NUMBER,
+            Kind.FSTRING_TEXT: KindClass.STRING,
+            Kind.LAMBDA: KindClass.KEYWORD,
+            Kind.MINUS_GREATER: KindClass.OPERATOR,
+            Kind.FSTRING_BANG: KindClass.PUNCTUATION,
+            Kind.FSTRING_EXPR_END: KindClass.BRACKET,
+        }
+        self.assertEqual({kind: kind.kind_class for kind in classes}, classes)
+        self.assertEqual(set(classes.values()), set(KindClass))
 
 
 class Places(unittest.TestCase):

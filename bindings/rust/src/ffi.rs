@@ -225,6 +225,9 @@ extern "C" {
     fn starlark_kind_name(kind: u32, name: *mut u8, name_cap: usize) -> usize;
 
     #[cfg(test)]
+    fn starlark_kind_class(kind: u32) -> u32;
+
+    #[cfg(test)]
     fn starlark_fault_code(kind: u32, code: *mut u8, code_cap: usize) -> usize;
 
     #[cfg(test)]
@@ -669,6 +672,13 @@ pub(crate) fn kind_name(kind: u32) -> String {
     // SAFETY: `name` is writable for its length.
     let len = unsafe { starlark_kind_name(kind, name.as_mut_ptr(), name.len()) };
     String::from_utf8(name[..len].to_vec()).expect("a name is UTF-8")
+}
+
+/// The class of a kind, which is 0 where no kind has the number.
+#[cfg(test)]
+pub(crate) fn kind_class(kind: u32) -> u32 {
+    // SAFETY: the call takes a number.
+    unsafe { starlark_kind_class(kind) }
 }
 
 /// The code of a fault, which is empty where no fault has the number.

@@ -56,4 +56,4 @@ pub use crate::lexer::Lexer;
 pub use crate::places::{LineIndex, Place};
 pub use crate::recovering_lexer::RecoveringLexer;
 pub use crate::span::Span;
-pub use crate::token::{FStringQuote, Token, TokenInt, TokenKind};
+pub use crate::token::{FStringQuote, KindClass, Token, TokenInt, TokenKind};

@@ -162,8 +162,8 @@ mod tests {
     }
 
     #[test]
-    #[should_panic(expected = "the library has no kind 74")]
+    #[should_panic(expected = "the library has no kind 65535")]
     fn a_number_above_those_of_kinds() {
-        lexeme("a", 74);
+        lexeme("a", u16::MAX);
     }
 }

@@ -73,13 +73,40 @@ const LAYOUT: RangeInclusive<u16> = 2..=4;
 /// The least number from which on all are those of symbols.
 const FIRST_SYMBOL: u16 = 12;
 
-/// Declares `TokenKind` and `Token`, by the tokens with a value and those without, with their numbers
-/// in the library. The last list has all numbers from the least of them on.
+/// What a kind of token is to a highlighter, an editor or a parser.
+///
+/// As a number it is the class in the header of the library for C, which never changes.
+#[derive(Clone, Copy, Debug, PartialEq, Eq, Hash)]
+#[repr(u8)]
+#[non_exhaustive]
+pub enum KindClass {
+    /// A comment.
+    Comment = 1,
+    /// `Indent`, `Dedent` or `Newline`.
+    Layout = 2,
+    /// A name.
+    Name = 3,
+    /// An integer or a float literal.
+    Number = 4,
+    /// A string or bytes literal, or the quotes or the text of an f-string.
+    String = 5,
+    /// A keyword.
+    Keyword = 6,
+    /// A symbol that computes, compares or assigns, or is `->`.
+    Operator = 7,
+    /// `,`, `;`, `:`, `.`, `...`, or the `!` of an f-string's expression.
+    Punctuation = 8,
+    /// A bracket, also the `{` and `}` of an f-string's expression.
+    Bracket = 9,
+}
+
+/// Declares `TokenKind` and `Token`, by the tokens with a value and those without, with their classes
+/// and their numbers in the library. The last list has all numbers from the least of them on.
 macro_rules! tokens {
     (
-        with_value { $($(#[$value_doc:meta])* $value_name:ident($value:ty) = $value_number:literal,)* }
-        layout { $($(#[$layout_doc:meta])* $layout:ident = $layout_number:literal,)* }
-        symbols { $($(#[$doc:meta])* $name:ident = $number:literal,)* }
+        with_value { $($(#[$value_doc:meta])* $value_name:ident($value:ty): $value_class:ident = $value_number:literal,)* }
+        layout { $($(#[$layout_doc:meta])* $layout:ident: $layout_class:ident = $layout_number:literal,)* }
+        symbols { $($(#[$doc:meta])* $name:ident: $class:ident = $number:literal,)* }
     ) => {
         /// The kind of a token. Its variants have the names of those of [`Token`].
         ///
@@ -111,6 +138,21 @@ macro_rules! tokens {
                 $(TokenKind::$layout,)*
                 $(TokenKind::$name,)*
             ];
+
+            /// The class of the kind.
+            ///
+            /// ```
+            /// use starlark_lexer::{KindClass, TokenKind};
+            ///
+            /// assert_eq!(TokenKind::Comma.class(), KindClass::Punctuation);
+            /// ```
+            pub fn class(self) -> KindClass {
+                match self {
+                    $(TokenKind::$value_name => KindClass::$value_class,)*
+                    $(TokenKind::$layout => KindClass::$layout_class,)*
+                    $(TokenKind::$name => KindClass::$class,)*
+                }
+            }
 
             /// The kind with a number of the library.
             // Each kind is its number: so this is a test of the range.
@@ -210,155 +252,155 @@ macro_rules! tokens {
 tokens! {
     with_value {
         /// A comment: the text after `#`, without the line end.
-        Comment(Cow<'a, str>) = 1,
+        Comment(Cow<'a, str>): Comment = 1,
         /// A name.
-        Identifier(Cow<'a, str>) = 5,
+        Identifier(Cow<'a, str>): Name = 5,
         /// An integer literal.
-        Int(TokenInt<'a>) = 6,
+        Int(TokenInt<'a>): Number = 6,
         /// A float literal, as it is written. `str::parse` makes an `f64` of it.
-        Float(Cow<'a, str>) = 7,
+        Float(Cow<'a, str>): Number = 7,
         /// A string literal: the text with its escapes decoded.
-        String(Cow<'a, str>) = 8,
+        String(Cow<'a, str>): String = 8,
         /// A bytes literal: the bytes with their escapes decoded.
-        Bytes(Cow<'a, [u8]>) = 9,
+        Bytes(Cow<'a, [u8]>): String = 9,
         /// The opening of an f-string.
-        FStringStart(FStringQuote) = 10,
+        FStringStart(FStringQuote): String = 10,
         /// Text of an f-string outside of its expressions, with its escapes decoded.
-        FStringText(Cow<'a, str>) = 11,
+        FStringText(Cow<'a, str>): String = 11,
     }
     layout {
         /// The margin of a line opens a block.
-        Indent = 2,
+        Indent: Layout = 2,
         /// A block ends.
-        Dedent = 3,
+        Dedent: Layout = 3,
         /// A logical line ends, or a blank line.
-        Newline = 4,
+        Newline: Layout = 4,
     }
     symbols {
         /// The `{` of an f-string's expression.
-        FStringExprStart = 12,
+        FStringExprStart: Bracket = 12,
         /// The `}` of an f-string's expression.
-        FStringExprEnd = 13,
+        FStringExprEnd: Bracket = 13,
         /// The `!` before the conversion of an f-string's expression.
-        FStringBang = 14,
+        FStringBang: Punctuation = 14,
         /// The closing quotes of an f-string.
-        FStringEnd = 15,
+        FStringEnd: String = 15,
         /// The keyword `and`.
-        And = 16,
+        And: Keyword = 16,
         /// The keyword `break`.
-        Break = 17,
+        Break: Keyword = 17,
         /// The keyword `continue`.
-        Continue = 18,
+        Continue: Keyword = 18,
         /// The keyword `def`.
-        Def = 19,
+        Def: Keyword = 19,
         /// The keyword `elif`.
-        Elif = 20,
+        Elif: Keyword = 20,
         /// The keyword `else`.
-        Else = 21,
+        Else: Keyword = 21,
         /// The keyword `for`.
-        For = 22,
+        For: Keyword = 22,
         /// The keyword `if`.
-        If = 23,
+        If: Keyword = 23,
         /// The keyword `in`.
-        In = 24,
+        In: Keyword = 24,
         /// The keyword `lambda`.
-        Lambda = 25,
+        Lambda: Keyword = 25,
         /// The keyword `load`.
-        Load = 26,
+        Load: Keyword = 26,
         /// The keyword `not`.
-        Not = 27,
+        Not: Keyword = 27,
         /// The keyword `or`.
-        Or = 28,
+        Or: Keyword = 28,
         /// The keyword `pass`.
-        Pass = 29,
+        Pass: Keyword = 29,
         /// The keyword `return`.
-        Return = 30,
+        Return: Keyword = 30,
         /// `,`
-        Comma = 31,
+        Comma: Punctuation = 31,
         /// `;`
-        Semicolon = 32,
+        Semicolon: Punctuation = 32,
         /// `:`
-        Colon = 33,
+        Colon: Punctuation = 33,
         /// `+=`
-        PlusEqual = 34,
+        PlusEqual: Operator = 34,
         /// `-=`
-        MinusEqual = 35,
+        MinusEqual: Operator = 35,
         /// `*=`
-        StarEqual = 36,
+        StarEqual: Operator = 36,
         /// `/=`
-        SlashEqual = 37,
+        SlashEqual: Operator = 37,
         /// `//=`
-        SlashSlashEqual = 38,
+        SlashSlashEqual: Operator = 38,
         /// `%=`
-        PercentEqual = 39,
+        PercentEqual: Operator = 39,
         /// `==`
-        EqualEqual = 40,
+        EqualEqual: Operator = 40,
         /// `!=`
-        BangEqual = 41,
+        BangEqual: Operator = 41,
         /// `<=`
-        LessEqual = 42,
+        LessEqual: Operator = 42,
         /// `>=`
-        GreaterEqual = 43,
+        GreaterEqual: Operator = 43,
         /// `**`
-        StarStar = 44,
+        StarStar: Operator = 44,
         /// `->`
-        MinusGreater = 45,
+        MinusGreater: Operator = 45,
         /// `=`
-        Equal = 46,
+        Equal: Operator = 46,
         /// `<`
-        LessThan = 47,
+        LessThan: Operator = 47,
         /// `>`
-        GreaterThan = 48,
+        GreaterThan: Operator = 48,
         /// `-`
-        Minus = 49,
+        Minus: Operator = 49,
         /// `+`
-        Plus = 50,
+        Plus: Operator = 50,
         /// `*`
-        Star = 51,
+        Star: Operator = 51,
         /// `%`
-        Percent = 52,
+        Percent: Operator = 52,
         /// `/`
-        Slash = 53,
+        Slash: Operator = 53,
         /// `//`
-        SlashSlash = 54,
+        SlashSlash: Operator = 54,
         /// `.`
-        Dot = 55,
+        Dot: Punctuation = 55,
         /// `&`
-        Ampersand = 56,
+        Ampersand: Operator = 56,
         /// `|`
-        Pipe = 57,
+        Pipe: Operator = 57,
         /// `^`
-        Caret = 58,
+        Caret: Operator = 58,
         /// `<<`
-        LessLess = 59,
+        LessLess: Operator = 59,
         /// `>>`
-        GreaterGreater = 60,
+        GreaterGreater: Operator = 60,
         /// `~`
-        Tilde = 61,
+        Tilde: Operator = 61,
         /// `&=`
-        AmpersandEqual = 62,
+        AmpersandEqual: Operator = 62,
         /// `|=`
-        PipeEqual = 63,
+        PipeEqual: Operator = 63,
         /// `^=`
-        CaretEqual = 64,
+        CaretEqual: Operator = 64,
         /// `<<=`
-        LessLessEqual = 65,
+        LessLessEqual: Operator = 65,
         /// `>>=`
-        GreaterGreaterEqual = 66,
+        GreaterGreaterEqual: Operator = 66,
         /// `...`
-        Ellipsis = 67,
+        Ellipsis: Punctuation = 67,
         /// `[`
-        OpeningSquare = 68,
+        OpeningSquare: Bracket = 68,
         /// `{`
-        OpeningCurly = 69,
+        OpeningCurly: Bracket = 69,
         /// `(`
-        OpeningRound = 70,
+        OpeningRound: Bracket = 70,
         /// `]`
-        ClosingSquare = 71,
+        ClosingSquare: Bracket = 71,
         /// `}`
-        ClosingCurly = 72,
+        ClosingCurly: Bracket = 72,
         /// `)`
-        ClosingRound = 73,
+        ClosingRound: Bracket = 73,
     }
 }
 
@@ -409,18 +451,21 @@ fn quotes(number: u16) -> FStringQuote {
 #[cfg(test)]
 mod tests {
     use super::*;
-    use crate::ffi::kind_name;
+    use crate::ffi::{kind_class, kind_name};
 
     #[test]
-    fn numbers_have_the_names_of_the_library() {
+    fn numbers_have_the_names_and_classes_of_the_library() {
         for number in 0..u16::MAX {
             let library = kind_name(u32::from(number));
-            assert_eq!(library.is_empty(), !(1..=73).contains(&number), "{number}");
-            if library.is_empty() {
+            let class = kind_class(u32::from(number));
+            let is_kind = (1..=TokenKind::ALL.len()).contains(&usize::from(number));
+            assert_eq!((!library.is_empty(), class != 0), (is_kind, is_kind));
+            if !is_kind {
                 continue;
             }
             let kind = TokenKind::of_number(number);
             assert_eq!((kind.to_string(), kind as u16), (library, number));
+            assert_eq!(kind.class() as u32, class, "{kind}");
             assert!(TokenKind::ALL.contains(&kind));
             let head = LexemeHead {
                 kind: number,
@@ -432,8 +477,8 @@ mod tests {
     }
 
     #[test]
-    #[should_panic(expected = "the library has no kind 74")]
+    #[should_panic(expected = "the library has no kind 65535")]
     fn a_number_of_no_kind() {
-        TokenKind::of_number(74);
+        TokenKind::of_number(u16::MAX);
     }
 }

@@ -1,8 +1,8 @@
 //! What the crate's calls do beside the stored texts: values, faults, places, long texts.
 
 use starlark_lexer::{
-    Fault, FaultKind, Lexeme, Lexer, LineIndex, Place, RecoveringLexer, Token, TokenInt, TokenKind,
-    TooLong,
+    Fault, FaultKind, KindClass, Lexeme, Lexer, LineIndex, Place, RecoveringLexer, Token, TokenInt,
+    TokenKind, TooLong,
 };
 use std::borrow::Cow;
 use std::collections::hash_map::DefaultHasher;
@@ -28,6 +28,24 @@ fn string(text: &str) -> Cow<'_, str> {
 #[test]
 fn an_empty_text_has_a_newline() {
     assert_eq!(tokens(""), [Token::Newline]);
+}
+
+#[test]
+fn kinds_have_classes() {
+    let classes = [
+        (TokenKind::Comment, KindClass::Comment),
+        (TokenKind::Indent, KindClass::Layout),
+        (TokenKind::Identifier, KindClass::Name),
+        (TokenKind::Int, KindClass::Number),
+        (TokenKind::FStringText, KindClass::String),
+        (TokenKind::Or, KindClass::Keyword),
+        (TokenKind::Tilde, KindClass::Operator),
+        (TokenKind::Dot, KindClass::Punctuation),
+        (TokenKind::FStringExprStart, KindClass::Bracket),
+    ];
+    for (kind, class) in classes {
+        assert_eq!(kind.class(), class, "{kind}");
+    }
 }
 
 #[test]

@@ -87,6 +87,31 @@ test("a token has its kind, its spans and its value", () => {
     assert.equal(lex("x").tokens.at(-1), undefined);
 });
 
+test("a token has the class of its kind", () => {
+    const { tokens } = lex("if a >= 1.5: # b\n  f'{c!r}'\n");
+    const classes = [
+        ["If", "Keyword"],
+        ["Identifier", "Name"],
+        ["GreaterEqual", "Operator"],
+        ["Float", "Number"],
+        ["Colon", "Punctuation"],
+        ["Comment", "Comment"],
+        ["Newline", "Layout"],
+        ["Indent", "Layout"],
+        ["FStringStart", "String"],
+        ["FStringExprStart", "Bracket"],
+        ["Identifier", "Name"],
+        ["FStringBang", "Punctuation"],
+        ["Identifier", "Name"],
+        ["FStringExprEnd", "Bracket"],
+        ["FStringEnd", "String"],
+        ["Newline", "Layout"],
+        ["Newline", "Layout"],
+        ["Dedent", "Layout"],
+    ];
+    assert.deepEqual(Array.from(tokens, ({ kind, kindClass }) => [kind, kindClass]), classes);
+});
+
 test("values are decoded", () => {
     const text = "a 1 2147483647 2147483648 0xFFFFFFFFFF 0o7777777777777 0b1 1.5 'b\\n' b'\\xff' rf'''{x}''' # c";
     assert.deepEqual(valuesOf(lex(text)), [

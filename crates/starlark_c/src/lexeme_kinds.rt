@@ -18,7 +18,7 @@ macro_rules! number_of {
 /// arms.
 macro_rules! name_by_number {
     (($kind:ident, { $($arms:tt)* })
-    symbols { $($len:literal { $($bytes:tt $text:literal $symbol:ident = $number:literal,)* })* }
+    symbols { $($len:literal { $($bytes:tt $text:literal $symbol:ident = $number:literal $class:ident,)* })* }
     names { $($name_len:literal {
         $($name:literal $word:literal $keyword:ident = $keyword_number:literal,)*;
         $($reserved:literal $reserved_text:literal),*

@@ -1,5 +1,5 @@
 //! Calls of lexers and of lexed texts, which take memory. Where it is refused, a call has to leave what its caller had as it was,
-//! and only then is the failure returned. `scripts/refused_memory.py` refuses each request of each of these rows in
+//! and only then is the failure returned. `scripts/oracles/refused_memory.py` refuses each request of each of these rows in
 //! turn.
 
 use crate::lexed_text_rows;

@@ -1,5 +1,5 @@
 //! Calls that allocate. Where an allocation is refused, a call has to leave what its caller had as it was, and only then
-//! is the failure returned. `scripts/refused_memory.py` refuses each allocation of each of these rows in turn.
+//! is the failure returned. `scripts/oracles/refused_memory.py` refuses each allocation of each of these rows in turn.
 
 use crate::error_rows::{first, forms, kind, one_call, placed, shown_error, tab};
 use crate::refused::unchanged;

@@ -12,9 +12,9 @@ use starlark_grammar::terminals;
 /// A `match` of three bytes on the marks, longer ones first.
 macro_rules! longest_mark {
     (($first:ident, $second:ident, $third:ident) symbols {
-        1 { $([$lone:literal] $lone_text:literal $symbol:ident = $lone_number:literal,)* }
-        2 { $([$a:literal, $b:literal] $double_text:literal $double:ident = $double_number:literal,)* }
-        3 { $([$x:literal, $y:literal, $z:literal] $triple_text:literal $triple:ident = $triple_number:literal,)* }
+        1 { $([$lone:literal] $lone_text:literal $symbol:ident = $lone_number:literal $lone_class:ident,)* }
+        2 { $([$a:literal, $b:literal] $double_text:literal $double:ident = $double_number:literal $double_class:ident,)* }
+        3 { $([$x:literal, $y:literal, $z:literal] $triple_text:literal $triple:ident = $triple_number:literal $triple_class:ident,)* }
     } names $names:tt) => {
         match ($first, $second, $third) {
             $(($x, $y, $z) => (Class::Fixed(Terminal::$triple), 3),)*

@@ -1,0 +1,199 @@
+#!/bin/sh
+# Makes all files of a release in out/release, from a clone on which the gate passed.
+#
+#     scripts/releasing/release.sh
+#
+# .ci/run leaves what the gate said in out/gate.log, after a line with the commit. Without that,
+# with other sources than the commit's, or with a program that isn't proved, nothing is made. Then
+# there are
+#
+#     starlark-lex-VERSION-TARGET-linux.tar.gz        for C, with the programs
+#     libstarlark-lex0_.. libstarlark-lex-dev_.. starlark-tokens_...deb
+#     starlark_lexer-VERSION.crate                    for Rust, with the libraries of all targets
+#     starlark_lexer-VERSION-...whl, starlark_lexer-VERSION.tar.gz  for Python
+#     PROVED.txt                                      what was proved, and by what
+#     SHA256SUMS
+#
+# The targets are x86_64 and aarch64; the kit links no programs for the second. What tools are
+# missing for is named and left out. The same commit and tools make the same bytes: all times are
+# SOURCE_DATE_EPOCH, or the commit's.
+set -eu
+
+top=$(CDPATH='' cd -- "$(dirname -- "$0")/../.." && pwd)
+output="$top/out/release"
+gate="$top/out/gate.log"
+work=$(mktemp -d)
+trap 'rm -rf "$work"' EXIT
+trap 'exit 1' HUP INT TERM
+umask 022
+cd "$top"
+version=$(cat VERSION)
+SOURCE_DATE_EPOCH=${SOURCE_DATE_EPOCH:-$(git log -1 --format=%ct)}
+MAINTAINER=${MAINTAINER:-$(git log -1 --format='%an <%ae>')}
+export SOURCE_DATE_EPOCH MAINTAINER
+cross=aarch64-linux-gnu-
+
+fail() {
+    echo "release.sh: $1" >&2
+    exit 1
+}
+
+leave_out() {
+    echo "release.sh: left out: $1" >&2
+}
+
+has() {
+    command -v "$1" >/dev/null
+}
+
+# Refuses sources that the gate didn't pass.
+require_gate() {
+    [ -z "$(git status --porcelain)" ] || fail 'there are changes that no commit has'
+    [ -f "$gate" ] || fail 'there is no out/gate.log: let .ci/run pass first'
+    [ "$(head -n 1 "$gate")" = "commit $(git rev-parse HEAD)" ] ||
+        fail 'the gate passed another commit'
+    tail -n 1 "$gate" | grep -q '^[0-9]* passed, 0 failed' || fail "the gate didn't pass"
+}
+
+# Refuses a program that isn't there, is older than a source, has another version, or says that it
+# isn't proved.
+require_program() {
+    [ -x "$1" ] || fail "$1 isn't there: \`rt ci\` proves and builds it"
+    newer=$(find crates crates.txt HANDLES -name out -prune -o -type f -newer "$1" -print)
+    [ -z "$newer" ] || fail "$1 is older than a source"
+    said=$("$1" --version)
+    case $said in
+    *unproved*) fail "$1 is not proved" ;;
+    *" $version"*) ;;
+    *) fail "$1 is $said, and not $version" ;;
+    esac
+}
+
+# Copies the proved programs, and makes their man pages and completions.
+gather_programs() {
+    programs="$work/programs"
+    mkdir -p "$programs/bin"
+    for name in starlark_lex starlark_tokens; do
+        require_program "crates/$name/out/$name"
+        strip -o "$programs/bin/$name" "crates/$name/out/$name"
+    done
+    date=$(date -u -d "@$SOURCE_DATE_EPOCH" +%Y-%m-%d)
+    "$programs/bin/starlark_tokens" --help >"$work/help"
+    python3 release/program_files.py "$work/help" "$version" "$date" "$programs"
+    sed -e "s|@DATE@|$date|" -e "s|@VERSION@|$version|" release/starlark_lex.1 \
+        >"$programs/starlark_lex.1"
+}
+
+# Makes the libraries for C: of this machine, and of ARM where its tools are there.
+make_libraries() {
+    scripts/bindings.sh library >&2
+    mkdir -p "$work/x86_64"
+    cp -P out/bindings/libstarlark_lex.* out/bindings/starlark_lex.h "$work/x86_64"
+    targets=x86_64
+    if has "${cross}gcc" && has "${cross}objcopy"; then
+        triple=aarch64-unknown-linux-gnu
+        scripts/bindings/build_archive.py --target $triple >&2
+        "${cross}gcc" -std=c11 -O2 -fPIC -c bindings/c/allocator.c -o "$work/allocator.o"
+        scripts/bindings/link_library.sh "$cross" "crates/starlark_c/out/$triple/libstarlark_c.a" \
+            "$work/allocator.o" "$work/aarch64"
+        targets='x86_64 aarch64'
+    else
+        leave_out "all for ARM: there is no ${cross}gcc"
+    fi
+}
+
+# Packs a folder, all with one time and one owner.
+pack() {
+    find "$1/$2" -exec touch -h -d "@$SOURCE_DATE_EPOCH" {} +
+    tar -C "$1" --sort=name --owner=0 --group=0 --numeric-owner --format=gnu -cf - "$2" |
+        gzip -9n >"$output/$2.tar.gz"
+}
+
+# Makes the archive of a target for C.
+make_archive() {
+    name="starlark-lex-$version-$1-linux"
+    release/install_files.sh "$work/$1" "$2" "$work/archives/$name" lib share/doc/starlark-lex
+    cp "$output/PROVED.txt" "$work/archives/$name/share/doc/starlark-lex"
+    pack "$work/archives" "$name"
+}
+
+# Makes the Debian packages of a target.
+make_debs() {
+    case $1 in
+    x86_64) arch=amd64 ;;
+    aarch64) arch=arm64 ;;
+    esac
+    release/make_debs.sh "$arch" "$1-linux-gnu" "$work/$1" "$2" "$output"
+}
+
+# Makes the crate: the folder of the repository with the libraries in it.
+make_crate() {
+    has cargo || {
+        leave_out 'the crate: there is no cargo'
+        return 0
+    }
+    cp -R bindings/rust "$work/crate"
+    rm -rf "$work/crate/target" "$work/crate/Cargo.lock"
+    cp LICENSE CHANGELOG.md "$work/crate"
+    for target in $targets; do
+        mkdir -p "$work/crate/lib/$target-unknown-linux-gnu"
+        cp "$work/$target/libstarlark_lex.a" "$work/crate/lib/$target-unknown-linux-gnu"
+    done
+    find "$work/crate" -exec touch -h -d "@$SOURCE_DATE_EPOCH" {} +
+    (cd "$work/crate" && CARGO_TARGET_DIR="$work/cargo" \
+        cargo package --offline --no-verify --quiet)
+    cp "$work/cargo/package/starlark_lexer-$version.crate" "$output"
+}
+
+# Makes the wheels and the sdist, where some python3 has what makes them.
+make_wheels() {
+    status=0
+    release/make_wheels.sh "$work" "$targets" "$output" || status=$?
+    case $status in
+    0) ;;
+    2) leave_out 'the wheels' ;;
+    *) fail 'the wheels are not made' ;;
+    esac
+}
+
+# Says what was proved, and by what.
+write_proof() {
+    {
+        echo "starlark_lex $version"
+        head -n 1 "$gate"
+        echo "kit: $(rt version)"
+        echo
+        echo 'The last lines of the gate, rt ci:'
+        tail -n 3 "$gate" | sed 's/^/    /'
+        echo
+        echo 'The kit compiled the proved calls and programs. Not proved, and compiled by others,'
+        echo 'are bindings/c/empty_buffers.c, and for ARM bindings/c/allocator.c:'
+        for tool in "${CC:-cc}" "${cross}gcc"; do
+            if has "$tool"; then echo "    $("$tool" --version | head -n 1)"; fi
+        done
+    } >"$output/PROVED.txt"
+}
+
+rm -rf "$output"
+if ! has "${CC:-cc}" || ! has objcopy; then
+    leave_out 'the release: there is no C compiler with its binary tools'
+    exit 0
+fi
+require_gate
+mkdir -p "$output"
+write_proof
+gather_programs
+make_libraries
+for target in $targets; do
+    of_target=none
+    release/needed_glibc.sh 2.17 "$work/$target/libstarlark_lex.so" >&2
+    [ "$target" != x86_64 ] || of_target=$programs
+    make_archive "$target" "$of_target"
+    if has dpkg-deb; then make_debs "$target" "$of_target"; fi
+done
+has dpkg-deb || leave_out 'the Debian packages: there is no dpkg-deb'
+make_crate
+make_wheels
+if [ -x bindings/web/release.sh ]; then bindings/web/release.sh "$output"; fi
+(cd "$output" && LC_ALL=C sha256sum -- * >"$work/sums" && mv "$work/sums" SHA256SUMS)
+echo "release $version: $(wc -l <"$output/SHA256SUMS") files in out/release"

@@ -1,0 +1,254 @@
+#!/bin/sh
+# Tries each file of out/release as one who has nothing but it: neither the kit nor this repository.
+#
+#     scripts/releasing/try_release.sh
+#
+# Each way prints the tokens of one text, which are compared with what the released starlark_lex
+# prints of it. A line of the table says what was tried, how that ended, and how many seconds it
+# took. Where a tool is missing, the line names it. The exit status is 1 where something failed.
+
+# The trials are called by their names:
+# shellcheck disable=SC2317
+set -u
+
+top=$(CDPATH='' cd -- "$(dirname -- "$0")/../.." && pwd)
+release="$top/out/release"
+version=$(cat "$top/VERSION")
+work=$(mktemp -d)
+trap 'rm -rf "$work"' EXIT
+trap 'exit 1' HUP INT TERM
+sample="$work/sample.star"
+failed=0
+
+# Runs a command with a path that has neither the kit nor the repository.
+clean() {
+    env -i PATH="$path" HOME="$work" LC_ALL=C.UTF-8 TMPDIR="$work" "$@"
+}
+
+# The bytes and the kind of each token in small letters, of lines with a place between or without.
+spans_and_kinds() {
+    LC_ALL=C sed -n -E 's/^([0-9]+-[0-9]+) ([0-9]+:[-0-9:]+ )?([A-Za-z_]+).*/\1 \3/p' |
+        tr -d _ | tr '[:upper:]' '[:lower:]'
+}
+
+# Runs a trial in a folder of its own, and compares what it prints with the right tokens.
+try() {
+    name=$1
+    shift
+    begun=$(date +%s)
+    folder="$work/$(echo "$name" | tr -c 'a-zA-Z0-9\n' _)"
+    mkdir -p "$folder"
+    (cd "$folder" && "$@") >"$work/printed" 2>"$work/said"
+    status=$?
+    seconds=$(($(date +%s) - begun))
+    if [ $status = 3 ]; then
+        printf '%-44s left out: %s\n' "$name" "$(cat "$work/said")"
+    elif [ $status = 0 ] && spans_and_kinds <"$work/printed" | cmp -s - "$work/right"; then
+        printf '%-44s %s tokens, %s s\n' "$name" "$(wc -l <"$work/right")" $seconds
+    else
+        printf '%-44s failed\n' "$name"
+        cat "$work/said" "$work/printed" | head -n 20 >&2
+        failed=1
+    fi
+}
+
+# Ends a trial where a program is missing.
+needs() {
+    for tool do
+        clean sh -c "command -v $tool" >/dev/null || {
+            echo "there is no $tool" >&2
+            exit 3
+        }
+    done
+}
+
+# Unpacks the archive of a target into the folder of the trial, whose name is then in `archive`.
+unpack() {
+    archive="$PWD/starlark-lex-$version-$1-linux"
+    [ -f "$release/starlark-lex-$version-$1-linux.tar.gz" ] || {
+        echo "there is no archive for $1" >&2
+        exit 3
+    }
+    tar -xzf "$release/starlark-lex-$version-$1-linux.tar.gz"
+}
+
+try_program() {
+    unpack x86_64
+    clean "$archive/bin/starlark_lex" <"$sample"
+}
+
+# Its lines have kinds, and lines and columns in place of bytes.
+try_program_over_files() {
+    unpack x86_64
+    clean "$archive/bin/starlark_tokens" "$sample" >lines || return 1
+    cut -d ' ' -f 1 "$work/right" >spans
+    cut -d ' ' -f 2 lines | paste -d ' ' spans -
+}
+
+try_pkg_config() {
+    needs cc pkg-config
+    unpack x86_64
+    flags=$(PKG_CONFIG_PATH="$archive/lib/pkgconfig" pkg-config --cflags --libs starlark_lex)
+    # shellcheck disable=SC2086
+    clean cc "$archive/share/doc/starlark-lex/examples/print_tokens.c" $flags -o print_tokens
+    clean env LD_LIBRARY_PATH="$archive/lib" ./print_tokens <"$sample"
+}
+
+# Builds by CMake: a program in C++ over the shared library, and one in C over the static one.
+build_by_cmake() {
+    needs cmake make cc c++
+    unpack x86_64
+    mkdir source
+    sed "s/@VERSION@/$version/" "$top/release/try/CMakeLists.txt" >source/CMakeLists.txt
+    cp "$top/release/try/tokens.cpp" source
+    cp "$archive/share/doc/starlark-lex/examples/print_tokens.c" source
+    clean cmake -S source -B build -DCMAKE_PREFIX_PATH="$archive" >&2
+    clean cmake --build build >&2
+}
+
+try_cmake_shared() {
+    build_by_cmake
+    clean build/shared <"$sample"
+}
+
+try_cmake_static() {
+    build_by_cmake
+    clean build/static <"$sample"
+}
+
+# Makes a crate of its own over the released one, by a cargo and a rustc.
+try_crate() {
+    needs cargo cc
+    crate="$release/starlark_lexer-$version.crate"
+    [ -f "$crate" ] || { echo 'there is no crate' >&2 && exit 3; }
+    tar -xzf "$crate"
+    mkdir -p tool/src
+    cp "$top/release/try/main.rs" tool/src
+    cat >tool/Cargo.toml <<END
+[package]
+name = "tool"
+version = "0.1.0"
+edition = "2021"
+
+[dependencies]
+starlark_lexer = { path = "../starlark_lexer-$version" }
+END
+    cd tool || exit 1
+    clean cargo run --offline --quiet <"$sample"
+}
+
+# Installs the wheel into a new virtual environment, in which nothing else is.
+install_wheel() {
+    needs python3
+    ls "$release"/starlark_lexer-"$version"-*x86_64.whl >/dev/null 2>&1 ||
+        { echo 'there is no wheel' >&2 && exit 3; }
+    clean python3 -m venv venv || { echo 'python3 makes no virtual environment' >&2 && exit 3; }
+    clean venv/bin/pip install --quiet --no-index --find-links "$release" starlark_lexer >&2
+}
+
+# Prints the tokens by the package of a virtual environment, which is also run as a program.
+print_by_python() {
+    clean venv/bin/python -m starlark_lexer "$sample" >&2 || return 1
+    clean venv/bin/python "$top/release/try/tokens.py" <"$sample"
+}
+
+try_wheel() {
+    install_wheel
+    print_by_python
+}
+
+# Builds the sdist over the released archive for C, without the network.
+try_sdist() {
+    needs cc
+    for name in "${PYTHON:-python3}" /usr/bin/python3; do
+        "$name" -c 'import setuptools, wheel' 2>/dev/null && python=$name && break
+    done
+    [ -n "${python:-}" ] || { echo 'no python3 has setuptools and wheel' >&2 && exit 3; }
+    unpack x86_64
+    clean "$python" -m venv --system-site-packages venv ||
+        { echo 'python3 makes no virtual environment' >&2 && exit 3; }
+    clean env STARLARK_LEX_DIR="$archive" venv/bin/pip install --quiet --no-index \
+        --no-build-isolation --no-deps "$release/starlark_lexer-$version.tar.gz" >&2
+    print_by_python
+}
+
+# Installs the Debian packages into a root of their own.
+install_debs() {
+    needs dpkg
+    ls "$release"/*_amd64.deb >/dev/null 2>&1 || { echo 'there are no packages' >&2 && exit 3; }
+    mkdir -p root/var/lib/dpkg/updates root/var/lib/dpkg/info
+    : >root/var/lib/dpkg/status
+    dpkg --root="$PWD/root" --log=/dev/null --force-depends --force-not-root \
+        --force-script-chrootless --install "$release"/*_amd64.deb >&2
+}
+
+try_deb_program() {
+    install_debs
+    clean root/usr/bin/starlark_lex <"$sample"
+}
+
+try_deb_library() {
+    needs cc pkg-config
+    install_debs
+    lib="$PWD/root/usr/lib/x86_64-linux-gnu"
+    flags=$(PKG_CONFIG_PATH="$lib/pkgconfig" pkg-config --cflags --libs starlark_lex)
+    example=root/usr/share/doc/libstarlark-lex-dev/examples/print_tokens.c
+    # shellcheck disable=SC2086
+    clean cc $example $flags -o print_tokens
+    clean env LD_LIBRARY_PATH="$lib" ./print_tokens <"$sample"
+}
+
+try_arm() {
+    needs aarch64-linux-gnu-gcc qemu-aarch64
+    unpack aarch64
+    example="$archive/share/doc/starlark-lex/examples/print_tokens.c"
+    clean aarch64-linux-gnu-gcc -I "$archive/include" "$example" \
+        "$archive/lib/libstarlark_lex$1" -o print_tokens
+    clean env QEMU_LD_PREFIX=/usr/aarch64-linux-gnu LD_LIBRARY_PATH="$archive/lib" \
+        qemu-aarch64 -E LD_LIBRARY_PATH="$archive/lib" ./print_tokens <"$sample"
+}
+
+# Says what lintian finds in the packages; errors fail.
+lint_debs() {
+    clean sh -c 'command -v lintian' >/dev/null || {
+        printf '%-44s left out: there is no lintian\n' 'the Debian packages, by lintian'
+        return 0
+    }
+    if clean lintian --fail-on error --allow-root "$release"/*.deb >"$work/said" 2>&1; then
+        printf '%-44s no errors, %s warnings\n' 'the Debian packages, by lintian' \
+            "$(grep -c '^W:' "$work/said")"
+    else
+        printf '%-44s failed\n' 'the Debian packages, by lintian'
+        cat "$work/said" >&2
+        failed=1
+    fi
+}
+
+# A compiler for Rust and a python3 may be in folders of their own.
+path=/usr/bin:/bin
+sysroot=$(rustc --print sysroot 2>/dev/null) && path="$sysroot/bin:$path"
+home=$(python3 -c 'import sys; print(sys.exec_prefix)' 2>/dev/null) && path="$home/bin:$path"
+if clean sh -c 'command -v rt' >/dev/null; then
+    echo "try_release.sh: the kit's rt is on the path" >&2
+    exit 1
+fi
+[ -f "$release/SHA256SUMS" ] || { echo 'left out: there is no release' && exit 0; }
+(cd "$release" && sha256sum --check --quiet SHA256SUMS) || exit 1
+cp "$top/release/try/sample.star" "$sample"
+mkdir "$work/first"
+(cd "$work/first" && try_program) | spans_and_kinds >"$work/right"
+[ -s "$work/right" ] || { echo 'try_release.sh: starlark_lex prints nothing' >&2 && exit 1; }
+try 'starlark_lex of the archive' try_program
+try 'starlark_tokens of the archive' try_program_over_files
+try 'C by pkg-config, shared' try_pkg_config
+try 'C by CMake, static' try_cmake_static
+try 'C++ by CMake, shared' try_cmake_shared
+try 'Rust, a crate of its own, offline' try_crate
+try 'Python, the wheel in a virtual environment' try_wheel
+try 'Python, the sdist over the archive' try_sdist
+try 'Debian, starlark_lex in a root of its own' try_deb_program
+try 'Debian, C by pkg-config in that root' try_deb_library
+try 'ARM, C, static, under qemu' try_arm .a
+try 'ARM, C, shared, under qemu' try_arm .so
+lint_debs
+exit $failed
