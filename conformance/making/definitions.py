@@ -328,10 +328,13 @@ def rows_of_the_code():
             group = rows[opened[1]]
         elif opened:
             group.append([])
-        for word, kind in re.findall(r'"([^"]+)" (\w+) = \d+,', line):
+        for word, kind in re.findall(r'"([^"]+)" (\w+) = \d+[ \w]*,', line):
             group[-1].append((tuple(word.encode()), ("Fixed", (kind,))))
         for word in re.findall(r'[;,] b"\w+" "(\w+)"', line):
             group[-1].append((tuple(word.encode()), ("Reserved",)))
+    wanted = [int(count) for count in re.findall(r"(?m)^    \[\(\[u8; \d\], Class\); (\d+)\],$", text)]
+    if [len(rows_of_length) for group in rows.values() for rows_of_length in group] != wanted:
+        raise ValueError(f"{WORDS_OF_THE_CODE.name} has rows that aren't read")
     return [tuple(map(tuple, group)) for group in rows.values()]
 
 

@@ -1,22 +1,27 @@
 #!/usr/bin/env python3
-"""Runs the suite with lexers that are here, and writes how they differ, each difference with a reason.
+"""Runs the suite with this lexer and the others that are here, and compares how these differ with what is stored.
 
-    reports.py --starlark-tokens PROGRAM --starlark-rows PROGRAM --starlark-go PROGRAM [--write]
+    reports.py [--write] [--starlark-tokens PROGRAM --starlark-rows PROGRAM]
 
 It fails where this lexer differs, where another differs without a reason of REASONS, and where what is stored isn't what is
 found: the lists of the folder expected, of which cases.py makes the field `differs`, and the table between the markers of
-docs/use/compatible.md. With --write it stores them.
+docs/use/compatible.md. With --write it stores them. The programs are the proved ones unless others are given. A lexer that
+isn't here is left out, and then the table too.
 """
 
 import argparse
 import re
+import subprocess
 import sys
+import tempfile
 from pathlib import Path
 
 from answers import text_of
+from shared.programs import built
 
 HERE = Path(__file__).resolve().parent
 SUITE = HERE.parent
+ADAPTERS = SUITE / "adapters"
 PAGE = SUITE.parent / "docs/use/compatible.md"
 MARKERS = "<!-- the table of conformance/making/reports.py -->\n", "<!-- its end -->\n"
 sys.path.append(str(SUITE))
@@ -121,24 +126,20 @@ def expected_list(differences, lexer):
     return "".join(lines)
 
 
-TAGS = ("words", "numbers", "strings", "bytes", "fstrings", "layout", "neighbours", "recovering", "edits")
+TAGS = ("words", "numbers", "strings", "bytes", "fstrings", "layout", "neighbours", "edits", "recovering")
 
 
-def cell(results, tag):
-    """What a lexer did with the cases of a tag: how many it answered as wanted, of how many."""
-    of_tag = [result for result in results if tag is None or result.case["tags"][0] == tag]
-    asked = [result for result in of_tag if result.state != "skipped"]
+def cell(results, tag=None):
+    """What a lexer did with the cases of a tag, or with all: how many it answered as wanted, of how many that it is asked."""
+    asked = [result for result in results if tag in (None, result.case["tags"][0]) and result.state != "skipped"]
     same = sum(1 for result in asked if result.state == "same")
-    if not asked:
-        return "-"
-    return str(same) if same == len(of_tag) else f"{same} of {len(asked)}"
+    return "" if not asked else str(same) if same == len(asked) else f"{same}/{len(asked)}"
 
 
 def table(found):
     """The table of the page: for each lexer, of the cases that it is asked those that it answers alike."""
-    rows = [["Cases", *found], ["---"] * (1 + len(found))]
-    for tag in (*TAGS, None):
-        rows.append([tag or "all", *(cell(results, tag) for _, results in found.values())])
+    rows = [["", *TAGS, "all"], ["---"] + ["---:"] * (1 + len(TAGS))]
+    rows += [[lexer, *(cell(results, tag) for tag in TAGS), cell(results)] for lexer, (_, results) in found.items()]
     return "".join("| " + " | ".join(row) + " |\n" for row in rows)
 
 
@@ -160,34 +161,56 @@ def stored(path, content, is_written):
     return True
 
 
+def go_command(folder):
+    """The command of the adapter for starlark-go, which is built in a folder; none where what it needs is missing."""
+    output = Path(folder) / "starlark_go"
+    ran = subprocess.run([ADAPTERS / "starlark_go/build.sh", output], check=False)
+    return [output] if ran.returncode == 0 else None
+
+
+def commands(options, folder):
+    """The command of each lexer, none for one that isn't here."""
+    programs = options.starlark_tokens or built("starlark_tokens"), options.starlark_rows or built("starlark_rows")
+    is_python = sys.version_info[:2] == (3, 11)
+    return {
+        "this lexer": [sys.executable, ADAPTERS / "starlark_tokens.py", *programs],
+        "starlark-go": go_command(folder),
+        "CPython 3.11": [sys.executable, ADAPTERS / "cpython.py"] if is_python else None,
+    }
+
+
+def has_reasons(lexer, reasons, missing):
+    """Whether each difference of a lexer has a reason, and each reason a difference."""
+    for line in missing:
+        print(f"{lexer} differs without a reason: {line}")
+    idle = [words for words, _ in REASONS.get(lexer, []) if words not in reasons.values()]
+    for words in idle:
+        print(f"{lexer} no more differs so: {words}")
+    return not missing and not idle
+
+
 def main():
     parser = argparse.ArgumentParser()
-    for name in ("starlark-tokens", "starlark-rows", "starlark-go"):
-        parser.add_argument(f"--{name}", required=True)
     parser.add_argument("--write", action="store_true")
+    parser.add_argument("--starlark-tokens", metavar="PROGRAM")
+    parser.add_argument("--starlark-rows", metavar="PROGRAM")
     options = parser.parse_args()
-    cases, adapters = read_cases([SUITE / "cases"]), SUITE / "adapters"
-    commands = {
-        "this lexer": [sys.executable, adapters / "starlark_tokens.py", options.starlark_tokens, options.starlark_rows],
-        "starlark-go": [options.starlark_go],
-        "CPython 3.11": [sys.executable, adapters / "cpython.py"],
-    }
-    found, is_right = {}, True
-    for lexer, command in commands.items():
-        found[lexer] = run_all(list(map(str, command)), cases)
-        reasons, missing = reasons_of(lexer, found[lexer][1])
-        for line in missing:
-            print(f"{lexer} differs without a reason: {line}")
-        is_right = is_right and not missing
-        for words, _ in REASONS.get(lexer, []):
-            if words not in reasons.values():
-                print(f"{lexer} no more differs so: {words}")
-                is_right = False
-        if lexer in REASONS:
-            path = SUITE / "expected" / (lexer.lower().replace(" ", "-") + ".txt")
-            is_right &= stored(path, expected_list(reasons, lexer), options.write)
-    page = PAGE.read_text(encoding="utf-8")
-    is_right &= stored(PAGE, page_with(page, table(found)), options.write)
+    cases, found, is_right = read_cases([SUITE / "cases"]), {}, True
+    with tempfile.TemporaryDirectory() as folder:
+        for lexer, command in commands(options, folder).items():
+            if command is None:
+                print(f"{lexer} was left out: it is not here", file=sys.stderr)
+                continue
+            found[lexer] = run_all(list(map(str, command)), cases)
+            reasons, missing = reasons_of(lexer, found[lexer][1])
+            is_right &= has_reasons(lexer, reasons, missing)
+            print(f"{lexer}: {cell(found[lexer][1])} cases alike")
+            if lexer in REASONS:
+                path = SUITE / "expected" / (lexer.lower().replace(" ", "-") + ".txt")
+                is_right &= stored(path, expected_list(reasons, lexer), options.write)
+    if len(found) == 1 + len(REASONS):
+        page = PAGE.read_text(encoding="utf-8")
+        is_right &= stored(PAGE, page_with(page, table(found)), options.write)
     return 0 if is_right else 1
 
 

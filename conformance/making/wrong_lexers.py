@@ -79,7 +79,7 @@ def main():
         print(f"the plain lexer fails: {name}")
     for mistake in MISTAKES:
         names = failures(changed_lexer(mistake.old, mistake.new).outcome, cases)
-        print(f"{mistake.words}: {len(names)} cases fail, as `{mistake.case}`")
+        print(f"{mistake.words}: {len(names)} cases fail, one of them \"{mistake.case}\"")
         if mistake.case not in names:
             print("    but that one doesn't")
             failed.add(mistake.case)
