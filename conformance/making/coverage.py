@@ -101,20 +101,21 @@ def measured(cases):
 
 # -- Changed definitions
 
-LONGEST_CHANGED = 40
+LONGEST_CHANGED = 24
 SHARED = {}  # the cases, and the texts that reach each case of the definitions, for the processes that are started later
 
 
-def reached_alone(cases):
-    """Of each case of the definitions, the numbers of the texts that reach it when they are read by themselves."""
+def reaching(cases):
+    """Of each case of the definitions, the numbers of the texts that reach it; all texts for those that classes are kept of."""
     definitions, found = Definitions(), {}
     for number, case in cases:
         definitions.reached.clear()
-        definitions.classes.clear()
         definitions.outcome(text_of(case))
         for reached in definitions.reached:
             found.setdefault(reached, []).append(number)
-    return found
+    numbers = [number for number, _ in cases]
+    of_words = [number for number, words in enumerate(definitions.cases) if words.startswith("Words:")]
+    return {**found, **dict.fromkeys(of_words, numbers)}
 
 
 def shows(definitions, case):
@@ -139,7 +140,7 @@ def try_changes(cases):
     cases = {number: case for number, case in cases if len(text_of(case)) <= LONGEST_CHANGED}
     reached = {}
     with concurrent.futures.ProcessPoolExecutor() as pool:
-        for found in pool.map(reached_alone, shares(list(cases.items()))):
+        for found in pool.map(reaching, shares(list(cases.items()))):
             for case, numbers in found.items():
                 reached.setdefault(case, []).extend(numbers)
     SHARED.update(cases=cases, reached=reached)

@@ -10,6 +10,7 @@ tables. What they take from the standard library is in NATIVE. A *case* of a def
 `Definitions().outcome(text)` is the outcome by the definitions; the cases that it reached are added to `reached`.
 """
 
+import functools
 import re
 import sys
 from collections import namedtuple
@@ -204,6 +205,7 @@ def definitions_in(head, lines, is_signature):
     return found
 
 
+@functools.lru_cache(maxsize=None)
 def module_definitions(name):
     """The definitions of a module, and its signatures left out."""
     text = re.sub(r"(?m)^\s*--.*$", "", (SPECS / f"{name}.antt").read_text(encoding="utf-8"))
