@@ -3,7 +3,7 @@
 
     runner.py [OPTIONS] -- PROGRAM [ARGUMENT..]
 
---cases FILE      take the cases of a file or of a folder's .jsonl files; .jsonl.gz is read too (the folder cases beside this script)
+--cases FILE      take the cases of a file or of a folder's .jsonl files; .jsonl.gz is read too (the folder cases)
 --tag TAG         only cases with this tag; may be given more than once
 --without TAG     no cases with this tag; may be given more than once
 --name TEXT       only cases whose name has this text
@@ -13,8 +13,9 @@
 --show N          print at most so many cases that differ (10)
 --seconds N       an answer may take so long (30)
 
-The program reads requests, one a line, and writes answers, one a line; README.md has their form. The exit status is 0 where
-all is as expected, 1 where a case differs that isn't expected to, or doesn't where it is, and 2 where nothing can be run.
+The program reads requests, one a line, and writes answers, one a line; README.md has their form. The exit status is 0
+where all is as expected, 1 where a case differs that isn't expected to, or doesn't where it is, and 2 where nothing can
+be run.
 """
 
 import argparse
@@ -351,7 +352,7 @@ def write_junit(path, head, results):
 def visible(text):
     """A text without the characters that XML hasn't."""
     return "".join(
-        c if c in "\t\n" or ("\x20" <= c < "\ud800") or ("\ue000" <= c and c not in "\ufffe\uffff") else f"\\u{ord(c):04x}"
+        c if c in "\t\n" or "\x20" <= c < "\ud800" or "\ue000" <= c and c not in "\ufffe\uffff" else f"\\u{ord(c):04x}"
         for c in text
     )
 

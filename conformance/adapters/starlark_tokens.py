@@ -14,16 +14,17 @@ import sys
 import tempfile
 from pathlib import Path
 
+SYMBOLS = dict(zip(
+    "Comma Semicolon Colon PlusEqual MinusEqual StarEqual SlashEqual SlashSlashEqual PercentEqual EqualEqual BangEqual "
+    "LessEqual GreaterEqual StarStar MinusGreater Equal LessThan GreaterThan Minus Plus Star Percent Slash SlashSlash "
+    "Dot Ampersand Pipe Caret LessLess GreaterGreater Tilde AmpersandEqual PipeEqual CaretEqual LessLessEqual "
+    "GreaterGreaterEqual Ellipsis OpeningSquare OpeningCurly OpeningRound ClosingSquare ClosingCurly ClosingRound".split(),
+    ", ; : += -= *= /= //= %= == != <= >= ** -> = < > - + * % / // . & | ^ << >> ~ &= |= ^= <<= >>= ... [ { ( ] } )".split(),
+))
 WORDS = {
-    "Identifier": "name", "Comma": ",", "Semicolon": ";", "Colon": ":", "PlusEqual": "+=", "MinusEqual": "-=", "StarEqual": "*=",
-    "SlashEqual": "/=", "SlashSlashEqual": "//=", "PercentEqual": "%=", "EqualEqual": "==", "BangEqual": "!=", "LessEqual": "<=",
-    "GreaterEqual": ">=", "StarStar": "**", "MinusGreater": "->", "Equal": "=", "LessThan": "<", "GreaterThan": ">", "Minus": "-",
-    "Plus": "+", "Star": "*", "Percent": "%", "Slash": "/", "SlashSlash": "//", "Dot": ".", "Ampersand": "&", "Pipe": "|",
-    "Caret": "^", "LessLess": "<<", "GreaterGreater": ">>", "Tilde": "~", "AmpersandEqual": "&=", "PipeEqual": "|=",
-    "CaretEqual": "^=", "LessLessEqual": "<<=", "GreaterGreaterEqual": ">>=", "Ellipsis": "...", "OpeningSquare": "[",
-    "OpeningCurly": "{", "OpeningRound": "(", "ClosingSquare": "]", "ClosingCurly": "}", "ClosingRound": ")",
-    "FStringStart": "fstring_start", "FStringText": "fstring_text", "FStringExprStart": "fstring_expression_start",
-    "FStringExprEnd": "fstring_expression_end", "FStringBang": "fstring_bang", "FStringEnd": "fstring_end",
+    **SYMBOLS, "Identifier": "name", "FStringStart": "fstring_start", "FStringText": "fstring_text",
+    "FStringExprStart": "fstring_expression_start", "FStringBang": "fstring_bang",
+    "FStringExprEnd": "fstring_expression_end", "FStringEnd": "fstring_end",
 }
 CODES = {
     "SL001": "indentation", "SL002": "invalid_input", "SL003": "invalid_tab", "SL004": "unfinished_string",

@@ -4,8 +4,8 @@
     cases.py          compares the folder cases with what is written here, and fails where they differ
     cases.py --write  writes the files of the folder
 
-Names and texts are in the folder written, and answers are the plain lexer's. How other lexers differ is in the lists of the
-folder expected, which reports.py makes, and in KNOWN.
+Names and texts are in the folder written, and answers are the plain lexer's. How other lexers differ is in the lists of
+the folder expected, which reports.py makes, and in KNOWN.
 """
 
 import json
@@ -19,20 +19,36 @@ from written import edits, fstrings, layout, neighbours, numbers, recovering, st
 
 HERE = Path(__file__).resolve().parent
 CASES = HERE.parent / "cases"
+PAGE = HERE.parent / "README.md"
 EXPECTED = HERE.parent / "expected"
 KNOWN = [  # of lexers that aren't run here: the lexer, how it differs, and a pattern on texts
     ("starlark_syntax 0.14.2", "`rf` is a name", rb"(?<![A-Za-z0-9_])rf['\"]"),
     ("Bazel", "a raw backslash before a quote stays", rb"(?<![A-Za-z0-9_])r('|\")(?:[^\\]|\\[^'\"])*\\['\"]"),
 ]
 NOT_UTF8 = {
-    "a byte that begins no character": b"x = '\xff'", "a character that is cut off": b"# \xe2\x82", "a continuation byte alone": b"\x80",
-    "a surrogate's bytes": b"'\xed\xa0\x80'", "a character in more bytes than it needs": b"# \xc0\xaf", "a Latin letter in one byte": b"# caf\xe9\n",
+    "a byte that begins no character": b"x = '\xff'",
+    "a character that is cut off": b"# \xe2\x82",
+    "a continuation byte alone": b"\x80",
+    "a surrogate's bytes": b"'\xed\xa0\x80'",
+    "a character in more bytes than it needs": b"# \xc0\xaf",
+    "a Latin letter in one byte": b"# caf\xe9\n",
 }
 
 
 TAGS = {  # that a case gets by its text
-    "bytes": rb"(?<![A-Za-z0-9_])(b|br|rb)['\"]", "fstrings": rb"(?<![A-Za-z0-9_])(f|fr|rf)['\"]", "crlf": rb"\r\n", "cr": rb"\r(?!\n)",
+    "bytes": rb"(?<![A-Za-z0-9_])(b|br|rb)['\"]",
+    "fstrings": rb"(?<![A-Za-z0-9_])(f|fr|rf)['\"]",
+    "crlf": rb"\r\n",
+    "cr": rb"\r(?!\n)",
 }
+
+
+def said_on_page(words):
+    """Whether the page says these words; where it doesn't, that is told."""
+    if words in PAGE.read_text(encoding="utf-8"):
+        return True
+    print(f"README.md doesn't say: {words}", file=sys.stderr)
+    return False
 
 
 def all_tags(tags, text, answer):
@@ -122,7 +138,7 @@ def main():
         return 1
     tags = Counter(case["tags"][0] for case in cases)
     print(f"{len(cases)} cases: " + ", ".join(f"{tag} {count}" for tag, count in tags.items()))
-    return 0
+    return 0 if said_on_page(f"{len(cases):,} small texts") else 1
 
 
 if __name__ == "__main__":

@@ -1,12 +1,12 @@
 #!/usr/bin/env python3
-"""Says which cases of the grammar's definitions no case of the suite reaches, and which could be wrong without a case to tell.
+"""Says which cases of the grammar's definitions no case of the suite reaches, and which no case pins.
 
-    coverage.py             runs the definitions on each text, and fails where they give another answer or a case isn't reached
-    coverage.py --mutants   also changes each place of the definitions, and tells the changes that no case shows
-    coverage.py --list      prints each case of the definitions with the name of the first case that reaches it
+    coverage.py            runs the definitions on each text: fails where they give another answer, or a case isn't reached
+    coverage.py --changes  also changes each place of the definitions, and fails where no case shows that; takes minutes
+    coverage.py --list     prints each case of the definitions with the name of the first case that reaches it
 
 Definitions are those of the modules Words, Items, Numbers, Margins, Pieces and Depths. definitions.py says what a case of
-them is. UNREACHABLE names those that no text reaches, and why.
+them is. UNREACHABLE names those that no text reaches, and UNSEEN changes that no answer can show, each with the reason.
 """
 
 import argparse
@@ -17,6 +17,7 @@ import sys
 from pathlib import Path
 
 from answers import FAULTS, KINDS, QUOTES, is_utf8, text_of
+from cases import said_on_page
 from definitions import MEASURED, Definitions
 
 HERE = Path(__file__).resolve().parent
@@ -27,7 +28,7 @@ from runner import read_cases  # noqa: E402
 # What no text reaches: a pattern on the case's words, and the reason.
 UNREACHABLE = [
     (r"^Words: (is_identifier|is_comment) \[\]", "a word isn't empty"),
-    (r"^Words: begins test \[\]", "a word of digits alone is a decimal integer by an earlier row, and a point alone a symbol"),
+    (r"^Words: begins test \[\]", "a word of digits alone is decimal by an earlier row, and a point alone a symbol"),
     (r"^Numbers: is_negative \[\]", "a number has a digit"),
     (r"^Numbers: (is_small|signed) .*(minus|2 \^ 31 \) \|\| \.\.: by)", "a number of a text has no sign"),
     (r"^Numbers: (is_number|integer_in) ", "only the library's call on a number's text asks it"),
@@ -35,6 +36,12 @@ UNREACHABLE = [
     (r"^Margins: begins_with_line_end ", "only lexing on after a fault asks it"),
     (r"^Margins: without_return \[\]", "a comment isn't empty"),
     (r"^Pieces: (starts_zero|is_bang) \[\]", "a word isn't empty"),
+]
+UNSEEN = [
+    (r"^Words: (has_base lower upper text|sign_len \[\]):", "what is asked of the text after it fails anyhow"),
+    (r"^Numbers: (is_negative|is_small|signed|integer_of) ", "an integer is compared by its value, however it is kept"),
+    (r"^Depths: fronts \[\]:", "the surplus of no tokens is 0, where the greatest is looked for from 0 on"),
+    (r"^Pieces: (escape_fault|chunk_by) ", "what a fault quotes isn't compared"),
 ]
 
 
@@ -71,7 +78,7 @@ def is_measured(case):
 
 
 def reached_by(cases):
-    """Each case of the definitions that is reached, with the number of the first case; and the names of cases that differ."""
+    """Each case of the definitions that is reached, with the first case's number; and the names of cases that differ."""
     definitions, first, wrong = Definitions(), {}, []
     for number, case in cases:
         definitions.reached.clear()
@@ -102,11 +109,11 @@ def measured(cases):
 # -- Changed definitions
 
 LONGEST_CHANGED = 24
-SHARED = {}  # the cases, and the texts that reach each case of the definitions, for the processes that are started later
+SHARED = {}  # the cases, and the texts that reach each case of the definitions, for processes that are started later
 
 
 def reaching(cases):
-    """Of each case of the definitions, the numbers of the texts that reach it; all texts for those that classes are kept of."""
+    """Of each case of the definitions, the numbers of the texts that reach it; all for those of Words, which are kept."""
     definitions, found = Definitions(), {}
     for number, case in cases:
         definitions.reached.clear()
@@ -136,7 +143,7 @@ def unshown(change):
 
 
 def try_changes(cases):
-    """Tries all changes, and prints those that no case shows."""
+    """Tries all changes, and prints those that no case shows. Whether there is a reason for each of these."""
     cases = {number: case for number, case in cases if len(text_of(case)) <= LONGEST_CHANGED}
     reached = {}
     with concurrent.futures.ProcessPoolExecutor() as pool:
@@ -147,19 +154,23 @@ def try_changes(cases):
     changes = range(len(Definitions().places))
     with concurrent.futures.ProcessPoolExecutor() as pool:
         words = [word for word in pool.map(unshown, changes) if word]
-    for word in words:
+    missed = [word for word in words if not reason_of(word, UNREACHABLE + UNSEEN)]
+    for word in missed:
         print(f"no case shows that {word}")
-    print(f"{len(changes) - len(words)} of {len(changes)} changes of the definitions are shown by a case")
+    print(f"{len(changes) - len(words)} of {len(changes)} changes of the definitions are shown by a case; "
+          f"no answer shows {len(words) - len(missed)}")
+    is_said = said_on_page(f"Of {len(changes)} such changes {len(changes) - len(words)} are shown")
+    return is_said and not missed
 
 
-def reason_of(words):
-    """Why no text reaches a case; none where nothing says so."""
-    return next((reason for pattern, reason in UNREACHABLE if re.search(pattern, words)), "")
+def reason_of(words, reasons):
+    """Why a case isn't reached or a change isn't shown; none where nothing says so."""
+    return next((reason for pattern, reason in reasons if re.search(pattern, words)), "")
 
 
 def main():
     parser = argparse.ArgumentParser()
-    parser.add_argument("--mutants", action="store_true")
+    parser.add_argument("--changes", action="store_true")
     parser.add_argument("--list", action="store_true")
     options = parser.parse_args()
     cases = [(number, case) for number, case in enumerate(read_cases([HERE.parent / "cases"])) if is_measured(case)]
@@ -168,21 +179,21 @@ def main():
     words = Definitions().cases
     for name in wrong:
         print(f"the definitions give another answer: {name}")
-    missed = [number for number in range(len(words)) if number not in first and not reason_of(words[number])]
+    missed = [number for number in range(len(words)) if number not in first and not reason_of(words[number], UNREACHABLE)]
     for number in missed:
         print(f"not reached: {words[number]}")
-    if options.mutants:
-        try_changes(cases)
+    is_shown = not options.changes or try_changes(cases)
     if options.list:
         for number, name in enumerate(words):
-            print(f"{name}\n    {names[first[number]]['name'] if number in first else reason_of(name)}")
+            print(f"{name}\n    {names[first[number]]['name'] if number in first else reason_of(name, UNREACHABLE)}")
     unreachable = sum(1 for number in range(len(words)) if number not in first)
     print(f"{len(first)} of {len(words)} cases of the definitions are reached by {len(cases)} cases; no text reaches "
           f"{unreachable - len(missed)}")
     for module in MEASURED:
         of_module = [number for number, name in enumerate(words) if name.startswith(module + ":")]
         print(f"    {module}: {sum(1 for number in of_module if number in first)} of {len(of_module)}")
-    return 1 if wrong or missed else 0
+    is_said = said_on_page(f"Of {len(words)}, {len(first)} are reached")
+    return 1 if wrong or missed or not is_shown or not is_said else 0
 
 
 if __name__ == "__main__":

@@ -1,7 +1,7 @@
 """Runs the definitions of the grammar as they are written, and tells which of their cases a text reaches.
 
-The modules of crates/starlark_grammar/specs are translated to functions of Python: their clauses, conditions, records and
-tables. What they take from the standard library is in NATIVE. A *case* of a definition is
+The modules of crates/starlark_grammar/specs are translated to functions of Python: clauses, conditions, records, tables.
+What they take from the standard library is in NATIVE. A *case* of a definition is
 
 - a clause: the patterns on its left-hand side,
 - a branch of an `if`, and each operand that decides an `&&` or `||`,
@@ -22,7 +22,8 @@ WORDS_OF_THE_CODE = TOP / "crates/starlark_grammar/src/class.rt"
 MEASURED = ["Words", "Items", "Numbers", "Margins", "Pieces", "Depths"]
 MODULES = ["Words", "Numbers", "Tokens", "FrontCharacter", "Items", "Depths", "Margins", "Pieces", "Reading"]
 TOKEN = re.compile(
-    r'\s+|"(?:\\.|[^"\\])*"|0x[0-9A-Fa-f_]+|[0-9][0-9_]*|[^\W\d]\w*|\[\]|∷|\+\+|&&|\|\||==|[λ→(){};,=+\-^:×]|\.(?=\s)|\.(?=\w)'
+    r'\s+|"(?:\\.|[^"\\])*"|0x[0-9A-Fa-f_]+|[0-9][0-9_]*|[^\W\d]\w*'
+    r"|\[\]|∷|\+\+|&&|\|\||==|[λ→(){};,=+\-^:×]|\.(?=\s)|\.(?=\w)"
 )
 OPERATORS = {"||": (1, "right"), "&&": (2, "right"), "==": (3, "left"), "∷": (4, "right"), "++": (4, "right"),
              "+": (5, "left"), "-": (5, "left"), "^": (6, "right")}
@@ -320,7 +321,7 @@ def record_type(fields):
 
 
 def rows_of_the_code():
-    """The rows of the table of symbols and names, from the macro `terminals!`: each word with its class, as the code has them."""
+    """The rows of symbols and of names, from the macro `terminals!`: each word with its class, by length."""
     text = WORDS_OF_THE_CODE.read_text(encoding="utf-8")
     begin = text.index("symbols {")
     rows = {"symbols": [], "names": []}
@@ -355,12 +356,14 @@ def changes_of(node):
         operator, left, right = node.parts
         sides = [("is its first part", left), ("is its second part", right)]
         truths = [("holds", truth(True)), ("fails", truth(False))]
-        return {"&&": sides, "||": sides, "==": truths, "∷": sides[1:], "++": sides, "+": sides[:1], "-": sides[:1]}.get(operator, [])
+        by_operator = {"&&": sides, "||": sides, "==": truths, "∷": sides[1:], "++": sides}
+        return by_operator.get(operator, sides[:1] if operator in "+-" else [])
     if node.what == "number":
         return [("is one more", Node("number", [node.parts[0] + 1]))]
     if node.what == "string":
         text = node.parts[0].encode().decode("unicode_escape")
-        return [("is the next character", Node("string", [chr(ord(text[0]) + 1).encode("unicode_escape").decode()]))]
+        other = chr(ord(text[0]) + 1).encode("unicode_escape").decode()
+        return [("is the next character", Node("string", [other]))]
     if node.what == "name" and node.parts[0] in ("true", "false"):
         return [("is the other", truth(node.parts[0] == "false"))]
     if node.what == "apply" and node.parts[0].parts[:1] == ["not"]:
@@ -372,7 +375,7 @@ def changes_of(node):
 
 
 class Definitions:
-    """The definitions as functions of Python, all of whose cases have a number; `reached` are those that some text reached."""
+    """The definitions as functions of Python, whose cases have numbers; `reached` are those that some text reached."""
 
     def __init__(self, change=None):
         self.modules = {name: module_definitions(name) for name in MODULES}
@@ -400,7 +403,8 @@ class Definitions:
         words += [f"{number}, {row[1][0]}" for number, row in enumerate(self.value("Words", "patterns"), 1)]
         self.language_rows = [self.case("Words", f"row {word}") for word in words]
         self.escape_rows = {
-            key: self.case("Items", f"simple_escapes, row {chr(key)!r}") for key, _ in self.value("Items", "simple_escapes")
+            key: self.case("Items", f"simple_escapes, row {chr(key)!r}")
+            for key, _ in self.value("Items", "simple_escapes")
         }
 
     # What was reached

@@ -3,10 +3,10 @@
 
     reports.py [--write] [--starlark-tokens PROGRAM --starlark-rows PROGRAM]
 
-It fails where this lexer differs, where another differs without a reason of REASONS, and where what is stored isn't what is
-found: the lists of the folder expected, of which cases.py makes the field `differs`, and the table between the markers of
-docs/use/compatible.md. With --write it stores them. The programs are the proved ones unless others are given. A lexer that
-isn't here is left out, and then the table too.
+It fails where this lexer differs, where another differs without a reason of REASONS, and where what is stored isn't
+what is found: the lists of the folder expected, of which cases.py makes the field `differs`, and the table between the
+markers of docs/use/compatible.md. With --write it stores them. The programs are the proved ones unless others are given.
+A lexer that isn't here is left out, and then the table too.
 """
 
 import argparse
@@ -58,7 +58,8 @@ PYTHON = [
     ("digits may have underscores, a base and complex numbers", lambda case, text, said: re.search(rb"\d_\d|x_|\dj", text)),
     ("digits after a zero are a second integer", lambda case, text, said: "leading_zero" in said),
     ("a CR without LF is a line end", lambda case, text, said: "cr" in case["tags"]),
-    ("a raw backslash before a quote stays", lambda case, text, said: QUOTE_AFTER_RAW.search(text) and "one too many" not in said),
+    ("a raw backslash before a quote stays",
+     lambda case, text, said: QUOTE_AFTER_RAW.search(text) and "one too many" not in said),
     ("CR LF is LF before a raw literal is read", lambda case, text, said: re.search(rb"r('|\")(?s:.*)\\\r\n", text)),
     ("bytes are ASCII", lambda case, text, said: re.search(rb"\b(b|br|rb)['\"].*[\x80-\xff]", text)),
     ("`\\u` and `\\U` are no escapes of bytes", lambda case, text, said: re.search(rb"b['\"]\\[uU]", text)),
@@ -66,11 +67,13 @@ PYTHON = [
     ("surrogates are characters", lambda case, text, said: re.search(rb"\\(u|U0000)d[89a-f]", text)),
     ("`\\N` is an escape", lambda case, text, said: b"\\N" in text),
     ("a zero byte in a literal is refused", lambda case, text, said: b"\0" in text),
-    ("prefixes may be capital letters, or `u`", lambda case, text, said: re.match(rb"(?i)(u|r|b|br|rb)['\"]", text) and NAME in said),
+    ("prefixes may be capital letters, or `u`",
+     lambda case, text, said: re.match(rb"(?i)(u|r|b|br|rb)['\"]", text) and NAME in said),
     ("the prefix of an open literal is a name", lambda case, text, said: "one too many" in said),
     ("letters and digits beyond ASCII belong to names", lambda case, text, said: re.search(rb"[\x80-\xff]", text)),
     ("a form feed is blank space", lambda case, text, said: b"\f" in text),
-    ("a line has to follow a backslash and a line end", lambda case, text, said: text.endswith((b"\\\n", b"\\\r\n"))),
+    ("a line has to follow a backslash and a line end",
+     lambda case, text, said: text.endswith((b"\\\n", b"\\\r\n"))),
 ]
 REASONS = {"starlark-go": GO, "CPython 3.11": PYTHON}
 
@@ -130,7 +133,7 @@ TAGS = ("words", "numbers", "strings", "bytes", "fstrings", "layout", "neighbour
 
 
 def cell(results, tag=None):
-    """What a lexer did with the cases of a tag, or with all: how many it answered as wanted, of how many that it is asked."""
+    """How many cases of a tag, or of all, a lexer answered as wanted, of how many that it is asked."""
     asked = [result for result in results if tag in (None, result.case["tags"][0]) and result.state != "skipped"]
     same = sum(1 for result in asked if result.state == "same")
     return "" if not asked else str(same) if same == len(asked) else f"{same}/{len(asked)}"

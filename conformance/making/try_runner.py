@@ -1,5 +1,5 @@
 #!/usr/bin/env python3
-"""Tries runner.py with small lexers: right and wrong ones, one that ends, one that is silent, and lists of expected differences.
+"""Tries runner.py with small lexers: right and wrong ones, one that ends, one that is silent, and expected differences.
 
 The exit status is 1 where the runner doesn't say what it has to.
 """
@@ -12,13 +12,18 @@ import xml.etree.ElementTree as ElementTree
 from pathlib import Path
 
 SUITE = Path(__file__).resolve().parent.parent
-CASES = [
-    {"name": "a name", "tags": ["words"], "text": "x", "tokens": [["name", 0, 1, "x"], ["newline", 1, 1]], "faults": []},
-    {"name": "a comment", "tags": ["words", "comments"], "text": "# c", "tokens": [["comment", 0, 3, " c"], ["newline", 3, 3]], "faults": []},
-    {"name": "a float", "tags": ["numbers"], "text": "1e2", "tokens": [["float", 0, 3, "1e2"], ["newline", 3, 3]], "faults": []},
-    {"name": "a fault", "tags": ["words", "faults"], "text": "x $", "tokens": [["name", 0, 1, "x"]], "faults": [["invalid_input", 2, 3]]},
+RIGHT = [
+    {"tokens": [["name", 0, 1, "x"], ["newline", 1, 1]], "faults": []},
+    {"tokens": [["comment", 0, 3, " c"], ["newline", 3, 3]], "faults": []},
+    {"tokens": [["float", 0, 3, "1e2"], ["newline", 3, 3]], "faults": []},
+    {"tokens": [["name", 0, 1, "x"]], "faults": [["invalid_input", 2, 3]]},
 ]
-RIGHT = [{"tokens": case["tokens"], "faults": case["faults"]} for case in CASES]
+TEXTS = {"a name": "x", "a comment": "# c", "a float": "1e2", "a fault": "x $"}
+TAGS = [["words"], ["words", "comments"], ["numbers"], ["words", "faults"]]
+CASES = [
+    {"name": name, "tags": tags, "text": text, **answer} for (name, text), tags, answer in zip(TEXTS.items(), TAGS, RIGHT)
+]
+NEWLINE = ["newline", 1, 1]
 
 
 def changed(number, **fields):
@@ -30,7 +35,8 @@ def lexer(answers, head=None, more=""):
     """A program that gives these answers to the texts of the cases."""
     by_text = {case["text"]: answer for case, answer in zip(CASES, answers)}
     return (
-        f"import json, os, sys, time\nprint({json.dumps({'lexer': 'small', **(head or {})})!r}, flush=True)\nknown = {by_text!r}\n"
+        f"import json, os, sys, time\nprint({json.dumps({'lexer': 'small', **(head or {})})!r}, flush=True)\n"
+        f"known = {by_text!r}\n"
         f"for line in sys.stdin:\n    text = json.loads(line)['text']\n    {more or 'pass'}\n"
         "    print(json.dumps(known[text]), flush=True)\n"
     )
@@ -40,15 +46,16 @@ COMMENT = [{**RIGHT[1], "tokens": [["newline", None, None]]}]
 FAULT_ONLY = {"tokens": None, "faults": [[None, None, None]]}
 TRIALS = [  # what is tried, the lexer, options, the status, and what the runner has to say
     ("right answers", lexer(RIGHT), [], 0, "small: as expected"),
-    ("a wrong kind", lexer(changed(0, tokens=[["x", 0, 1, "x"], ["newline", 1, 1]])), [], 1, 'token 1 is ["x"'),
-    ("a kind that isn't said", lexer(changed(0, tokens=[[None, 0, 1, "x"], ["newline", 1, 1]])), [], 1, "token 1 is [null"),
-    ("a wrong span", lexer(changed(0, tokens=[["name", 0, 2, "x"], ["newline", 1, 1]])), [], 1, "token 1 is"),
-    ("a wrong value", lexer(changed(0, tokens=[["name", 0, 1, "y"], ["newline", 1, 1]])), [], 1, "token 1 is"),
+    ("a wrong kind", lexer(changed(0, tokens=[["x", 0, 1, "x"], NEWLINE])), [], 1, 'token 1 is ["x"'),
+    ("a kind that isn't said", lexer(changed(0, tokens=[[None, 0, 1, "x"], NEWLINE])), [], 1, "token 1 is [null"),
+    ("a wrong span", lexer(changed(0, tokens=[["name", 0, 2, "x"], NEWLINE])), [], 1, "token 1 is"),
+    ("a wrong value", lexer(changed(0, tokens=[["name", 0, 1, "y"], NEWLINE])), [], 1, "token 1 is"),
     ("a missing token", lexer(changed(0, tokens=[["name", 0, 1, "x"]])), [], 1, "token 2 is missing"),
     ("a token too many", lexer(changed(0, tokens=[*RIGHT[0]["tokens"], ["dedent", 1, 1]])), [], 1, "one too many"),
-    ("a span that isn't said", lexer(changed(0, tokens=[["name", None, None, "x"], ["newline", 1, 1]])), [], 0, "as expected"),
+    ("a span that isn't said", lexer(changed(0, tokens=[["name", None, None, "x"], NEWLINE])), [], 0, "as expected"),
     ("no tokens", lexer(changed(0, tokens=None)), [], 1, "has no tokens"),
-    ("a float that is written otherwise", lexer(changed(2, tokens=[["float", 0, 3, "100.0"], ["newline", 3, 3]])), [], 0, "as expected"),
+    ("a float that is written otherwise", lexer(changed(2, tokens=[["float", 0, 3, "100.0"], ["newline", 3, 3]])), [], 0,
+     "as expected"),
     ("another float", lexer(changed(2, tokens=[["float", 0, 3, "100.1"], ["newline", 3, 3]])), [], 1, "token 1 is"),
     ("a fault of which nothing is said", lexer(changed(3, **FAULT_ONLY)), [], 0, "as expected"),
     ("another fault", lexer(changed(3, faults=[["invalid_tab", 2, 3]])), [], 1, "fault 1 is"),
@@ -71,8 +78,8 @@ def run(folder, program, options):
     (folder / "lexer.py").write_text(program, encoding="utf-8")
     names = [str(folder / "expect.txt") if option == "EXPECT" else option for option in options]
     command = [
-        sys.executable, SUITE / "runner.py", "--cases", folder / "cases.jsonl", "--junit", folder / "junit.xml", *names, "--",
-        sys.executable, folder / "lexer.py",
+        sys.executable, SUITE / "runner.py", "--cases", folder / "cases.jsonl", "--junit", folder / "junit.xml", *names,
+        "--", sys.executable, folder / "lexer.py",
     ]
     ran = subprocess.run(list(map(str, command)), capture_output=True, text=True, check=False)
     return ran.stdout + ran.stderr, ran.returncode

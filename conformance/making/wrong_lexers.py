@@ -1,7 +1,8 @@
 #!/usr/bin/env python3
 """Tries the suite with twelve wrong lexers: the plain lexer with one mistake each, put into its source in memory.
 
-Each has to fail the case whose name says why; the plain lexer itself has to pass all. The exit status is 1 where one doesn't.
+Each has to fail the case whose name says why; the plain lexer itself has to pass all. The exit status is 1 where one
+doesn't.
 """
 
 import sys

@@ -3,9 +3,25 @@
 from answers import answer_of, plain_lexer
 
 KINDS = {
-    "a name": "x", "a keyword": "if", "a decimal integer": "12", "a hexadecimal integer": "0x1f", "a float": "1.5", "a float that ends with a point": "1.",
-    "a float that begins with a point": ".5", "a string": "'a'", "a triple string": '"""a"""', "a raw string": "r'a'", "a bytes literal": "b'a'", "an f-string": "f'{a}'",
-    "an operator": "+", "a point": ".", "an equals sign": "=", "an opening bracket": "(", "a closing bracket": ")", "a comment": "# c", "a line end": "\n",
+    "a name": "x",
+    "a keyword": "if",
+    "a decimal integer": "12",
+    "a hexadecimal integer": "0x1f",
+    "a float": "1.5",
+    "a float that ends with a point": "1.",
+    "a float that begins with a point": ".5",
+    "a string": "'a'",
+    "a triple string": '"""a"""',
+    "a raw string": "r'a'",
+    "a bytes literal": "b'a'",
+    "an f-string": "f'{a}'",
+    "an operator": "+",
+    "a point": ".",
+    "an equals sign": "=",
+    "an opening bracket": "(",
+    "a closing bracket": ")",
+    "a comment": "# c",
+    "a line end": "\n",
     "a backslash and a line end": "\\\n",
 }
 FIRST = {"a comment": "# c\n"}
@@ -24,7 +40,7 @@ def is_joined(first, second):
 
 
 def closed(text):
-    """A text whose brackets are closed as often as opened, and that doesn't end in a backslash's line: some lexers want that."""
+    """A text whose brackets are closed as often as opened, and with a line after a backslash: some lexers want that."""
     opened, shut = text.count("("), text.count(")")
     return max(0, shut - opened) * "(" + text + "y" * text.endswith("\\\n") + max(0, opened - shut) * ")"
 
