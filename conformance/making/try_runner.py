@@ -12,6 +12,10 @@ import xml.etree.ElementTree as ElementTree
 from pathlib import Path
 
 SUITE = Path(__file__).resolve().parent.parent
+sys.path.append(str(SUITE))
+
+from runner import files_of, read_cases, request_of  # noqa: E402
+
 RIGHT = [
     {"tokens": [["name", 0, 1, "x"], ["newline", 1, 1]], "faults": []},
     {"tokens": [["comment", 0, 3, " c"], ["newline", 3, 3]], "faults": []},
@@ -85,8 +89,32 @@ def run(folder, program, options):
     return ran.stdout + ran.stderr, ran.returncode
 
 
+def unlike_schema():
+    """The names of a few cases of each file that, or whose requests, aren't as the schema says."""
+    try:
+        import jsonschema
+    except ImportError:
+        print("the schema was left out: there is no jsonschema", file=sys.stderr)
+        return []
+    schema = json.loads((SUITE / "schema.json").read_text(encoding="utf-8"))
+    fits = {
+        what: jsonschema.Draft202012Validator({**schema, "oneOf": [{"$ref": f"#/$defs/{what}"}]}).is_valid
+        for what in ("case", "request", "answer")
+    }
+    wrong = [] if fits["case"](CASES[0]) and not fits["answer"]({"tokens": [["x"]], "faults": []}) else ["the schema"]
+    for path in files_of(SUITE / "cases"):
+        for case in read_cases([path])[::25]:
+            answer = {field: case[field] for field in ("tokens", "faults")}
+            if not (fits["case"](case) and fits["request"](request_of(case)) and fits["answer"](answer)):
+                wrong.append(case["name"])
+    return wrong
+
+
 def main():
     wrong = 0
+    for name in unlike_schema():
+        wrong += 1
+        print(f"not as the schema says: {name}")
     with tempfile.TemporaryDirectory() as name:
         folder = Path(name)
         (folder / "cases.jsonl").write_text("".join(json.dumps(case) + "\n" for case in CASES), encoding="utf-8")
