@@ -4,7 +4,9 @@
 The exit status is 1 where the runner doesn't say what it has to.
 """
 
+import concurrent.futures
 import json
+import os
 import subprocess
 import sys
 import tempfile
@@ -70,7 +72,7 @@ TRIALS = [  # what is tried, the lexer, options, the status, and what the runner
     ("a tag that is skipped", lexer(changed(2, tokens=[]), {"skips": ["numbers"]}), [], 0, "as expected"),
     ("what can't be ignored", lexer(RIGHT, {"ignores": ["names"]}), [], 2, "ignores 'names'"),
     ("a lexer that ends", lexer(RIGHT, more="text == '1e2' and os._exit(1)"), [], 1, "the program ended"),
-    ("a silent lexer", lexer(RIGHT, more="text == '1e2' and time.sleep(9)"), ["--seconds", "1.5"], 1, "no answer"),
+    ("a silent lexer", lexer(RIGHT, more="text == '1e2' and time.sleep(60)"), ["--seconds", "6"], 1, "no answer"),
     ("an expected difference", lexer(changed(2, tokens=[])), ["--expect", "EXPECT"], 0, "as expected"),
     ("an expected difference that is none", lexer(RIGHT), ["--expect", "EXPECT"], 1, "was expected to differ"),
     ("a lexer without a head", "", [], 2, "the program ended"),
@@ -110,26 +112,28 @@ def unlike_schema():
     return wrong
 
 
-def main():
-    wrong = 0
-    for name in unlike_schema():
-        wrong += 1
-        print(f"not as the schema says: {name}")
+def wrong_in(trial):
+    """What is wrong with what the runner says of a lexer; none where all is right."""
+    words, program, options, status, wanted = trial
     with tempfile.TemporaryDirectory() as name:
         folder = Path(name)
         (folder / "cases.jsonl").write_text("".join(json.dumps(case) + "\n" for case in CASES), encoding="utf-8")
         (folder / "expect.txt").write_text("# why\na float\n", encoding="utf-8")
-        for words, program, options, status, wanted in TRIALS:
-            said, found = run(folder, program, options)
-            if found != status or wanted not in said:
-                wrong += 1
-                print(f"{words}: status {found}, and has to be {status} with {wanted!r}\n{said}")
-            elif status < 2:
-                suites = ElementTree.parse(folder / "junit.xml").getroot()
-                if len(list(suites.iter("testcase"))) != len(CASES):
-                    wrong += 1
-                    print(f"{words}: the JUnit XML hasn't all cases")
-    print(f"the runner with {len(TRIALS)} small lexers: {wrong} wrong")
+        said, found = run(folder, program, options)
+        if found != status or wanted not in said:
+            return f"{words}: status {found}, and has to be {status} with {wanted!r}\n{said}"
+        if status < 2 and len(list(ElementTree.parse(folder / "junit.xml").iter("testcase"))) != len(CASES):
+            return f"{words}: the JUnit XML hasn't all cases"
+    return ""
+
+
+def main():
+    wrong = [f"not as the schema says: {name}" for name in unlike_schema()]
+    with concurrent.futures.ThreadPoolExecutor(os.cpu_count()) as pool:
+        wrong += [said for said in pool.map(wrong_in, TRIALS) if said]
+    for said in wrong:
+        print(said)
+    print(f"the runner with {len(TRIALS)} small lexers: {len(wrong)} wrong")
     return 1 if wrong else 0
 
 
