@@ -137,7 +137,9 @@ def unshown(change):
     """The words of a change of the definitions, if no case shows it."""
     definitions = Definitions(change)
     reached, words = definitions.places[change]
-    cases = [SHARED["cases"][number] for number in SHARED["reached"].get(reached, [])]
+    # A table is no clause, so any text may show a change of its rows.
+    numbers = SHARED["reached"].get(reached, []) if reached >= 0 else SHARED["cases"]
+    cases = [SHARED["cases"][number] for number in numbers]
     cases.sort(key=lambda case: len(text_of(case)))
     return "" if any(shows(definitions, case) for case in cases) else words
 

@@ -383,7 +383,7 @@ class Definitions:
         self.places, self.change, self.clause_case = [], change, -1
         self.scope = {"NATIVE": NATIVE, "curried": curried, "remembered": remembered, "record_type": record_type,
                       "reach": self.reach, "lookup": self.lookup, "longest_front": self.longest_front}
-        self.scope["SYMBOLS"], self.scope["NAMES"] = rows_of_the_code()
+        self.scope["SYMBOLS"], self.scope["NAMES"] = map(self.rows_but_one, rows_of_the_code())
         self.classes = {}
         for name, definitions in self.modules.items():
             for key, clauses in definitions.items():
@@ -465,7 +465,7 @@ class Definitions:
             self.lines.append(f"{pad}  if {' and '.join(tests) or 'True'}:")
             reached = self.case(module, clause.words) if clause.patterns else -1
             self.clause_case = reached
-            if self.is_dropped(clause, reached):
+            if reached >= 0 and self.is_changed(f"{module}: {clause.words} is left out"):
                 self.lines.append(f"{pad}    pass")
                 continue
             self.lines.append(f"{pad}    reach({reached})")
@@ -476,6 +476,7 @@ class Definitions:
                 bound[key] = (inner_name, inner_count)
             for key, inner in clause.local.items():
                 self.function(module, bound[key][0], inner, bound[key][1], depth + 2, bound)
+            self.clause_case = reached
             self.lines.append(f"{pad}    return {self.translated(module, clause, clause.body, bound)}")
         self.lines.append(f"{pad}  raise ValueError({python_name!r})")
 
@@ -527,7 +528,10 @@ class Definitions:
     def translated(self, module, clause, node, bound):
         """An expression as one of Python."""
         node = self.changed(module, clause, node)
-        go = lambda part: self.translated(module, clause, part, bound)
+
+        def go(part):
+            return self.translated(module, clause, part, bound)
+
         if node.what == "empty":
             return "()"
         if node.what == "constant":
@@ -605,23 +609,25 @@ class Definitions:
 
     # Changes
 
-    def is_dropped(self, clause, reached):
-        """Whether a clause is left out."""
-        return reached >= 0 and self.is_changed(reached, "is left out", clause.words)
-
-    def is_changed(self, reached, what, words):
-        """Notes a change that can be made; whether it is the one to make."""
-        self.places.append((reached, f"{self.cases[reached]}: `{words}` {what}"))
+    def is_changed(self, words):
+        """Notes a change that can be made, with the case of the definitions around it; whether it is the one to make."""
+        self.places.append((self.clause_case, words))
         return self.change == len(self.places) - 1
 
     def changed(self, module, clause, node):
         """An expression, or what it is changed to."""
-        if self.clause_case < 0 or module not in MEASURED:
-            return node
-        for what, other in changes_of(node):
-            if self.is_changed(self.clause_case, what, node.words):
-                return other
+        if module in MEASURED:
+            for what, other in changes_of(node):
+                if self.is_changed(f"{module}: {clause.words}: `{node.words}` {what}"):
+                    return other
         return node
+
+    def rows_but_one(self, groups):
+        """The rows of the code, or all but the one that is to be left out."""
+        return tuple(
+            tuple(row for row in rows if not self.is_changed(f"Words: row {bytes(row[0]).decode()!r} is left out"))
+            for rows in groups
+        )
 
     # Texts
 
