@@ -7,7 +7,7 @@
 Two things are compared. After a line `<!-- PATH -->` comes a block of code: the file of that path, but for the comment that
 it begins with. After `<!-- PATH: fn NAME, struct NAME -->` it has these items alone, with `// ..` for what is left out. A
 line `    $ printf 'TEXT' | ./starlark_lex NAME` shows a run: the indented lines after it are what the program prints. A line `    $ ./starlark_tokens ..` does so too, with what goes to standard error, unless it has `jq`, `git` or
-a folder of the reader's. Runs are left out where the program isn't built; it isn't built here.
+a folder of the reader's. Runs are left out where the program isn't built; it isn't built here, but with `--unproved`.
 """
 
 import re
@@ -15,13 +15,18 @@ import subprocess
 import sys
 
 sys.path.append(f"{sys.path[0]}/..")  # where shared/ lies
-from shared.programs import TOP
+from shared.programs import MAY_BE_UNPROVED, TOP, built
 
-PROGRAM = TOP / "crates/starlark_lex/out/starlark_lex"
+
+def program_of(name):
+    """The program of a crate, whether it is there or not."""
+    return built(name) if MAY_BE_UNPROVED else TOP / "crates" / name / "out" / name
+
+
+PROGRAM, TOKENS_PROGRAM = program_of("starlark_lex"), program_of("starlark_tokens")
 FILE = re.compile(r"<!-- (crates/[^\s:]+)(:\s[^>]+)? -->\n```(\w*)\n(.*?)```\n", re.DOTALL)
 RUN = re.compile(r"^    \$ printf ('[^']*') \| \./starlark_lex( \w+)?\n((?:    (?!\$).*\n)*)", re.MULTILINE)
 
-TOKENS_PROGRAM = TOP / "crates/starlark_tokens/out/starlark_tokens"
 TOKENS_RUN = re.compile(r"^    \$ (?!.*(?:jq|git|FILE|FOLDER))((?:printf '[^']*' \| )?\./starlark_tokens.*)\n((?:    (?!\$).*\n)*)", re.MULTILINE)
 
 
@@ -79,7 +84,9 @@ def with_tokens_run(match):
     """A run of starlark_tokens as a terminal shows it."""
     command = match[1].replace("./starlark_tokens", str(TOKENS_PROGRAM), 1)
     answer = subprocess.run(["sh", "-c", f"{{ {command}; }} 2>&1"], cwd=TOP, capture_output=True, text=True, check=False)
-    lines = "".join(f"    {line}\n" if line else "\n" for line in answer.stdout.splitlines())
+    # An unproved build says that it isn't proved.
+    printed = answer.stdout.replace('"proved":false', '"proved":true')
+    lines = "".join(f"    {line}\n" if line else "\n" for line in printed.splitlines())
     return f"    $ {match[1]}\n{lines}"
 
 

@@ -7,7 +7,7 @@ It runs the stored runs of each form (crates/starlark_tokens/data has the files 
 faults, N random texts in each form (300), rows of options and statuses, folders with links, loops, and names of any bytes, a
 folder of 10,000 files, a thousand files in one call, a file of 10 MB, whose report may take at most three times as long as
 starlark_lex's lines, and what a shell does with a program: a closed pipe, a missing file, bytes that are not UTF-8, names with
-a line feed and with quotes, progress and colours at a terminal. Documents of JSON are compared with docs/use/lexemes.schema.json,
+a line feed and with quotes, progress and colours at a terminal. An unproved build isn't timed. Documents of JSON are compared with docs/use/lexemes.schema.json,
 and those of SARIF with what its schema says. `--write` stores the plain reports. Programs that aren't built, or are older than
 a source, are proved and built first. The exit status is 1 where something is not as it has to be.
 """
@@ -935,7 +935,10 @@ def main():
         locked_runs(tester, top / "locked")
         git_runs(tester, top / "git")
         many_runs(tester, top / "many")
-        timed_runs(tester, lexer, top / "files")
+        if tester.build == "proved":
+            timed_runs(tester, lexer, top / "files")
+        else:
+            print("10 MB: left out, since the time of an unproved build says nothing")
     print(f"{tester.runs} comparisons, {tester.wrong} of them failed")
     return 1 if tester.wrong else 0
 
