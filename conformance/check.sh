@@ -2,7 +2,9 @@
 # Checks the suite: that its cases are what conformance/making says, that they reach all cases of the grammar's definitions,
 # that twelve wrong lexers fail, that the runner runs, and what this lexer and others that are here answer.
 #
-#     check.sh [OPTIONS OF making/reports.py]
+#     check.sh [--unproved]
+#
+# With --unproved this lexer's programs may be built without proof.
 set -eu
 
 cd "$(dirname -- "$0")/making"

@@ -1,12 +1,12 @@
 #!/usr/bin/env python3
 """Runs the suite with this lexer and the others that are here, and compares how these differ with what is stored.
 
-    reports.py [--write] [--starlark-tokens PROGRAM --starlark-rows PROGRAM]
+    reports.py [--write] [--unproved]
 
 It fails where this lexer differs, where another differs without a reason of REASONS, and where what is stored isn't
 what is found: the lists of the folder expected, of which cases.py makes the field `differs`, and the table between the
-markers of docs/use/compatible.md. With --write it stores them. The programs are the proved ones unless others are given.
-A lexer that isn't here is left out, and then the table too.
+markers of docs/use/compatible.md. With --write it stores them. With --unproved this lexer's programs may be built without
+proof. A lexer that isn't here is left out, and then the table too.
 """
 
 import argparse
@@ -171,9 +171,9 @@ def go_command(folder):
     return [output] if ran.returncode == 0 else None
 
 
-def commands(options, folder):
+def commands(folder):
     """The command of each lexer, none for one that isn't here."""
-    programs = options.starlark_tokens or built("starlark_tokens"), options.starlark_rows or built("starlark_rows")
+    programs = [built(name) for name in ("starlark_tokens", "starlark_rows")]
     is_python = sys.version_info[:2] == (3, 11)
     return {
         "this lexer": [sys.executable, ADAPTERS / "starlark_tokens.py", *programs],
@@ -195,12 +195,10 @@ def has_reasons(lexer, reasons, missing):
 def main():
     parser = argparse.ArgumentParser()
     parser.add_argument("--write", action="store_true")
-    parser.add_argument("--starlark-tokens", metavar="PROGRAM")
-    parser.add_argument("--starlark-rows", metavar="PROGRAM")
     options = parser.parse_args()
     cases, found, is_right = read_cases([SUITE / "cases"]), {}, True
     with tempfile.TemporaryDirectory() as folder:
-        for lexer, command in commands(options, folder).items():
+        for lexer, command in commands(folder).items():
             if command is None:
                 print(f"{lexer} was left out: it is not here", file=sys.stderr)
                 continue

@@ -309,6 +309,8 @@ def cases(add):
             add(tags, f"{kind} in {words}, empty", prefix + 2 * quotes)
             add(tags, f"{kind} in {words}, with text", f"{prefix}{quotes}a{quotes}")
             add(tags, f"{kind} in {words}, with an expression", f"{prefix}{quotes}a{{x}}b{quotes}")
+        for quote in "'\"" if "r" in prefix else "":
+            add(tags, f"`{prefix}{quote}` opens a raw f-string: `\\a` stays", f"{prefix}{quote}\\a{quote}")
     for tags, group in [
         ("text", TEXTS), ("expressions", EXPRESSIONS), ("bang", BANGS), ("nested", NESTED), ("depths", DEPTHS),
         ("unfinished", UNFINISHED), ("escapes", ENDED), ("raw", RAW),

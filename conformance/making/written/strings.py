@@ -324,6 +324,13 @@ def add_openings(add):
             add(KINDS[prefix] + " openings", f"{kind} in {words}, empty", prefix + 2 * quotes)
 
 
+def add_raw_openers(add):
+    """A backslash in a literal of each raw opener."""
+    for prefix in ("r", "br", "rb"):
+        for quote in "'\"":
+            add(KINDS[prefix], f"`{prefix}{quote}` opens a raw literal: `\\a` stays", f"{prefix}{quote}\\a{quote}")
+
+
 def add_escapes(add):
     for written, value in ESCAPES.items():
         for prefix, kind in SHORT.items():
@@ -359,6 +366,7 @@ def add_others(add):
 
 def cases(add):
     add_openings(add)
+    add_raw_openers(add)
     for words, body in PLAIN.items():
         for prefix in ("", "b", "r"):
             if body or not prefix:
