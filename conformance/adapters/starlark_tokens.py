@@ -105,8 +105,9 @@ def main():
     program, rows = sys.argv[1], sys.argv[2] if len(sys.argv) > 2 else None
     print(json.dumps({"lexer": "starlark_tokens", "skips": [] if rows else ["edits"]}), flush=True)
     requests = [json.loads(line) for line in sys.stdin]
-    if rows:
-        check_edits(rows, [request for request in requests if "edits" in request])
+    edited = [request for request in requests if "edits" in request]
+    if rows and edited:
+        check_edits(rows, edited)
     for request, items in zip(requests, reports(program, [text_of(request) for request in requests])):
         print(json.dumps(answer_of(items, request.get("recovering", False))))
 
