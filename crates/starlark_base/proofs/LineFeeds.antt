@@ -21,16 +21,6 @@ lf_search (b ∷ rest) = cond (is_lf b) (1 + lf_search rest) (lf_search rest)
 pub feeds_count : (text : Text) → lf_search text ≡ count_by is_lf text
 feeds_count = is_count_by lf_search is_lf refl (λ x xs. refl)
 
--- a line begins within the text
-pub begin-le : (text : Text) (line : ℕ) → line_begin text line ≤ length text
-begin-le text zero = omega arith
-begin-le [] (suc line) = omega arith
-begin-le (b ∷ rest) (suc line) =
-    elim (is_lf b) as (λ f. suc (cond f (line_begin rest line) (line_begin rest (suc line))) ≤ suc (length rest)) [
-      | true ↦ let h = begin-le rest line in omega arith
-      | false ↦ let h = begin-le rest (suc line) in omega arith
-    ]
-
 -- no line begins before the one above it
 pub begin_step : (text : Text) (line : ℕ) → line_begin text line ≤ line_begin text (suc line)
 begin_step text zero = omega arith

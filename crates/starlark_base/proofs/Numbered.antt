@@ -41,9 +41,6 @@ get-joined a b q =
 pub get-only : (file : SourceFile) (q : ℕ) → map.get (only file) q ≡ cond (eqb q file.id) (Some file) None
 get-only file q = get-insert nat_cmp_total map.empty file.id file q ∙ rw (get-empty nat_cmp q, same_ties q file.id) refl
 
-pub same_entries : (es fs : List (ℕ × SourceFile)) → ((q : ℕ) → lookup (eqb q) fs ≡ lookup (eqb q) es) → map.from_entries {R = nat_cmp} fs ≡ map.from_entries es
-same_entries es fs same = same_map nat_cmp_total nat_cmp-IsAntisymmetric _ _ (λ q. seen q fs ∙ same q ∙ sym (seen q es))
-
 pub joins : (es fs : List (ℕ × SourceFile)) (b : SourceFiles) → ((q : ℕ) → lookup (eqb q) fs ≡ option_or (lookup (eqb q) es) (map.get b q)) → map.from_entries fs ≡ joined (map.from_entries es) b
 joins es fs b is =
     same_map nat_cmp_total nat_cmp-IsAntisymmetric _ _ (λ q. seen q fs ∙ is q ∙ ap (λ o. option_or o (map.get b q)) (sym (seen q es)) ∙ sym (get-joined (map.from_entries es) b q))

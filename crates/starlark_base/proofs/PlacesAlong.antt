@@ -68,10 +68,6 @@ place_along front more utf8 h =
       count_none more h,
     ) (ap (λ n. record { line = n; column = length (chars (after_last is_lf front)) + length (chars more) }) (omega arith))
 
-pub place_feed : (front : Text) → place_after (front ++ 10 ∷ []) ≡ record { line = (place_after front).line + 1; column = 0 }
-unfolding place_after chars
-place_feed front = rw (after_last_feed, sum_by-append (λ x. cond (is_lf x) 1 0) front (10 ∷ [])) refl
-
 pub line_bound : (front : Text) → (place_after front).line ≤ length front
 unfolding place_after
 line_bound front = count_by-le-length is_lf front

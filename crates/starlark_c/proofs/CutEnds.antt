@@ -16,7 +16,7 @@ use Rattle.starlark_grammar.specs.Reading.{History, after, after_all, lexemes_al
 use Rattle.starlark_grammar.specs.Tokens.{Lexeme, Newline, Spanned, moved}
 use Rattle.starlark_grammar.specs.Words.{Text, class_in, language}
 use Rattle.starlark_grammar.specs.declared.class.Class.TheVariants as class
-use Rattle.starlark_grammar.proofs.Joining.CleanCuts.{along_both, but_last, cut, past_both, pieces_both}
+use Rattle.starlark_grammar.proofs.Joining.CleanCuts.{along_append, but_last, cut, past_append, pieces_append}
 use Rattle.starlark_grammar.proofs.Joining.Joined.{CountedEnd, counted_end, margin_step_len}
 use Rattle.starlark_grammar.proofs.Joining.LaidCuts.{split_last}
 use Rattle.starlark_grammar.proofs.Joining.LineCuts.{kept_parts, next_reads}
@@ -24,7 +24,7 @@ use Rattle.starlark_grammar.proofs.Joining.Tabs.{first_step}
 use Rattle.starlark_grammar.proofs.Reading.Readings.{piece_fits, started}
 use Rattle.starlark_grammar.proofs.Reading.Steps.{is_nothing}
 use Rattle.starlark_grammar.proofs.Words.Fronts.{front_sound}
-use Rattle.starlark_syntax.specs.CutAfter.{IsCutAfter}
+use Rattle.starlark_lexemes.specs.CutAfter.{IsCutAfter}
 use Rattle.starlark_token.specs.Lexemes.{shown_lexeme}
 use Rattle.starlark_token.specs.TokenViews.{TokenView}
 
@@ -37,30 +37,30 @@ all_last : (xs : List (Spanned TokenView)) (x : Spanned TokenView) → list_all 
 all_last [] x all = (and_parts (is_line x) true all).0
 all_last (y ∷ xs) x all = all_last xs x (and_parts (is_line y) (list_all is_line (xs ++ x ∷ [])) all).1
 
-none_of_both : (xs ys : List (Spanned TokenView)) → [] ≡ xs ++ ys → ys ≡ []
-none_of_both [] ys e = sym e
-none_of_both (x ∷ xs) ys e = cc
+none_of_append : (xs ys : List (Spanned TokenView)) → [] ≡ xs ++ ys → ys ≡ []
+none_of_append [] ys e = sym e
+none_of_append (x ∷ xs) ys e = cc
 
 last_of : (front : List (Spanned TokenView)) (x : Spanned TokenView) (xs ys : List (Spanned TokenView)) → front ++ x ∷ [] ≡ xs ++ ys → (ys ≡ [] → xs ≡ []) → list_all is_line ys ≡ true → is_line x ≡ true
 last_of front x [] ys e some all = all_last front x (ap (list_all is_line) e ∙ all)
 last_of [] x (y ∷ xs) ys e some all =
     let rest : [] ≡ xs ++ ys = cc in
-    let none = some (none_of_both xs ys rest) in
+    let none = some (none_of_append xs ys rest) in
     cc
 last_of (z ∷ front) x (y ∷ xs) ys e some all =
     let rest : front ++ x ∷ [] ≡ xs ++ ys = cc in
     last_of front x xs ys rest (λ none. let no = some none in cc) all
 
-all_both : (xs ys : List (Spanned TokenView)) → list_all is_line xs ≡ true → list_all is_line ys ≡ true → list_all is_line (xs ++ ys) ≡ true
-all_both [] ys one other = other
-all_both (x ∷ xs) ys one other = let parts = and_parts (is_line x) (list_all is_line xs) one in rw (parts.0, all_both xs ys parts.1 other) refl
+all_append : (xs ys : List (Spanned TokenView)) → list_all is_line xs ≡ true → list_all is_line ys ≡ true → list_all is_line (xs ++ ys) ≡ true
+all_append [] ys one other = other
+all_append (x ∷ xs) ys one other = let parts = and_parts (is_line x) (list_all is_line xs) one in rw (parts.0, all_append xs ys parts.1 other) refl
 
 -- so it is of lexemes as the grammar has them
 abbrev are_lines : List Lexeme → Bool
 are_lines lexemes = list_all is_line (map shown_lexeme lexemes)
 
-lines_both : (xs ys : List Lexeme) → are_lines xs ≡ true → are_lines ys ≡ true → are_lines (xs ++ ys) ≡ true
-lines_both xs ys one other = ap (list_all is_line) (map-append shown_lexeme xs ys) ∙ all_both (map shown_lexeme xs) (map shown_lexeme ys) one other
+lines_append : (xs ys : List Lexeme) → are_lines xs ≡ true → are_lines ys ≡ true → are_lines (xs ++ ys) ≡ true
+lines_append xs ys one other = ap (list_all is_line) (map-append shown_lexeme xs ys) ∙ all_append (map shown_lexeme xs) (map shown_lexeme ys) one other
 
 lines_moved : (n : ℕ) (xs : List Lexeme) → are_lines xs ≡ true → are_lines (map (moved n) xs) ≡ true
 lines_moved n [] all = refl
@@ -99,7 +99,7 @@ margin_lines len line levels text piece all stands reach =
     let comments = map (moved len) ((margin_of text).comments ++ []) in
     let both = sym stands ∙ blank_laid len line levels (margin_of text) blank in
     let same : piece ≡ record { len = len + margin_len (margin_of text); lexemes = line ++ comments; width = None; sort = Layout } = cc in
-    let are = lines_both line comments all (lines_moved len ((margin_of text).comments ++ []) (ap are_lines (append-nil (margin_of text).comments) ∙ margin_comments text)) in
+    let are = lines_append line comments all (lines_moved len ((margin_of text).comments ++ []) (ap are_lines (append-nil (margin_of text).comments) ∙ margin_comments text)) in
     (ap (λ (p : Piece). are_lines p.lexemes) same ∙ are, (comments, ap (λ (p : Piece). p.lexemes) same))
 
 -- The last piece of a clean cut
@@ -150,16 +150,16 @@ last_line text clean =
     let last = split.1 in
     let reads = subst (IsReading language nothing text) split.2 found.reads in
     let stands = next_reads nothing text init last [] reads in
-    let before = ap (λ (ps : List Piece). (after_all nothing ps).before) split.2 ∙ ap (λ (h : History). h.before) (past_both nothing init (last ∷ [])) ∙ sort_after (after_all nothing init) last in
+    let before = ap (λ (ps : List Piece). (after_all nothing ps).before) split.2 ∙ ap (λ (h : History). h.before) (past_append nothing init (last ∷ [])) ∙ sort_after (after_all nothing init) last in
     let layout = ap is_layout (sym before) ∙ found.is_settled.layout in
-    let reach : pieces_len init + last.len ≡ length text = omega (arith, found.reach, ap pieces_len split.2, pieces_both init (last ∷ []), sum_by-cons (λ (piece : Piece). piece.len) last []) in
+    let reach : pieces_len init + last.len ≡ length text = omega (arith, found.reach, ap pieces_len split.2, pieces_append init (last ∷ []), sum_by-cons (λ (piece : Piece). piece.len) last []) in
     let lines = last_lines text init last (reads_front nothing text init (last ∷ []) reads) stands reach layout in
     record {
       before = lexemes_along 0 init;
       line = lexemes_along (0 + pieces_len init) (last ∷ []);
       parts =
           ap without_closing found.lexemes ∙ but_last (lexemes_along 0 pieces) (record { begin = length text; node = Newline; end = length text }) ∙ ap (lexemes_along 0) split.2
-          ∙ along_both 0 init (last ∷ []);
+          ∙ along_append 0 init (last ∷ []);
       all = ap are_lines (append-nil (map (moved (0 + pieces_len init)) last.lexemes)) ∙ lines_moved (0 + pieces_len init) last.lexemes lines.0;
       some = λ none. ap (lexemes_along 0) (lines.1 (none_moved (0 + pieces_len init) last.lexemes (sym (append-nil (map (moved (0 + pieces_len init)) last.lexemes)) ∙ none)));
     }

@@ -20,7 +20,7 @@ use Rattle.starlark_grammar.proofs.Joining.LineCuts.{kept_parts}
 use Rattle.starlark_grammar.proofs.Joining.Tabs.{HasTab, after_tab, first_margin_is, tab}
 use Rattle.starlark_grammar.proofs.Reading.Readings.{one_longest, read_is}
 use Rattle.starlark_lexemes.proofs.LexerCuts.{kept_some}
-use Rattle.starlark_syntax.specs.CutAfter.{IsCutAfter}
+use Rattle.starlark_lexemes.specs.CutAfter.{IsCutAfter}
 use Rattle.starlark_token.specs.Lexemes.{shown_lexeme}
 
 -- a text is what is before a kept cut of it, joined with the rest
@@ -98,8 +98,8 @@ front_margin (b ∷ bs) rest empty = go (first_margin_is (b ∷ (bs ++ rest)))
         absurd (both_ways _ none has.is)
 
 -- a piece of a front is one of the longer text, with the same lexemes
-pub piece_followed : (text rest : Text) (at count : ℕ) → IsCutAfter text count at → is_without_margin (drop at text) ≡ true → (IsPiece (text ++ rest) at count) × (take count (lexemes_of (text ++ rest)) ≡ take count (lexemes_of text))
-piece_followed text rest at count cut empty =
+pub piece_append : (text rest : Text) (at count : ℕ) → IsCutAfter text count at → is_without_margin (drop at text) ≡ true → (IsPiece (text ++ rest) at count) × (take count (lexemes_of (text ++ rest)) ≡ take count (lexemes_of text))
+piece_append text rest at count cut empty =
     let inside : at ≤ length text = omega (arith, cut.inside) in
     let clean = (kept_parts text at cut.is_kept).1 in
     let same : take at (text ++ rest) ≡ take at text = take-append-le at text rest inside in

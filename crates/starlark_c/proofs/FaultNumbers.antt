@@ -8,7 +8,7 @@ use Rattle.starlark_grammar.proofs.Reading.Faults.{outcome_fault}
 use Rattle.starlark_grammar.specs.Reading.{outcome}
 use Rattle.starlark_grammar.specs.Tokens as grammar
 use Rattle.starlark_grammar.specs.Words.{Text, language}
-use Rattle.starlark_syntax.specs.Recovery.{is_tab, restart}
+use Rattle.starlark_grammar.specs.Recovery.{is_tab, restart}
 
 -- the fault of a tab has the number 3
 pub tab_number : (fault : grammar.Fault) → is_tab fault ≡ (fault_number fault == 3)

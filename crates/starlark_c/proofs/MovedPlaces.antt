@@ -1,6 +1,5 @@
 -- Places of texts that go on.
-use Rattle.std.proofs.Common.{◌≡◌, ◌≢◌, ℕ, ◌+◌, ◌^◌, ◌-◌, ◌<◌, ◌≤◌, ◌⊎◌, inl, inr, true, ◌++◌, length, take, take-add, drop, get_or, count_by, length-append, length-drop, refl, ap, sym, ◌∙◌, arith}
-use Rattle.std.proofs.lemmas.Bool.{cases_lt}
+use Rattle.std.proofs.Common.{◌≡◌, ◌≢◌, ℕ, ◌+◌, ◌^◌, ◌-◌, ◌<◌, ◌≤◌, ◌⊎◌, true, ◌++◌, length, take, take-add, drop, get_or, count_by, length-append, length-drop, refl, ap, sym, ◌∙◌, arith}
 use Rattle.std.proofs.lemmas.List.{length-take}
 use Rattle.std.proofs.lemmas.List.Sums.{count_by-le-length}
 use Rattle.std.proofs.lemmas.Str.{IsCharBoundary-after_ascii, IsUtf8-append, IsUtf8-drop, IsUtf8-nil}
@@ -8,7 +7,7 @@ use Rattle.std.specs.List.{slice_range}
 use Rattle.std.specs.Str.{IsUtf8, chars}
 use Rattle.starlark_base.specs.Places.{is_lf, place_after}
 use Rattle.starlark_base.specs.Positions.{starts_pair}
-use Rattle.starlark_base.proofs.Pairs.{front_range, pairs_along, pairs_after_last, pairs_bound}
+use Rattle.starlark_base.proofs.Pairs.{pairs_along, pairs_after_last, pairs_bound}
 use Rattle.starlark_base.proofs.PlacesAlong.{characters_bound, column_bound, is_one_line, line_bound, place_along, place_after_last}
 use Rattle.starlark_c.specs.Endings.{capped}
 use Rattle.starlark_c.specs.Inner.OneLinePlaces.{place_on_line}
@@ -76,11 +75,3 @@ moved_place text from to new between utf8 is =
 pub start_of : (text : Text) → IsPlaceOf text 0 (record { line = 0; column = 0; utf16_column = 0 })
 unfolding place_after chars
 start_of text = record { utf8 = IsUtf8-nil; is = refl }
-
--- where an offset has no place
-pub no_place : (text : Text) (at : ℕ) → ¬ AreCharacters text 0 at → (length text < at) ⊎ (¬ IsUtf8 (take at text))
-no_place text at not = go (cases_lt (length text) at)
-  where
-    go : (length text < at) ⊎ (at ≤ length text) → (length text < at) ⊎ (¬ IsUtf8 (take at text))
-    go (inl past) = inl past
-    go (inr inside) = inr (λ utf8. not (record { order = omega arith; inside = inside; utf8 = rw (front_range text at) utf8 }))

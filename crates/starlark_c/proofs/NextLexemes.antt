@@ -13,7 +13,7 @@ use Rattle.starlark_c.proofs.LastStops.{lacks_next, last_with_room, overflow_las
 use Rattle.starlark_c.proofs.Stops.{all_but, overflow_filled, overflows, stop_stays}
 use Rattle.starlark_grammar.specs.Tokens.{Spanned}
 use Rattle.starlark_grammar.specs.Words.{Text}
-use Rattle.starlark_syntax.specs.Lexer.{LexerView}
+use Rattle.starlark_lexemes.specs.Lexer.{LexerView}
 use Rattle.starlark_token.specs.TokenViews.{TokenView}
 
 -- the first lexemes of a text fill the buffers

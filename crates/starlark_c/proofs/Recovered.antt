@@ -1,5 +1,5 @@
 -- How lexing a text on after its faults ends, by the items that are done and left.
-use Rattle.std.proofs.Common.{◌≡◌, ℕ, ◌+◌, ◌≤◌, List, [], ◌∷◌, ◌++◌, length, take, drop, refl, ap, sym, ◌∙◌, arith, None, Some, inl, inr, append-nil, append_assoc, length-append, slice_get}
+use Rattle.std.proofs.Common.{◌≡◌, ℕ, ◌+◌, ◌≤◌, List, [], ◌∷◌, ◌++◌, length, take, drop, refl, ap, sym, ◌∙◌, arith, Some, inl, inr, append_assoc, length-append}
 use Rattle.std.specs.Prelude.{Result, Ok, Err}
 use Rattle.std.proofs.lemmas.List.{take_at}
 use Rattle.starlark_base.specs.Diagnostics.{Diagnosed}
@@ -16,9 +16,9 @@ use Rattle.starlark_c.proofs.AddedItems.{IsNeed, have_more, have_none, need, no_
 use Rattle.starlark_c.proofs.Filled.{same_length}
 use Rattle.starlark_grammar.specs.Tokens.{Fault, Spanned}
 use Rattle.starlark_grammar.specs.Words.{Text}
-use Rattle.starlark_lexemes.proofs.NextItems.{IsNext, next_none}
-use Rattle.starlark_syntax.specs.Lexer.{Answers, AnswersNext}
-use Rattle.starlark_syntax.specs.RecoveringLexer.{all_items}
+use Rattle.starlark_lexemes.proofs.NextItems.{IsNext}
+use Rattle.starlark_lexemes.specs.Lexer.{Answers}
+use Rattle.starlark_recovery.specs.RecoveringLexer.{all_items}
 use Rattle.starlark_errors.specs.declared.error.kinds.ErrorKind.{ErrorKind}
 use Rattle.starlark_text.specs.declared.or_memory.OrMemory.{OrMemory}
 use Rattle.starlark_text.specs.declared.or_memory.OrMemory.TheVariants as refusal
@@ -63,12 +63,6 @@ begun_len front base now begun = same_length front base now begun.is begun.fits
 pub values_within : (all left : List LexerItem) (before now : Contents) (filled : Counts) → IsDone all left before now filled → filled.values ≤ length now.values
 values_within all left before now filled inv =
     let held = inv.have in omega (arith, ap (λ (c : Counts). c.values) held.counts, held.values.fits, begun_len (contents inv.done).values before.values now.values held.values)
-
--- all items are done
-pub recovers_whole : (file : SourceFile) (text : Text) (left : List LexerItem) (before now : Contents) (filled : Counts) → IsText text → IsDone (all_items text) left before now filled → AnswersNext file (slice_get left 0) None → Recovers text before now (ending.Whole filled)
-recovers_whole file text left before now filled is inv answers =
-    let all : all_items text ≡ inv.done = inv.is ∙ ap (λ xs. inv.done ++ xs) (next_none file left answers) ∙ append-nil inv.done in
-    (is, rw all inv.have)
 
 -- memory ran out before the next item
 pub recovers_memory : (text : Text) (left : List LexerItem) (before now : Contents) (filled : Counts) → IsText text → IsDone (all_items text) left before now filled → Recovers text before now (ending.Memory filled)

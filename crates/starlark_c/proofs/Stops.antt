@@ -12,7 +12,7 @@ use Rattle.starlark_c.specs.declared.fill_state.FillState.{FillState}
 use Rattle.starlark_c.specs.declared.fill_state.CutPoint.{CutPoint}
 use Rattle.starlark_c.proofs.Filled.{front_lexemes, front_records, front_values, front_values_more, same_sizes, values_more}
 use Rattle.starlark_c.proofs.YieldedItems.{IsNext}
-use Rattle.starlark_c.proofs.CutTexts.{piece_at, piece_followed}
+use Rattle.starlark_c.proofs.CutTexts.{piece_at, piece_append}
 use Rattle.starlark_c.proofs.Ends.{ends_fault}
 use Rattle.starlark_grammar.specs.Reading.{outcome}
 use Rattle.starlark_grammar.specs.Tokens.{Fault, Spanned}
@@ -123,7 +123,7 @@ fault_filled text fault progress before after ending.TooLong ends = tt
 cut_there : (text : Text) (after : Buffers) (n : ℕ) (stop : CutPoint) → IsCutPointIn text n stop → n ≤ length (lexemes_of text) → stop.is_front ≡ true → take stop.filled.lexemes after.lexemes ≡ records (take stop.filled.lexemes (lexemes_of text))
     → take (length (values (take stop.filled.lexemes (lexemes_of text)))) after.values ≡ values (take stop.filled.lexemes (lexemes_of text)) → (rest : Text) → IsCut (text ++ rest) after stop.filled stop.at
 cut_there text after n stop here inside front lexemes bytes rest =
-    let both = piece_followed text rest stop.at stop.filled.lexemes here.cut.cut (here.cut.stays front) in
+    let both = piece_append text rest stop.at stop.filled.lexemes here.cut.cut (here.cut.stays front) in
     record {
       count = stop.filled.lexemes;
       few = omega (arith, ap length both.1, length-take stop.filled.lexemes (lexemes_of (text ++ rest)), length-take stop.filled.lexemes (lexemes_of text), here.few, inside);

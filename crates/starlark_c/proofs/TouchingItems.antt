@@ -17,7 +17,7 @@ use Rattle.starlark_grammar.proofs.Found.Order.{found_faults_in_order, found_lex
 use Rattle.starlark_grammar.specs.Found.{found, lexemes_in}
 use Rattle.starlark_grammar.specs.Tokens.{Fault, Spanned}
 use Rattle.starlark_grammar.specs.Words.{Text}
-use Rattle.starlark_syntax.specs.RecoveryLaws.{AreInOrder}
+use Rattle.starlark_grammar.specs.RecoveryLaws.{AreInOrder}
 use Rattle.starlark_token.specs.Lexemes.{shown_lexeme}
 use Rattle.starlark_token.specs.TextItems.{LexerItem, Refused}
 

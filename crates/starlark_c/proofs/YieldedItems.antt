@@ -8,8 +8,8 @@ use Rattle.starlark_c.specs.Endings.{lexemes_of}
 use Rattle.starlark_grammar.specs.Reading.{outcome}
 use Rattle.starlark_grammar.specs.Tokens.{Fault, Lexeme, Spanned}
 use Rattle.starlark_grammar.specs.Words.{Text}
-use Rattle.starlark_syntax.specs.Exceptions.{IsException, IsFaultIn}
-use Rattle.starlark_syntax.specs.Lexer.{AnswersNext}
+use Rattle.starlark_errors.specs.Exceptions.{IsException, IsFaultIn}
+use Rattle.starlark_lexemes.specs.Lexer.{AnswersNext}
 use Rattle.starlark_errors.specs.declared.error.kinds.ErrorKind.{ErrorKind}
 use Rattle.starlark_text.specs.declared.or_memory.OrMemory.TheVariants as refusal
 use Rattle.starlark_token.specs.Lexemes.{lexeme_view, shown_lexeme}

@@ -7,7 +7,7 @@ use Rattle.starlark_c.specs.declared.endings.Ending.{Ending}
 use Rattle.starlark_c.specs.declared.endings.Ending.TheVariants as ending
 use Rattle.starlark_grammar.specs.Margins.{is_blank}
 use Rattle.starlark_grammar.specs.Words.{Text}
-use Rattle.starlark_syntax.specs.CutAfter.{IsCutAfter}
+use Rattle.starlark_lexemes.specs.CutAfter.{IsCutAfter}
 
 -- A text whose first line begins with neither a blank nor a comment. Its first margin is empty, whatever follows.
 unfoldable pub is_without_margin : Text → Bool

@@ -1,3 +1,4 @@
+pub mod KindClasses
 pub mod Kinds
 pub mod Records
 pub mod Endings

@@ -5,7 +5,7 @@ use Rattle.starlark_c.specs.Records.{fault_number}
 use Rattle.starlark_grammar.specs.Reading.{outcome}
 use Rattle.starlark_grammar.specs.Tokens.{Fault, Spanned}
 use Rattle.starlark_grammar.specs.Words.{Text}
-use Rattle.starlark_syntax.specs.Recovery.{restart}
+use Rattle.starlark_grammar.specs.Recovery.{restart}
 
 -- the offsets and the kind of a fault, as an outcome tells them
 pub record AreOf (fault : Spanned Fault) (begin end kind : ℕ) : Type 0 where

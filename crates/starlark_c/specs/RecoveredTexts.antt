@@ -10,7 +10,7 @@ use Rattle.starlark_c.specs.declared.recovered_endings.RecoveredEnding.TheVarian
 use Rattle.starlark_c.specs.declared.recovered_outcomes.FoundFault.{FoundFault}
 use Rattle.starlark_grammar.specs.Tokens as grammar
 use Rattle.starlark_grammar.specs.Words.{Text}
-use Rattle.starlark_syntax.specs.RecoveringLexer.{all_items}
+use Rattle.starlark_recovery.specs.RecoveringLexer.{all_items}
 use Rattle.starlark_token.specs.TextItems.{LexerItem, Given, Refused}
 
 -- what is in the three buffers: records of lexemes, the bytes of values, and records of faults

@@ -3,7 +3,7 @@
 ghost use Rattle.std.specs.Prelude.{◌≡◌};
 ghost use Rattle.starlark_c.specs.Inner.Filling.{ends_line, wanted_with};
 ghost use Rattle.starlark_grammar.specs.Words.{Text};
-ghost use Rattle.starlark_syntax.specs.PlainLexemes.{IsPlainIn, plain_view};
+ghost use Rattle.starlark_lexemes.specs.PlainLexemes.{IsPlainIn, plain_view};
 ghost use Rattle.starlark_token.specs.TokenViews.{token_view};
 
 use crate::endings::Filled;
@@ -52,8 +52,8 @@ pub fn want_lexeme(filled: Filled, lexeme: (usize, Token, usize)) -> Filled
     want(filled, &lexeme.1)
 }
 
-/// Whether a plain lexeme is the last of its line, and so can be the last before a cut: a `Newline`,
-/// or the comment of a comment-only line.
+/// Whether a plain lexeme can be the last of its line, and so the last before a cut: a `Newline`, or a
+/// comment.
 #[inline(always)]
 pub fn is_last_of_line(plain: PlainLexeme) -> bool
     ensures { (text : Text) → result ≡ ends_line (plain_view text plain).node }

@@ -9,10 +9,10 @@ ghost use Rattle.starlark_c.specs.Kinds.{token_number};
 ghost use Rattle.starlark_c.specs.Records.{fault_bytes, value_bytes, values};
 ghost use Rattle.starlark_grammar.specs.Reading.{outcome};
 ghost use Rattle.starlark_grammar.specs.Tokens.{Fault as GrammarFault, Spanned};
-ghost use Rattle.starlark_syntax.specs.CutAfter.{IsCutAfter, KnowsCut};
-ghost use Rattle.starlark_syntax.specs.Exceptions.{IsException, IsFaultIn};
+ghost use Rattle.starlark_lexemes.specs.CutAfter.{IsCutAfter, KnowsCut};
+ghost use Rattle.starlark_errors.specs.Exceptions.{IsException, IsFaultIn};
 ghost use Rattle.starlark_grammar.specs.Words.{Text};
-ghost use Rattle.starlark_syntax.specs.PlainLexemes.{IsPlainIn, plain_view, token_of};
+ghost use Rattle.starlark_lexemes.specs.PlainLexemes.{IsPlainIn, plain_view, token_of};
 ghost use Rattle.starlark_token.specs.Lexemes.{fault_view, lexeme_view};
 ghost use Rattle.starlark_token.specs.TokenViews.{token_view};
 
@@ -48,6 +48,7 @@ pub fn put_bytes(values: &mut [u8], at: usize, bytes: &[u8]) -> Option<usize>
 /// Puts a lexeme after what fills the buffers, and returns what fills them then.
 ///
 /// `None`, and nothing changes, where there is no room.
+// Always, as what it calls: as calls these cost 18 % of a mix.
 #[inline(always)]
 pub fn put_lexeme(
     lexemes: &mut [LexemeRecord],

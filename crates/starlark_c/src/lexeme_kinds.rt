@@ -3,7 +3,7 @@
 ghost use Rattle.std.specs.Prelude.{◌≡◌};
 ghost use Rattle.starlark_c.specs.Kinds.{kind_name, kind_number, terminal_number, token_number};
 ghost use Rattle.starlark_grammar.specs.Words.{Text};
-ghost use Rattle.starlark_syntax.specs.PlainLexemes.{token_of};
+ghost use Rattle.starlark_lexemes.specs.PlainLexemes.{token_of};
 ghost use Rattle.starlark_token.specs.TokenViews.{token_view};
 
 use starlark_grammar::{match_terminals, terminals};
@@ -18,7 +18,7 @@ macro_rules! number_of {
 /// arms.
 macro_rules! name_by_number {
     (($kind:ident, { $($arms:tt)* })
-    symbols { $($len:literal { $($bytes:tt $text:literal $symbol:ident = $number:literal,)* })* }
+    symbols { $($len:literal { $($bytes:tt $text:literal $symbol:ident = $number:literal $class:ident,)* })* }
     names { $($name_len:literal {
         $($name:literal $word:literal $keyword:ident = $keyword_number:literal,)*;
         $($reserved:literal $reserved_text:literal),*

@@ -12,6 +12,7 @@ ghost use Rattle.starlark_c.specs.Endings.{Ends, EndsFront};
 ghost use Rattle.starlark_c.specs.NumberedCodes.{code_at};
 ghost use Rattle.starlark_c.specs.FinalFaults.{IsFinal};
 ghost use Rattle.starlark_c.specs.HeldDocuments.{held_len};
+ghost use Rattle.starlark_c.specs.KindClasses.{kind_class};
 ghost use Rattle.starlark_c.specs.Kinds.{NamesTokens, kind_name};
 ghost use Rattle.starlark_c.specs.LastCuts.{StopsAtLastCut};
 ghost use Rattle.starlark_c.specs.Messages.{TellsErrors, fault_message};
@@ -38,6 +39,7 @@ mod fill_state;
 mod filling;
 mod final_faults;
 mod handle;
+mod kind_classes;
 mod lexeme_kinds;
 mod lexing;
 mod library_version;
@@ -61,6 +63,7 @@ use crate::document_items::{fill_faults_of, fill_lexemes_of};
 use crate::document_slots::DocumentSlot;
 use crate::fault_codes::code_of_fault;
 use crate::final_faults::is_final;
+use crate::kind_classes::kind_class_number;
 use crate::lexeme_kinds::name_of_kind;
 use crate::lexing::{lex_front, lex_into};
 use crate::library_version::{MAJOR, MINOR, PATCH, version};
@@ -158,6 +161,17 @@ pub extern "C" fn starlark_kind_name(kind: u32, name: &mut [u8]) -> usize
     ensures tokens { NamesTokens kind }
 {
     write_text(name_of_kind(kind), name)
+}
+
+/// The class of the kind with a number, by the class's own number; 0 where no kind has the number.
+///
+/// A class is what a kind is to a highlighter, an editor or a parser: a keyword, an operator, and so
+/// on.
+#[unsafe(no_mangle)]
+pub extern "C" fn starlark_kind_class(kind: u32) -> u32
+    ensures { result ≡ kind_class kind }
+{
+    kind_class_number(kind)
 }
 
 /// Writes the message of a fault into a buffer, if it has room for it.

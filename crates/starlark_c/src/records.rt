@@ -4,7 +4,7 @@ ghost use Rattle.std.specs.Prelude.{◌≡◌, ◌<◌, ◌≤◌, ◌+◌, ◌^
 ghost use Rattle.starlark_c.specs.Kinds.{token_number};
 ghost use Rattle.starlark_c.specs.Records.{detail, fault_bytes, fault_number, integer, quotes_number, record_of, value_bytes};
 ghost use Rattle.starlark_grammar.specs.Words.{Text};
-ghost use Rattle.starlark_syntax.specs.PlainLexemes.{IsPlainIn, plain_view, token_of};
+ghost use Rattle.starlark_lexemes.specs.PlainLexemes.{IsPlainIn, plain_view, token_of};
 ghost use Rattle.starlark_token.specs.Lexemes.{fault_view, lexeme_view};
 ghost use Rattle.starlark_token.specs.TokenViews.{fstring_quote_view, token_view};
 

@@ -10,9 +10,9 @@ ghost use Rattle.starlark_c.specs.declared.recovered_outcomes.FoundFault.{FoundF
 ghost use Rattle.starlark_c.specs.declared.records.LexemeRecord.{LexemeRecord};
 ghost use Rattle.starlark_grammar.specs.Tokens.{Fault as GrammarFault, Spanned};
 ghost use Rattle.starlark_grammar.specs.Words.{Text};
-ghost use Rattle.starlark_syntax.specs.Exceptions.{IsException};
-ghost use Rattle.starlark_syntax.specs.Lexer.{Answers, AnswersWithin};
-ghost use Rattle.starlark_syntax.specs.RecoveringLexer.{all_items, left_after};
+ghost use Rattle.starlark_errors.specs.Exceptions.{IsException};
+ghost use Rattle.starlark_lexemes.specs.Lexer.{Answers, AnswersWithin};
+ghost use Rattle.starlark_recovery.specs.RecoveringLexer.{all_items, left_after};
 ghost use Rattle.starlark_text.specs.declared.or_memory.OrMemory.TheVariants as refusal;
 ghost use Rattle.starlark_token.specs.Lexemes.{lexeme_view};
 ghost use Rattle.starlark_token.specs.TextItems.{Given, LexerItem, Refused};

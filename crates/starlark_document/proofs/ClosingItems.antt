@@ -15,7 +15,7 @@ use Rattle.starlark_grammar.proofs.Found.CutItems.{newlines_cut_found}
 use Rattle.starlark_grammar.proofs.Found.Cuts.{last_newlines_close, newlines_close}
 use Rattle.starlark_grammar.proofs.Found.Order.{none_lexemes}
 use Rattle.starlark_grammar.proofs.Recovery.LineCuts.{left_out_later}
-use Rattle.starlark_syntax.specs.RecoveringLexer.{all_items, shown_item}
+use Rattle.starlark_recovery.specs.RecoveringLexer.{all_items, shown_item}
 use Rattle.starlark_lexed_text.proofs.LastNewlines.{same_newline}
 use Rattle.starlark_token.specs.Lexemes.{shown, shown_lexeme}
 use Rattle.starlark_token.specs.TextItems.{Given, LexerItem}

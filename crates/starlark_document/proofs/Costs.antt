@@ -9,7 +9,7 @@ use Rattle.starlark_document.specs.Inner.Costs.{IsCostSoFar, IsPaid, IsPartCost,
 use Rattle.starlark_document.specs.declared.segment_lexing.LexingCost.{LexingCost}
 use Rattle.starlark_document.specs.declared.segments.Segment.{Segment}
 use Rattle.starlark_grammar.specs.Words.{Text}
-use Rattle.starlark_syntax.specs.RecoveringLexer.{AreReadsOn, HasReadOn, is_memory}
+use Rattle.starlark_recovery.specs.RecoveringLexer.{AreReadsOn, HasReadOn, is_memory}
 use Rattle.starlark_errors.specs.declared.error.kinds.ErrorKind.{ErrorKind}
 use Rattle.starlark_text.specs.declared.or_memory.OrMemory.{OrMemory}
 use Rattle.starlark_text.specs.declared.or_memory.OrMemory.TheVariants.{Error, Memory}
@@ -42,9 +42,6 @@ most_sum len first second most inside some =
 -- the bound of the texts so far holds in a longer text
 most_longer : (len longer starts lexed : ℕ) → len ≤ longer → lexed ≤ starts * len → lexed ≤ starts * longer
 most_longer len longer starts lexed order most = omega (arith, most, mul-le starts len starts longer (omega arith) order)
-
-pub so_far_none : (len : ℕ) → IsCostSoFar len (record { lexed = 0; starts = 0; reads = 0 })
-so_far_none len = record { most = omega arith; few = omega arith; paid = omega arith }
 
 -- one text more, from which another one goes on
 pub so_far_more : (len longer rest : ℕ) (first second : LexingCost) → len ≤ longer → rest ≤ len → 0 < rest → IsCostSoFar len first → IsTextCost rest second → IsCostSoFar longer (cost_sum first second)

@@ -27,13 +27,13 @@ all_taken [] (suc at) less = refl
 all_taken (edit ∷ edits) zero less = absurd (omega (arith, less))
 all_taken (edit ∷ edits) (suc at) less = ap (λ es. edit_view edit ∷ es) (all_taken edits at (omega (arith, less)))
 
-after_both : (first second : List (ℕ × ℕ × Text)) (text : Text) → text_after (first ++ second) text ≡ text_after second (text_after first text)
-after_both [] second text = refl
-after_both (edit ∷ first) second text = after_both first second (edited edit.0 edit.1 edit.2 text)
+after_append : (first second : List (ℕ × ℕ × Text)) (text : Text) → text_after (first ++ second) text ≡ text_after second (text_after first text)
+after_append [] second text = refl
+after_append (edit ∷ first) second text = after_append first second (edited edit.0 edit.1 edit.2 text)
 
-edits_both : (text : Text) (first second : List (ℕ × ℕ × Text)) → AreEdits text first → AreEdits (text_after first text) second → AreEdits text (first ++ second)
-edits_both text [] second one other = other
-edits_both text (edit ∷ first) second one other = (one.0, edits_both (edited edit.0 edit.1 edit.2 text) first second one.1 other)
+edits_append : (text : Text) (first second : List (ℕ × ℕ × Text)) → AreEdits text first → AreEdits (text_after first text) second → AreEdits text (first ++ second)
+edits_append text [] second one other = other
+edits_append text (edit ∷ first) second one other = (one.0, edits_append (edited edit.0 edit.1 edit.2 text) first second one.1 other)
 
 -- What `edit` returns says whether the edit can be made
 
@@ -76,8 +76,8 @@ made_more text old new edits at none result change less are after is changes bad
     let one = made old new edit result change is changes bad long in
     let taken : take (at + 1) (map edit_view edits) ≡ before ++ (edit_view edit ∷ []) = ap (λ n. take n (map edit_view edits)) (add-one at) ∙ one_more edits at none less in (
       omega (arith, less),
-      subst (AreEdits text) (sym taken) (edits_both text before (edit_view edit ∷ []) are (subst (λ (t : Text). IsEdit t (edit_view edit)) after one.0, tt)),
-      one.1 ∙ ap (text_after (edit_view edit ∷ [])) after ∙ sym (after_both before (edit_view edit ∷ []) text) ∙ ap (λ es. text_after es text) (sym taken),
+      subst (AreEdits text) (sym taken) (edits_append text before (edit_view edit ∷ []) are (subst (λ (t : Text). IsEdit t (edit_view edit)) after one.0, tt)),
+      one.1 ∙ ap (text_after (edit_view edit ∷ [])) after ∙ sym (after_append before (edit_view edit ∷ []) text) ∙ ap (λ es. text_after es text) (sym taken),
     )
 
 error_is : (result : Result Change EditError) (first second : EditError) → result ≡ Err first → result ≡ Err second → first ≡ second

@@ -9,13 +9,13 @@ use Rattle.starlark_document.specs.Inner.LexedFronts.{IsFirstSegment, IsLexedFro
 use Rattle.starlark_document.specs.Inner.Segments.{AreFaults, text_in}
 use Rattle.starlark_document.specs.declared.lexed_fronts.LexedFront.{LexedFront}
 use Rattle.starlark_document.specs.declared.segments.Segment.{Segment}
-use Rattle.starlark_document.proofs.FrontItems.{refused_both}
+use Rattle.starlark_document.proofs.FrontItems.{refused_append}
 use Rattle.starlark_document.proofs.SegmentLaws.{items_are_found, items_close, items_cut}
 use Rattle.starlark_document.proofs.LineEndings.{without_shown}
 use Rattle.starlark_grammar.specs.Words.{Text}
-use Rattle.starlark_syntax.specs.Joining.{begins_plainly, without_last_newline}
+use Rattle.starlark_grammar.specs.Joining.{begins_plainly, without_last_newline}
 use Rattle.starlark_grammar.specs.Found.{Empty, IsClosed, faults_in, found, lexemes_in}
-use Rattle.starlark_syntax.specs.RecoveringLexer.{all_items}
+use Rattle.starlark_recovery.specs.RecoveringLexer.{all_items}
 use Rattle.starlark_token.specs.Lexemes.{lexeme_view, shown_lexeme}
 use Rattle.starlark_token.specs.TextItems.{LexerItem, Given, Refused}
 
@@ -110,7 +110,7 @@ cut_first text is_last items item more front segment all is is_cut other same le
     subst (λ n. map shown_lexeme (without_last_newline (lexemes_in (found (take n text)))) ≡ given_of (ends.front ++ (Given ends.newline ∷ ends.dedents))) ends.end cut.1 in
     let len_in : segment.len ≡ length (text_in segment) = len ∙ sym (length-take-le front.line_end text is.within) ∙ sym (ap length same) in
     let refused : faults_in (found (take front.line_end text)) ≡ refused_of items =
-    subst (λ n. faults_in (found (take n text)) ≡ refused_of ends.front) ends.end cut.2 ∙ sym (ap refused_of ends.items ∙ refused_both ends.front (Given ends.newline ∷ ends.dedents) ∙ ap (λ fs. refused_of ends.front ++ fs) (no_faults ends.dedents ends.are_dedents) ∙ append-nil (refused_of ends.front)) in
+    subst (λ n. faults_in (found (take n text)) ≡ refused_of ends.front) ends.end cut.2 ∙ sym (ap refused_of ends.items ∙ refused_append ends.front (Given ends.newline ∷ ends.dedents) ∙ ap (λ fs. refused_of ends.front ++ fs) (no_faults ends.dedents ends.are_dedents) ∙ append-nil (refused_of ends.front)) in
     record {
       within = omega (arith, len, is.within);
       text = rw len same;

@@ -15,10 +15,10 @@ use Rattle.starlark_grammar.specs.Words.{Text}
 use Rattle.starlark_grammar.proofs.Found.JoinedTexts.{found_joins}
 use Rattle.starlark_grammar.proofs.Found.Order.{found_faults_in_order, found_lexemes_in_order}
 use Rattle.starlark_grammar.proofs.Recovery.Order.{order_inside}
-use Rattle.starlark_syntax.specs.Joining.{begins_plainly, has_newline, recovered_joined, without_last_newline}
+use Rattle.starlark_grammar.specs.Joining.{begins_plainly, has_newline, recovered_joined, without_last_newline}
 use Rattle.starlark_grammar.specs.Found.{faults_in, found, lexemes_in, parted}
 use Rattle.starlark_grammar.specs.Recovery.{Recovered}
-use Rattle.starlark_syntax.specs.RecoveryLaws.{AreInOrder, IsInside}
+use Rattle.starlark_grammar.specs.RecoveryLaws.{AreInOrder, IsInside}
 use Rattle.starlark_token.specs.Lexemes.{lexeme_view, shown_lexeme}
 use Rattle.starlark_token.specs.declared.tokens.Token.{Token}
 
@@ -34,7 +34,7 @@ map_shown n (lexeme ∷ lexemes) = ap (λ ls. shown_lexeme (moved n lexeme) ∷ 
 
 -- The text of the segments after one
 
-plain_append : (first second : Text) → begins_plainly first ≡ true → begins_plainly (first ++ second) ≡ true
+pub plain_append : (first second : Text) → begins_plainly first ≡ true → begins_plainly (first ++ second) ≡ true
 unfolding begins_plainly
 plain_append [] second plain = cc
 plain_append (b ∷ bs) second plain = plain

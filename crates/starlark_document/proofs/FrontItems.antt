@@ -11,9 +11,9 @@ use Rattle.starlark_document.specs.declared.lexed_fronts.LexedFront.{LexedFront}
 use Rattle.starlark_document.specs.declared.segments.PlacedFault.{PlacedFault}
 use Rattle.starlark_grammar.specs.Tokens as grammar
 use Rattle.starlark_grammar.specs.Words.{Text}
-use Rattle.starlark_syntax.specs.Joining.{begins_plainly}
-use Rattle.starlark_syntax.specs.Exceptions.{IsException}
-use Rattle.starlark_syntax.specs.Lexer.{Answers}
+use Rattle.starlark_grammar.specs.Joining.{begins_plainly}
+use Rattle.starlark_errors.specs.Exceptions.{IsException}
+use Rattle.starlark_lexemes.specs.Lexer.{Answers}
 use Rattle.starlark_errors.specs.declared.error.kinds.ErrorKind.{ErrorKind}
 use Rattle.starlark_text.specs.declared.or_memory.OrMemory.TheVariants as refusal
 use Rattle.starlark_token.specs.Lexemes.{lexeme_view}
@@ -22,15 +22,15 @@ use Rattle.starlark_token.specs.TokenViews.{TokenView, Whole, is_newline_view, t
 use Rattle.starlark_token.specs.declared.tokens.Token.{Token}
 
 -- the lexemes and faults of two lists of items
-pub given_both : (one other : List LexerItem) → given_of (one ++ other) ≡ given_of one ++ given_of other
-given_both [] other = refl
-given_both (Given lexeme ∷ one) other = ap (λ ls. lexeme ∷ ls) (given_both one other)
-given_both (Refused fault ∷ one) other = given_both one other
+pub given_append : (one other : List LexerItem) → given_of (one ++ other) ≡ given_of one ++ given_of other
+given_append [] other = refl
+given_append (Given lexeme ∷ one) other = ap (λ ls. lexeme ∷ ls) (given_append one other)
+given_append (Refused fault ∷ one) other = given_append one other
 
-pub refused_both : (one other : List LexerItem) → refused_of (one ++ other) ≡ refused_of one ++ refused_of other
-refused_both [] other = refl
-refused_both (Given lexeme ∷ one) other = refused_both one other
-refused_both (Refused fault ∷ one) other = ap (λ fs. fault ∷ fs) (refused_both one other)
+pub refused_append : (one other : List LexerItem) → refused_of (one ++ other) ≡ refused_of one ++ refused_of other
+refused_append [] other = refl
+refused_append (Given lexeme ∷ one) other = refused_append one other
+refused_append (Refused fault ∷ one) other = ap (λ fs. fault ∷ fs) (refused_append one other)
 
 -- a fault more
 are_faults_more : (faults : List (grammar.Spanned grammar.Fault)) (placed : List PlacedFault) (fault : grammar.Spanned grammar.Fault) (one : PlacedFault)
@@ -78,8 +78,8 @@ pub front_more : (text : Text) (items : List LexerItem) (old new : LexedFront) (
     → new.lexemes.items ≡ old.lexemes.items ++ (lexeme ∷ []) → new.faults ≡ old.faults → new.line_end ≡ old.line_end → new.is_cut ≡ old.is_cut
     → IsLexedFront text (items ++ (Given (lexeme_view lexeme) ∷ [])) new
 front_more text items old new lexeme is dedent lexemes faults line_end is_cut = record {
-  lexemes = ap (map lexeme_view) lexemes ∙ map-append lexeme_view old.lexemes.items (lexeme ∷ []) ∙ ap (λ ls. ls ++ (lexeme_view lexeme ∷ [])) is.lexemes ∙ sym (given_both items (Given (lexeme_view lexeme) ∷ []));
-  faults = rw (faults, refused_both items (Given (lexeme_view lexeme) ∷ []), append-nil (refused_of items)) is.faults;
+  lexemes = ap (map lexeme_view) lexemes ∙ map-append lexeme_view old.lexemes.items (lexeme ∷ []) ∙ ap (λ ls. ls ++ (lexeme_view lexeme ∷ [])) is.lexemes ∙ sym (given_append items (Given (lexeme_view lexeme) ∷ []));
+  faults = rw (faults, refused_append items (Given (lexeme_view lexeme) ∷ []), append-nil (refused_of items)) is.faults;
   line_end = λ l. rw line_end (line_more items old.line_end (Given (lexeme_view lexeme)) (is.line_end (rw line_end at l)));
   within = rw line_end is.within;
   boundary = λ l. rw line_end (is.boundary (rw line_end at l));
@@ -93,8 +93,8 @@ pub front_line : (text : Text) (items : List LexerItem) (old new : LexedFront) (
     → new.lexemes.items ≡ old.lexemes.items ++ (lexeme ∷ []) → new.faults ≡ old.faults → new.line_end ≡ lexeme.2
     → IsLexedFront text (items ++ (Given (lexeme_view lexeme) ∷ [])) new
 front_line text items old new lexeme is newline some within boundary plain lexemes faults line_end = record {
-  lexemes = ap (map lexeme_view) lexemes ∙ map-append lexeme_view old.lexemes.items (lexeme ∷ []) ∙ ap (λ ls. ls ++ (lexeme_view lexeme ∷ [])) is.lexemes ∙ sym (given_both items (Given (lexeme_view lexeme) ∷ []));
-  faults = rw (faults, refused_both items (Given (lexeme_view lexeme) ∷ []), append-nil (refused_of items)) is.faults;
+  lexemes = ap (map lexeme_view) lexemes ∙ map-append lexeme_view old.lexemes.items (lexeme ∷ []) ∙ ap (λ ls. ls ++ (lexeme_view lexeme ∷ [])) is.lexemes ∙ sym (given_append items (Given (lexeme_view lexeme) ∷ []));
+  faults = rw (faults, refused_append items (Given (lexeme_view lexeme) ∷ []), append-nil (refused_of items)) is.faults;
   line_end = λ l. record {
     front = items;
     newline = lexeme_view lexeme;
@@ -123,8 +123,8 @@ pub front_fault : (text : Text) (items : List LexerItem) (old new : LexedFront) 
     → new.lexemes ≡ old.lexemes → new.faults.items ≡ old.faults.items ++ (placed ∷ []) → new.line_end ≡ old.line_end → new.is_cut ≡ old.is_cut
     → IsLexedFront text (items ++ (Refused fault ∷ [])) new
 front_fault text items old new fault placed is dedent is_placed lexemes faults line_end is_cut = record {
-  lexemes = rw (lexemes, given_both items (Refused fault ∷ []), append-nil (given_of items)) is.lexemes;
-  faults = rw (faults, refused_both items (Refused fault ∷ [])) (are_faults_more (refused_of items) old.faults.items fault placed is.faults is_placed);
+  lexemes = rw (lexemes, given_append items (Refused fault ∷ []), append-nil (given_of items)) is.lexemes;
+  faults = rw (faults, refused_append items (Refused fault ∷ [])) (are_faults_more (refused_of items) old.faults.items fault placed is.faults is_placed);
   line_end = λ l. rw line_end (line_more items old.line_end (Refused fault) (is.line_end (rw line_end at l)));
   within = rw line_end is.within;
   boundary = λ l. rw line_end (is.boundary (rw line_end at l));

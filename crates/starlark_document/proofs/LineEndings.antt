@@ -5,7 +5,7 @@ use Rattle.std.specs.Prelude.{slice_index_or}
 use Rattle.starlark_document.specs.Inner.LexedFronts.{has_newline_view, last_newline_at, without_newline}
 use Rattle.starlark_grammar.specs.Cuts.{is_newline}
 use Rattle.starlark_grammar.specs.Tokens as grammar
-use Rattle.starlark_syntax.specs.Joining.{has_newline, without_last_newline}
+use Rattle.starlark_grammar.specs.Joining.{has_newline, without_last_newline}
 use Rattle.starlark_token.specs.Lexemes.{lexeme_view, shown_lexeme}
 use Rattle.starlark_token.specs.TokenViews.{is_newline_view, token_view}
 use Rattle.starlark_token.specs.declared.tokens.Token.{Token}

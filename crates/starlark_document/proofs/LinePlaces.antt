@@ -80,10 +80,10 @@ unfolding EndsLines
 closed_lines [] closed = inl refl
 closed_lines (b ∷ bs) closed = inr (ends_line_front (b ∷ bs) (ends_line_of (b ∷ bs) (closed_ends (b ∷ bs) closed (omega arith))))
 
-lines_joined : (first second : Text) → EndsLines first → EndsLines second → EndsLines (first ++ second)
+lines_append : (first second : Text) → EndsLines first → EndsLines second → EndsLines (first ++ second)
 unfolding EndsLines
-lines_joined first second ends (inl none) = subst EndsLines (sym (append-nil first) ∙ ap (λ (t : Text). first ++ t) (sym none)) ends
-lines_joined first second ends (inr more) =
+lines_append first second ends (inl none) = subst EndsLines (sym (append-nil first) ∙ ap (λ (t : Text). first ++ t) (sym none)) ends
+lines_append first second ends (inr more) =
     inr (first ++ more.0, ap (λ (t : Text). first ++ t) more.1 ∙ sym (append_assoc first more.0 (10 ∷ [])))
 
 -- segments that others follow end with a line
@@ -91,7 +91,7 @@ pub open_lines : (is_first : Bool) (segments : List Segment) → AreOpen is_firs
 unfolding EndsLines
 open_lines is_first [] are_open = inl refl
 open_lines is_first (segment ∷ more) are_open =
-    lines_joined (text_in segment) (text_of more) (closed_lines (text_in segment) are_open.1.is_closed) (open_lines false more are_open.2)
+    lines_append (text_in segment) (text_of more) (closed_lines (text_in segment) are_open.1.is_closed) (open_lines false more are_open.2)
 
 -- what passes a test before an element that doesn't
 prefix_stopped : (p : ℕ → Bool) (xs ys : Text) (y : ℕ) → p y ≡ false → prefix_len p (xs ++ y ∷ ys) ≡ prefix_len p xs
@@ -206,16 +206,7 @@ position_bounds text to position utf8 cut is =
     length-take-within : (xs : Text) (n : ℕ) → length (take n xs) ≤ length xs
     length-take-within xs n = omega (arith, length-append (take n xs) (drop n xs), ap length (take-append-drop n xs))
 
--- a position stands where its counts say, …
-pub stands_of : (text : Text) (position : Position) (at : ℕ) → IsCharBoundary text at → position ≡ position_at text at
-    → StandsAt text position.place.line (position.place.column + position.pairs) at
-stands_of text position at cut is = record {
-  boundary = cut;
-  line = ap (λ (p : Position). p.place.line) (sym is);
-  column = ap (λ (p : Position). p.place.column + p.pairs) (sym is);
-}
-
--- … and nowhere else
+-- a position stands at no other line and column
 pub stands_same : (text : Text) (position : Position) (on column at : ℕ) → position ≡ position_at text at → StandsAt text on column at
     → (position.place.line ≡ on) × (position.place.column + position.pairs ≡ column)
 stands_same text position on column at is stands =

@@ -1,4 +1,5 @@
 -- What an edit leaves as it was.
+use Rattle.starlark_document.proofs.LaidSegments.{text_append}
 use Rattle.std.proofs.Common.{◌≡◌, ℕ, ◌+◌, ◌≤◌, true, List, [], ◌∷◌, ◌++◌, map, length, refl, ap, ◌∙◌, sym, arith, append_assoc, length-append}
 use Rattle.std.proofs.lemmas.List.{map-append}
 use Rattle.std.specs.List.{AllByRecursion}
@@ -13,10 +14,6 @@ use Rattle.starlark_grammar.specs.Found.{faults_in, found}
 use Rattle.starlark_token.specs.Lexemes.{lexeme_view}
 use Rattle.starlark_token.specs.TokenViews.{TokenView}
 use Rattle.starlark_token.specs.declared.tokens.Token.{Token}
-
-pub text_both : (xs ys : List Segment) → text_of (xs ++ ys) ≡ text_of xs ++ text_of ys
-text_both [] ys = refl
-text_both (segment ∷ xs) ys = ap (λ t. text_in segment ++ t) (text_both xs ys) ∙ sym (append_assoc (text_in segment) (text_of xs) (text_of ys))
 
 -- Spans that are found in each of some segments, lexemes or faults
 
@@ -77,17 +74,17 @@ all_later : {A : Type 0} (P : A → Type 0) (xs ys : List A) → AllByRecursion 
 all_later P [] ys all = all
 all_later P (x ∷ xs) ys all = all_later P xs ys all.1
 
-all_both : {A : Type 0} (P : A → Type 0) (xs ys : List A) → AllByRecursion P xs → AllByRecursion P ys → AllByRecursion P (xs ++ ys)
-all_both P [] ys one other = other
-all_both P (x ∷ xs) ys one other = (one.0, all_both P xs ys one.1 other)
+all_append : {A : Type 0} (P : A → Type 0) (xs ys : List A) → AllByRecursion P xs → AllByRecursion P ys → AllByRecursion P (xs ++ ys)
+all_append P [] ys one other = other
+all_append P (x ∷ xs) ys one other = (one.0, all_append P xs ys one.1 other)
 
-along_both : {A : Type 0} (found : SpansIn A) (n : ℕ) (xs ys : List Segment) → AllByRecursion (EndsIn found) xs
+along_append : {A : Type 0} (found : SpansIn A) (n : ℕ) (xs ys : List Segment) → AllByRecursion (EndsIn found) xs
     → along found n (xs ++ ys) ≡ along found n xs ++ along found (n + length (text_of xs)) ys
-along_both found n [] ys all = ap (λ k. along found k ys) (omega arith)
-along_both found n (segment ∷ xs) ys all =
+along_append found n [] ys all = ap (λ k. along found k ys) (omega arith)
+along_append found n (segment ∷ xs) ys all =
     let len = all.0.0 in
     let start : (n + segment.len) + length (text_of xs) ≡ n + length (text_of (segment ∷ xs)) = omega (arith, len, length-append (text_in segment) (text_of xs)) in
-    ap (λ l. map (moved n) (found segment) ++ l) (along_both found (n + segment.len) xs ys all.1)
+    ap (λ l. map (moved n) (found segment) ++ l) (along_append found (n + segment.len) xs ys all.1)
     ∙ sym (append_assoc (map (moved n) (found segment)) (along found (n + segment.len) xs) (along found ((n + segment.len) + length (text_of xs)) ys))
     ∙ ap (λ k. (map (moved n) (found segment) ++ along found (n + segment.len) xs) ++ along found k ys) start
 
@@ -109,7 +106,7 @@ along_inside found begin n end [] all less fits = tt
 along_inside {A} found begin n end (segment ∷ xs) all less fits =
     let len = all.0.0 in
     let total = length-append (text_in segment) (text_of xs) in
-    all_both (λ (x : Spanned A). (begin ≤ x.begin) × (x.end ≤ end)) (map (moved n) (found segment)) (along found (n + segment.len) xs)
+    all_append (λ (x : Spanned A). (begin ≤ x.begin) × (x.end ≤ end)) (map (moved n) (found segment)) (along found (n + segment.len) xs)
     (inside_moved begin n (length (text_in segment)) end (found segment) less (omega (arith, total, fits)) all.0.1)
     (along_inside found begin (n + segment.len) end xs all.1 (omega (arith, less)) (omega (arith, total, len, fits)))
 
@@ -122,10 +119,10 @@ along_parts found before inner after all =
     let at : ℕ = length (text_of before) in
     let start : 0 + at ≡ at = omega arith in
     let end : length (text_of (before ++ inner)) + 0 ≡ at + length (text_of inner) =
-    omega (arith, ap length (text_both before inner), length-append (text_of before) (text_of inner)) in
-    along_both found 0 before (inner ++ after) (all_first (EndsIn found) before (inner ++ after) all)
+    omega (arith, ap length (text_append before inner), length-append (text_of before) (text_of inner)) in
+    along_append found 0 before (inner ++ after) (all_first (EndsIn found) before (inner ++ after) all)
     ∙ ap (λ k. along found 0 before ++ along found k (inner ++ after)) start
-    ∙ ap (λ l. along found 0 before ++ l) (along_both found at inner after (all_first (EndsIn found) inner after (all_later (EndsIn found) before (inner ++ after) all)))
+    ∙ ap (λ l. along found 0 before ++ l) (along_append found at inner after (all_first (EndsIn found) inner after (all_later (EndsIn found) before (inner ++ after) all)))
     ∙ ap (λ l. along found 0 before ++ (along found at inner ++ l)) (along_moved found (length (text_of (before ++ inner))) 0 (at + length (text_of inner)) after end)
 
 inner_inside : {A : Type 0} (found : SpansIn A) (before inner after : List Segment) → AllByRecursion (EndsIn found) (before ++ (inner ++ after))
@@ -133,7 +130,7 @@ inner_inside : {A : Type 0} (found : SpansIn A) (before inner after : List Segme
 inner_inside found before inner after all =
     along_inside found (length (text_of before)) (length (text_of before)) (length (text_of (before ++ inner))) inner
     (all_first (EndsIn found) inner after (all_later (EndsIn found) before (inner ++ after) all)) (omega arith)
-    (omega (arith, ap length (text_both before inner), length-append (text_of before) (text_of inner)))
+    (omega (arith, ap length (text_append before inner), length-append (text_of before) (text_of inner)))
 
 outside : {A : Type 0} (found : SpansIn A) (before mid fresh after : List Segment) → AllByRecursion (EndsIn found) (before ++ (mid ++ after)) → AllByRecursion (EndsIn found) (before ++ (fresh ++ after))
     → SameOutside (length (text_of before)) (length (text_of (before ++ mid))) (length (text_of (before ++ fresh)))

@@ -1,4 +1,5 @@
 -- Parts of a document that are lexed anew, and put in their place.
+use Rattle.starlark_document.proofs.FoundInSegments.{plain_append}
 use Rattle.std.proofs.Common.{◌≡◌, ◌≤◌, ◌<◌, ◌+◌, ◌-◌, ℕ, zero, suc, Option, Some, None, inl, inr, Bool, true, false, List, [], ◌∷◌, ◌++◌, ◌∙◌, sym, ap, refl, subst, arith, length, take, drop, get_or, append_assoc, append-nil, take-append-drop, length-append, length-take, length-drop}
 use Rattle.std.specs.Prelude.{◌⊎◌, IsSome, nat_eq, string_bytes}
 use Rattle.std.specs.Str.{IsCharBoundary, IsUtf8}
@@ -28,13 +29,7 @@ use Rattle.starlark_document.specs.declared.edited_parts.EditedPart.{EditedPart}
 use Rattle.starlark_document.specs.declared.segments.Segment.{Segment}
 use Rattle.starlark_document.specs.declared.segments.SegmentPlace.{SegmentPlace}
 use Rattle.starlark_grammar.specs.Words.{Text}
-use Rattle.starlark_syntax.specs.Joining.{begins_plainly}
-
--- a text that begins plainly does so whatever follows it
-pub plain_append : (front more : Text) → begins_plainly front ≡ true → begins_plainly (front ++ more) ≡ true
-unfolding begins_plainly
-plain_append [] more plain = cc
-plain_append (b ∷ bs) more plain = plain
+use Rattle.starlark_grammar.specs.Joining.{begins_plainly}
 
 pub utf8_texts : (xs : List Segment) → IsUtf8 (text_of xs)
 utf8_texts [] = IsUtf8-nil
@@ -235,24 +230,6 @@ module _ (segments : List Segment) (part : EditedPart) (text : Text) (end len re
 
   pub lexing_boundary : IsUtf8 text → IsCharBoundary text len
   lexing_boundary utf8 = IsCharBoundary-from_take text len utf8 lexing_within (subst IsUtf8 (sym lexing_taken) (utf8_texts done))
-
--- at the start nothing is lexed
-pub lexing_none : (segments : List Segment) (whole : Text) (part : EditedPart) (done : List Segment) → IsEditedPart segments whole part → done ≡ [] → IsLexing segments part (string_bytes part.text) part.end 0 0 done
-lexing_none segments whole part done parts none = record {
-  order = omega arith;
-  within = parts.replaced.within;
-  same = refl;
-  rest = string_bytes part.text;
-  is_rest = ap (λ (xs : List Segment). text_of xs ++ string_bytes part.text) (sym none);
-  lens = ap (λ (xs : List Segment). length (text_of xs)) (sym none);
-  opened = subst (AreOpen (nat_eq part.first.index 0)) (sym none) tt;
-  plain = plain_of parts.plain;
-  least = omega arith;
-}
-  where
-    plain_of : (part.first.index ≡ 0) ⊎ (begins_plainly (string_bytes part.text) ≡ true) → ((done ≡ []) × (part.first.index ≡ 0)) ⊎ (begins_plainly (string_bytes part.text) ≡ true)
-    plain_of (inl e) = inl (none, e)
-    plain_of (inr e) = inr e
 
 -- the front of a text that begins plainly does so, too
 plain_front : (text : Text) (n : ℕ) → 0 < n → begins_plainly text ≡ true → begins_plainly (take n text) ≡ true

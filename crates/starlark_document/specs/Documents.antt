@@ -11,7 +11,7 @@ use Rattle.starlark_document.specs.declared.document.EditError.TheVariants.{BadR
 use Rattle.starlark_grammar.specs.Tokens as grammar
 use Rattle.starlark_grammar.specs.Words.{Text}
 use Rattle.starlark_grammar.specs.Found.{faults_in, found, lexemes_in}
-use Rattle.starlark_syntax.specs.RecoveringLexer.{most_reads_on}
+use Rattle.starlark_recovery.specs.RecoveringLexer.{most_reads_on}
 use Rattle.starlark_errors.specs.declared.error.kinds.ErrorKind.{ErrorKind}
 use Rattle.starlark_errors.specs.declared.error.kinds.ErrorKind.TheVariants.{Parser}
 use Rattle.starlark_errors.specs.declared.error.kinds.ParserMessage.TheVariants.{Lexeme}

@@ -6,7 +6,7 @@ ghost use Rattle.starlark_document.specs.Inner.LexedFronts.{IsFirstSegment, IsLe
 ghost use Rattle.std.specs.Str.{IsCharBoundary};
 ghost use Rattle.starlark_document.specs.Inner.Segments.{text_in};
 ghost use Rattle.starlark_base.specs.Places.{is_lf};
-ghost use Rattle.starlark_syntax.specs.RecoveringLexer.{AreReadsOn, all_items};
+ghost use Rattle.starlark_recovery.specs.RecoveringLexer.{AreReadsOn, all_items};
 ghost use Rattle.starlark_token.specs.Lexemes.{lexeme_view};
 
 use crate::lexed_fronts::{LexedFront, SPARE_LEXEMES};

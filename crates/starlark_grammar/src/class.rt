@@ -113,7 +113,8 @@ pub enum Class {
 ///
 /// Words stand by their length in bytes. Reserved words follow the keywords of their length. Each
 /// text is there as bytes and as a string, since no macro makes one of the other. After a name is the
-/// number of its kind, which never changes: a new row has the next one.
+/// number of its kind, which never changes: a new row has the next one. After a symbol's number is
+/// whether it is an operator, punctuation, or a bracket.
 #[macro_export]
 macro_rules! terminals {
     ($with:ident!($($arguments:tt)*)) => {
@@ -121,53 +122,53 @@ macro_rules! terminals {
             ($($arguments)*)
             symbols {
                 1 {
-                    [b','] "," Comma = 31,
-                    [b';'] ";" Semicolon = 32,
-                    [b':'] ":" Colon = 33,
-                    [b'='] "=" Equal = 46,
-                    [b'<'] "<" LessThan = 47,
-                    [b'>'] ">" GreaterThan = 48,
-                    [b'-'] "-" Minus = 49,
-                    [b'+'] "+" Plus = 50,
-                    [b'*'] "*" Star = 51,
-                    [b'%'] "%" Percent = 52,
-                    [b'/'] "/" Slash = 53,
-                    [b'.'] "." Dot = 55,
-                    [b'&'] "&" Ampersand = 56,
-                    [b'|'] "|" Pipe = 57,
-                    [b'^'] "^" Caret = 58,
-                    [b'~'] "~" Tilde = 61,
-                    [b'['] "[" OpeningSquare = 68,
-                    [b'{'] "{" OpeningCurly = 69,
-                    [b'('] "(" OpeningRound = 70,
-                    [b']'] "]" ClosingSquare = 71,
-                    [b'}'] "}" ClosingCurly = 72,
-                    [b')'] ")" ClosingRound = 73,
+                    [b','] "," Comma = 31 Punctuation,
+                    [b';'] ";" Semicolon = 32 Punctuation,
+                    [b':'] ":" Colon = 33 Punctuation,
+                    [b'='] "=" Equal = 46 Operator,
+                    [b'<'] "<" LessThan = 47 Operator,
+                    [b'>'] ">" GreaterThan = 48 Operator,
+                    [b'-'] "-" Minus = 49 Operator,
+                    [b'+'] "+" Plus = 50 Operator,
+                    [b'*'] "*" Star = 51 Operator,
+                    [b'%'] "%" Percent = 52 Operator,
+                    [b'/'] "/" Slash = 53 Operator,
+                    [b'.'] "." Dot = 55 Punctuation,
+                    [b'&'] "&" Ampersand = 56 Operator,
+                    [b'|'] "|" Pipe = 57 Operator,
+                    [b'^'] "^" Caret = 58 Operator,
+                    [b'~'] "~" Tilde = 61 Operator,
+                    [b'['] "[" OpeningSquare = 68 Bracket,
+                    [b'{'] "{" OpeningCurly = 69 Bracket,
+                    [b'('] "(" OpeningRound = 70 Bracket,
+                    [b']'] "]" ClosingSquare = 71 Bracket,
+                    [b'}'] "}" ClosingCurly = 72 Bracket,
+                    [b')'] ")" ClosingRound = 73 Bracket,
                 }
                 2 {
-                    [b'+', b'='] "+=" PlusEqual = 34,
-                    [b'-', b'='] "-=" MinusEqual = 35,
-                    [b'*', b'='] "*=" StarEqual = 36,
-                    [b'/', b'='] "/=" SlashEqual = 37,
-                    [b'%', b'='] "%=" PercentEqual = 39,
-                    [b'=', b'='] "==" EqualEqual = 40,
-                    [b'!', b'='] "!=" BangEqual = 41,
-                    [b'<', b'='] "<=" LessEqual = 42,
-                    [b'>', b'='] ">=" GreaterEqual = 43,
-                    [b'&', b'='] "&=" AmpersandEqual = 62,
-                    [b'|', b'='] "|=" PipeEqual = 63,
-                    [b'^', b'='] "^=" CaretEqual = 64,
-                    [b'*', b'*'] "**" StarStar = 44,
-                    [b'/', b'/'] "//" SlashSlash = 54,
-                    [b'<', b'<'] "<<" LessLess = 59,
-                    [b'>', b'>'] ">>" GreaterGreater = 60,
-                    [b'-', b'>'] "->" MinusGreater = 45,
+                    [b'+', b'='] "+=" PlusEqual = 34 Operator,
+                    [b'-', b'='] "-=" MinusEqual = 35 Operator,
+                    [b'*', b'='] "*=" StarEqual = 36 Operator,
+                    [b'/', b'='] "/=" SlashEqual = 37 Operator,
+                    [b'%', b'='] "%=" PercentEqual = 39 Operator,
+                    [b'=', b'='] "==" EqualEqual = 40 Operator,
+                    [b'!', b'='] "!=" BangEqual = 41 Operator,
+                    [b'<', b'='] "<=" LessEqual = 42 Operator,
+                    [b'>', b'='] ">=" GreaterEqual = 43 Operator,
+                    [b'&', b'='] "&=" AmpersandEqual = 62 Operator,
+                    [b'|', b'='] "|=" PipeEqual = 63 Operator,
+                    [b'^', b'='] "^=" CaretEqual = 64 Operator,
+                    [b'*', b'*'] "**" StarStar = 44 Operator,
+                    [b'/', b'/'] "//" SlashSlash = 54 Operator,
+                    [b'<', b'<'] "<<" LessLess = 59 Operator,
+                    [b'>', b'>'] ">>" GreaterGreater = 60 Operator,
+                    [b'-', b'>'] "->" MinusGreater = 45 Operator,
                 }
                 3 {
-                    [b'/', b'/', b'='] "//=" SlashSlashEqual = 38,
-                    [b'<', b'<', b'='] "<<=" LessLessEqual = 65,
-                    [b'>', b'>', b'='] ">>=" GreaterGreaterEqual = 66,
-                    [b'.', b'.', b'.'] "..." Ellipsis = 67,
+                    [b'/', b'/', b'='] "//=" SlashSlashEqual = 38 Operator,
+                    [b'<', b'<', b'='] "<<=" LessLessEqual = 65 Operator,
+                    [b'>', b'>', b'='] ">>=" GreaterGreaterEqual = 66 Operator,
+                    [b'.', b'.', b'.'] "..." Ellipsis = 67 Punctuation,
                 }
             }
             names {
@@ -217,7 +218,7 @@ macro_rules! terminals {
 #[macro_export]
 macro_rules! match_terminals {
     (($of:expr, $type:ident, $arm:ident, { $($arms:tt)* })
-    symbols { $($len:literal { $($bytes:tt $text:literal $symbol:ident = $number:literal,)* })* }
+    symbols { $($len:literal { $($bytes:tt $text:literal $symbol:ident = $number:literal $class:ident,)* })* }
     names { $($name_len:literal {
         $($name:literal $word:literal $keyword:ident = $keyword_number:literal,)*;
         $($reserved:literal $reserved_text:literal),*
@@ -233,7 +234,7 @@ macro_rules! match_terminals {
 /// The rows of symbols, by length.
 macro_rules! symbol_rows {
     (() symbols { $($len:literal {
-        $($bytes:tt $text:literal $name:ident = $number:literal,)*
+        $($bytes:tt $text:literal $name:ident = $number:literal $class:ident,)*
     })* } names $names:tt) => {
         ($([$(($bytes, Class::Fixed(Terminal::$name)),)*],)*)
     };
@@ -254,7 +255,7 @@ macro_rules! name_rows {
 
 /// The rows of keywords and symbols with their names and numbers.
 macro_rules! kind_rows {
-    (() symbols { $($len:literal { $($bytes:tt $text:literal $symbol:ident = $number:literal,)* })* }
+    (() symbols { $($len:literal { $($bytes:tt $text:literal $symbol:ident = $number:literal $class:ident,)* })* }
     names { $($name_len:literal {
         $($name:literal $word:literal $keyword:ident = $keyword_number:literal,)*;
         $($reserved:literal $reserved_text:literal),*

@@ -19,7 +19,7 @@ use Rattle.starlark_reader.specs.Inner.MarginCuts.{IsCutBefore, lexemes_before}
 use Rattle.starlark_lexed_text.specs.declared.cuts.Cut.{Cut}
 use Rattle.starlark_lexemes.proofs.LexerCuts.{kept_some}
 use Rattle.starlark_lexed_text.proofs.KeptCuts.{faultless_cut, faulty_cut, in_order, some_lexemes, whole_kept, held_left, held_one, held_right, kept_inside}
-use Rattle.starlark_lexed_text.proofs.Elements.{all_both, all_weaker}
+use Rattle.starlark_lexed_text.proofs.Elements.{all_append, all_weaker}
 use Rattle.starlark_lexed_text.proofs.JoinedLists.{begun}
 use Rattle.starlark_reader.proofs.TakenPieces.Onward.{margin_first}
 use Rattle.starlark_reader.proofs.TakenPieces.Taken.{no_tab}
@@ -111,7 +111,7 @@ no_cuts_yet text cuts none = subst (AreCutsSoFar text 0) (sym none) (record { ea
 -- one more after them
 rising_last : (cuts : List Cut) (last : Cut) → IsRising cuts → AllByRecursion (λ (cut : Cut). cut.at < last.at) cuts → IsRising (cuts ++ last ∷ [])
 rising_last [] last rising before = (tt, tt)
-rising_last (cut ∷ cuts) last rising before = (all_both (λ (remainder : Cut). cut.at < remainder.at) cuts (last ∷ []) rising.0 (before.0, tt), rising_last cuts last rising.1 before.1)
+rising_last (cut ∷ cuts) last rising before = (all_append (λ (remainder : Cut). cut.at < remainder.at) cuts (last ∷ []) rising.0 (before.0, tt), rising_last cuts last rising.1 before.1)
 
 before_last : (text : Text) (cuts : List Cut) (count : ℕ) (last : Cut) → AllByRecursion (IsCutOf text) cuts → AllByRecursion (λ (cut : Cut). cut.lexemes ≤ count) cuts → IsCutOf text last → count < last.lexemes → AllByRecursion (λ (cut : Cut). cut.at < last.at) cuts
 before_last text [] count last each few is more = tt
@@ -143,20 +143,20 @@ cuts_more text count rest cuts place so whole found reached = by place found rea
 
     by : (place : Option ℕ) → IfSome place (λ at. IsCutBefore text at (length rest)) → ((at : ℕ) → IsCutBefore text at (length rest) → place ≡ Some at) → AreCutsSoFar text (count + 1) (cuts ++ cuts_at place (count + 1))
     by None none reached = record {
-      each = all_both (IsCutOf text) cuts [] so.each tt;
+      each = all_append (IsCutOf text) cuts [] so.each tt;
       order = subst IsRising (sym (append-nil cuts)) so.order;
-      inside = all_both (λ (cut : Cut). cut.at < length text) cuts [] so.inside tt;
-      few = all_both (λ (cut : Cut). cut.lexemes ≤ count + 1) cuts [] few_more tt;
+      inside = all_append (λ (cut : Cut). cut.at < length text) cuts [] so.inside tt;
+      few = all_append (λ (cut : Cut). cut.lexemes ≤ count + 1) cuts [] few_more tt;
       all = all_more [] (λ at cut. let some : None ≡ Some at = reached at cut in cc);
     }
     by (Some at) cut reached =
         let last : Cut = record { at = at; lexemes = count + 1 } in
         let is : IsCutOf text last = record { inside = omega (arith, cut.inside); is_kept = cut.is_kept; lexemes = omega (arith, cut.count, whole) } in
         record {
-          each = all_both (IsCutOf text) cuts (last ∷ []) so.each (is, tt);
+          each = all_append (IsCutOf text) cuts (last ∷ []) so.each (is, tt);
           order = rising_last cuts last so.order (before_last text cuts count last so.each so.few is (omega arith));
-          inside = all_both (λ (cut : Cut). cut.at < length text) cuts (last ∷ []) so.inside (cut.inside, tt);
-          few = all_both (λ (cut : Cut). cut.lexemes ≤ count + 1) cuts (last ∷ []) few_more (omega arith, tt);
+          inside = all_append (λ (cut : Cut). cut.at < length text) cuts (last ∷ []) so.inside (cut.inside, tt);
+          few = all_append (λ (cut : Cut). cut.lexemes ≤ count + 1) cuts (last ∷ []) few_more (omega arith, tt);
           all = all_more (last ∷ []) (λ other there. let same : Some at ≡ Some other = reached other there in let equal : at ≡ other = cc in subst (λ n. holds_cut n (record { at = at; lexemes = count + 1 } ∷ []) ≡ true) equal (held_one (record { at = at; lexemes = count + 1 })));
         }
 
@@ -197,12 +197,12 @@ end_is : (text : Text) (cuts : List Cut) (count : ℕ) (is_cut : Bool) → AreCu
 end_is text cuts count true so is same =
     let last : IsCutOf text (record { at = length text; lexemes = count - 1 }) = subst (λ n. IsCutOf text (record { at = length text; lexemes = n - 1 })) (sym same) (whole_kept text (sym is)) in
     record {
-      each = all_both (IsCutOf text) cuts (record { at = length text; lexemes = count - 1 } ∷ []) so.each (last, tt);
+      each = all_append (IsCutOf text) cuts (record { at = length text; lexemes = count - 1 } ∷ []) so.each (last, tt);
       order = rising_last cuts (record { at = length text; lexemes = count - 1 }) so.order so.inside;
       all = all_held text cuts (record { at = length text; lexemes = count - 1 } ∷ []) count so same (λ clean. held_one (record { at = length text; lexemes = count - 1 }));
     }
 end_is text cuts count false so is same = record {
-  each = all_both (IsCutOf text) cuts [] so.each tt;
+  each = all_append (IsCutOf text) cuts [] so.each tt;
   order = subst IsRising (sym (append-nil cuts)) so.order;
   all = all_held text cuts [] count so same (λ clean. let both : false ≡ true = is ∙ clean in cc);
 }

@@ -16,9 +16,9 @@ pub all_of_two : {A : Type 0} (P Q R : A → Type 0) (xs : List A) → ((x : A) 
 all_of_two P Q R [] more one other = tt
 all_of_two P Q R (x ∷ xs) more one other = (more x one.0 other.0, all_of_two P Q R xs more one.1 other.1)
 
-pub all_both : {A : Type 0} (P : A → Type 0) (one other : List A) → AllByRecursion P one → AllByRecursion P other → AllByRecursion P (one ++ other)
-all_both P [] other h k = k
-all_both P (x ∷ one) other h k = (h.0, all_both P one other h.1 k)
+pub all_append : {A : Type 0} (P : A → Type 0) (one other : List A) → AllByRecursion P one → AllByRecursion P other → AllByRecursion P (one ++ other)
+all_append P [] other h k = k
+all_append P (x ∷ one) other h k = (h.0, all_append P one other h.1 k)
 
 pub all_front : {A : Type 0} (P : A → Type 0) (one other : List A) → AllByRecursion P (one ++ other) → AllByRecursion P one
 all_front P [] other all = tt

@@ -38,9 +38,9 @@ begun text none = by (first_margin_is text)
     by (inl margin) = margin
     by (inr has) = let some : Some (moved 0 tab) ≡ None = sym (ap (λ (o : Outcome). o.fault) (first_fails text tab (margin_tab 0 [] [] (margin_of text) has))) ∙ none in cc
 
-pub outcome_joined : (first second : Text) → is_clean_cut first ≡ true → (outcome second).fault ≡ None
+pub outcome_append : (first second : Text) → is_clean_cut first ≡ true → (outcome second).fault ≡ None
     → outcome (first ++ second) ≡ record { lexemes = joined (length first) (outcome first).lexemes (outcome second).lexemes; fault = None }
-outcome_joined first second clean none = cuts_join first second clean (begun second none) ∙ rw none refl
+outcome_append first second clean none = cuts_join first second clean (begun second none) ∙ rw none refl
 
 pub shown_later : (len : ℕ) (lexemes : List Lexeme) → map shown_lexeme (map (moved len) lexemes) ≡ map (moved len) (map shown_lexeme lexemes)
 shown_later len [] = refl
@@ -52,7 +52,7 @@ joined_shown len first second = simp (map-append, shown_later, take-map, length-
 
 -- Two lexed texts that are joined are what the joined text comes to, in any code map.
 pub joined_lexed : (one other : SourceFile) (first second : LexedView) → is_clean_cut first.text ≡ true → second.fault ≡ None → IsLexed one first → IsLexed other second → (file : SourceFile) → IsLexed file (texts.joined first second)
-joined_lexed one other first second clean none first_is second_is file = search (rules, outcome_joined, no_fault, joined_shown)
+joined_lexed one other first second clean none first_is second_is file = search (rules, outcome_append, no_fault, joined_shown)
 
 -- The list
 
@@ -61,9 +61,9 @@ viewed_later len [] = refl
 viewed_later len (x ∷ xs) = ap (λ vs. lexeme_view (later len x) ∷ vs) (viewed_later len xs)
 
 -- the list that was made, as it is seen
-pub list_joined : (len : ℕ) (first second made : List (ℕ × Token × ℕ)) → made ≡ take (length first - 1) first ++ map (later len) second
+pub list_append : (len : ℕ) (first second made : List (ℕ × Token × ℕ)) → made ≡ take (length first - 1) first ++ map (later len) second
     → map lexeme_view made ≡ take (length (map lexeme_view first) - 1) (map lexeme_view first) ++ map (moved len) (map lexeme_view second)
-list_joined len first second made is = rw is (simp (map-append, viewed_later, take-map, length-map))
+list_append len first second made is = rw is (simp (map-append, viewed_later, take-map, length-map))
 
 -- The cut
 

@@ -11,14 +11,14 @@ use Rattle.starlark_reader.specs.Inner.Reader.{history_of}
 use Rattle.std.proofs.lemmas.Bool.{and_parts, cases_lt, eq-eqb, eqb-true, or_right}
 use Rattle.std.proofs.lemmas.List.{length-map, length-take-le, take-append-drop, take-take, take_all, take-append-le}
 use Rattle.starlark_grammar.specs.TextLaws.{HasFirstMargin}
-use Rattle.starlark_grammar.proofs.Joining.CleanCuts.{both, begun, cut, longest, pieces_both}
+use Rattle.starlark_grammar.proofs.Joining.CleanCuts.{both, begun, cut, longest, pieces_append}
 use Rattle.starlark_grammar.proofs.Joining.Laws.{faults_join, cuts_of_joined}
 use Rattle.starlark_grammar.proofs.Joining.LineCuts.{kept_by, kept_parts}
 use Rattle.starlark_grammar.proofs.Reading.Readings.{longest_onward, one_longest, read_is, reading_fits}
 use Rattle.starlark_lexed_text.specs.Inner.LexedTexts.{IsCutOf, AreBeyond, holds_cut, later_cut}
 use Rattle.starlark_reader.specs.Inner.MarginCuts.{lexemes_before}
 use Rattle.starlark_lexed_text.specs.declared.cuts.Cut.{Cut}
-use Rattle.starlark_lexed_text.proofs.JoinedLists.{outcome_joined}
+use Rattle.starlark_lexed_text.proofs.JoinedLists.{outcome_append}
 use Rattle.std.proofs.lemmas.List.Sums.{sum_by-cons}
 use Rattle.std.proofs.Math.Seq.{take-append-add}
 
@@ -65,10 +65,10 @@ pub count_is : (lexemes : List Lexeme) → length (without_closing lexemes) ≡ 
 count_is lexemes = length-take-le (length lexemes - 1) lexemes (omega arith)
 
 -- lexemes of joined texts without their closing `Newline`
-pub count_joined : (first second : Text) → is_clean_cut first ≡ true → (outcome second).fault ≡ None
+pub count_append : (first second : Text) → is_clean_cut first ≡ true → (outcome second).fault ≡ None
     → length (without_closing (outcome (first ++ second)).lexemes) ≡ length (without_closing (outcome first).lexemes) + length (without_closing (outcome second).lexemes)
-count_joined first second clean none =
-    let whole : (outcome (first ++ second)).lexemes ≡ without_closing (outcome first).lexemes ++ map (moved (length first)) (outcome second).lexemes = ap (λ (o : Outcome). o.lexemes) (outcome_joined first second clean none) in
+count_append first second clean none =
+    let whole : (outcome (first ++ second)).lexemes ≡ without_closing (outcome first).lexemes ++ map (moved (length first)) (outcome second).lexemes = ap (λ (o : Outcome). o.lexemes) (outcome_append first second clean none) in
     omega (arith, count_is (outcome (first ++ second)).lexemes, count_is (outcome second).lexemes, ap length whole, length-append (without_closing (outcome first).lexemes) (map (moved (length first)) (outcome second).lexemes), length-map (outcome second).lexemes (moved (length first)), some_lexemes second none)
 
 -- the end of a clean cut is a kept one
@@ -87,7 +87,7 @@ no_more_before text at to order inside first second =
     let front : take at whole ≡ take at text = take-take at to text order in
     let clean : is_clean_cut (take at whole) ≡ true = ap is_clean_cut front ∙ first in
     let parts : take at whole ++ drop at whole ≡ whole = take-append-drop at whole in
-    let count = count_joined (take at whole) (drop at whole) clean ((faults_join (take at whole) (drop at whole) clean).0 (ap (λ t. (outcome t).fault) parts ∙ clean_faultless whole second)) in
+    let count = count_append (take at whole) (drop at whole) clean ((faults_join (take at whole) (drop at whole) clean).0 (ap (λ t. (outcome t).fault) parts ∙ clean_faultless whole second)) in
     omega (arith, count, ap (λ t. length (without_closing (outcome t).lexemes)) parts, ap (λ t. length (without_closing (outcome t).lexemes)) front)
 
 -- … so one that has fewer lexemes before it doesn't lie further.
@@ -105,14 +105,14 @@ second_len second margin =
     ap pieces_len whole.0 ∙ sum_by-cons (λ (piece : Piece). piece.len) margin.0 there.pieces
 
 -- How far the reading of joined texts goes.
-pub reach_joined : (first second : Text) → is_clean_cut first ≡ true → HasFirstMargin language second → pieces_len (read language (first ++ second)).pieces ≡ length first + pieces_len (read language second).pieces
-reach_joined first second clean margin =
+pub reach_append : (first second : Text) → is_clean_cut first ≡ true → HasFirstMargin language second → pieces_len (read language (first ++ second)).pieces ≡ length first + pieces_len (read language second).pieces
+reach_append first second clean margin =
     let here = cut first clean in
     let there = begun second margin.0 margin.1 in
     let pieces = (read language first).pieces in
     let both' = both first second margin.0 pieces here there margin.1 in
     let whole = one_longest language nothing (first ++ second) _ _ _ _ (read_is language (first ++ second)) (longest first second margin.0 pieces here there margin.1) in
-    omega (arith, ap pieces_len whole.0, pieces_both both'.pieces' there.pieces, both'.len, second_len second margin)
+    omega (arith, ap pieces_len whole.0, pieces_append both'.pieces' there.pieces, both'.len, second_len second margin)
 
 -- Lists
 
@@ -169,9 +169,9 @@ kept_in old new at x same kept less clean =
     kept_by old x (omega (arith, less, (kept_parts old at kept).0)) (ap is_clean_cut (sym (take-take x at old less) ∙ ap (take x) same ∙ take-take x at new less) ∙ clean)
 
 -- All kept cuts of two texts joined are those of both.
-pub held_joined : (first second : Text) (one other : List Cut) (count : ℕ) → is_clean_cut first ≡ true → HasFirstMargin language second → ((x : ℕ) → x ≤ length first → is_clean_cut (take x first) ≡ true → holds_cut x one ≡ true)
+pub held_append : (first second : Text) (one other : List Cut) (count : ℕ) → is_clean_cut first ≡ true → HasFirstMargin language second → ((x : ℕ) → x ≤ length first → is_clean_cut (take x first) ≡ true → holds_cut x one ≡ true)
     → ((x : ℕ) → is_kept_cut second x ≡ true → holds_cut x other ≡ true) → (x : ℕ) → is_kept_cut (first ++ second) x ≡ true → holds_cut x (one ++ map (later_cut (length first) count) other) ≡ true
-held_joined first second one other count clean margin before remainder x kept = by (cases_lt (length first) x)
+held_append first second one other count clean margin before remainder x kept = by (cases_lt (length first) x)
   where
     parts : (x ≤ pieces_len (read language (first ++ second)).pieces) × (is_clean_cut (take x (first ++ second)) ≡ true)
     parts = kept_parts (first ++ second) x kept
@@ -183,5 +183,5 @@ held_joined first second one other count clean margin before remainder x kept = 
         let front : take x (first ++ second) ≡ first ++ take (x - length first) second = ap (λ n. take n (first ++ second)) place ∙ take-append-add first second (x - length first) in
         let some : 0 < length (take (x - length first) second) = omega (arith, length-take-le (x - length first) second (omega (arith, kept_inside (first ++ second) x kept, length-append first second)), more) in
         let cut_there : is_clean_cut (take (x - length first) second) ≡ true = sym (cuts_of_joined first (take (x - length first) second) clean some) ∙ ap is_clean_cut (sym front) ∙ parts.1 in
-        let reach : x - length first ≤ pieces_len (read language second).pieces = omega (arith, parts.0, reach_joined first second clean margin) in
+        let reach : x - length first ≤ pieces_len (read language second).pieces = omega (arith, parts.0, reach_append first second clean margin) in
         held_right x one _ (ap (λ n. holds_cut n (map (later_cut (length first) count) other)) place ∙ held_later (length first) count (x - length first) other (remainder (x - length first) (kept_by second (x - length first) reach cut_there)))

@@ -22,10 +22,10 @@ use Rattle.starlark_lexed_text.specs.declared.cuts.Cut.{Cut}
 use Rattle.starlark_lexed_text.specs.declared.meetings.Meeting.{Meeting}
 use Rattle.starlark_lexemes.specs.declared.lexer_state.LexerState.{LexerState}
 use Rattle.starlark_lexed_text.proofs.Collected.{AreCutsSoFar, IsCollected, all_counted}
-use Rattle.starlark_lexed_text.proofs.KeptCuts.{held_left, held_right, kept_inside, clean_faultless, count_joined, no_more_before, reach_joined}
-use Rattle.starlark_lexed_text.proofs.JoinedLists.{begun, outcome_joined, shown_later}
-use Rattle.starlark_lexed_text.proofs.Elements.{all_both, all_drop, all_map, one_is, all_front, all_of_two, all_weaker}
-use Rattle.starlark_lexed_text.proofs.RelexedOutcomes.{cut_later, rising_both, cuts_near, begin_few, cut_few}
+use Rattle.starlark_lexed_text.proofs.KeptCuts.{held_left, held_right, kept_inside, clean_faultless, count_append, no_more_before, reach_append}
+use Rattle.starlark_lexed_text.proofs.JoinedLists.{begun, outcome_append, shown_later}
+use Rattle.starlark_lexed_text.proofs.Elements.{all_append, all_drop, all_map, one_is, all_front, all_of_two, all_weaker}
+use Rattle.starlark_lexed_text.proofs.RelexedOutcomes.{cut_later, rising_append, cuts_near, begin_few, cut_few}
 use Rattle.starlark_token.specs.Lexemes.{lexeme_view, shown_lexeme}
 use Rattle.starlark_token.specs.TokenViews.{TokenView}
 use Rattle.starlark_token.specs.declared.tokens.Token.{Token}
@@ -130,14 +130,14 @@ module _ (one other rest : Text) (clean_one : is_clean_cut one ≡ true) (clean_
       let place : at ≡ length one + (at - length one) = omega (arith, more) in
       let front : take at (one ++ rest) ≡ one ++ take (at - length one) rest = ap (λ n. take n (one ++ rest)) place ∙ take-append-add one rest (at - length one) in
       let some : 0 < length (take (at - length one) rest) = omega (arith, length-take-le (at - length one) rest (omega (arith, kept_inside (one ++ rest) at kept, length-append one rest)), more) in
-      kept_by rest (at - length one) (omega (arith, parts.0, reach_joined one rest clean_one margin)) (sym (cuts_of_joined one (take (at - length one) rest) clean_one some) ∙ ap is_clean_cut (sym front) ∙ parts.1)
+      kept_by rest (at - length one) (omega (arith, parts.0, reach_append one rest clean_one margin)) (sym (cuts_of_joined one (take (at - length one) rest) clean_one some) ∙ ap is_clean_cut (sym front) ∙ parts.1)
 
   -- and its number of lexemes
   rest_count : (at : ℕ) → is_kept_cut (one ++ rest) at ≡ true → length one < at → lexemes_before (one ++ rest) at ≡ count_of one + lexemes_before rest (at - length one)
   rest_count at kept more =
       let place : at ≡ length one + (at - length one) = omega (arith, more) in
       let front : take at (one ++ rest) ≡ one ++ take (at - length one) rest = ap (λ n. take n (one ++ rest)) place ∙ take-append-add one rest (at - length one) in
-      ap count_of front ∙ count_joined one (take (at - length one) rest) clean_one (clean_faultless (take (at - length one) rest) (kept_parts rest (at - length one) (rest_cut at kept more)).1)
+      ap count_of front ∙ count_append one (take (at - length one) rest) clean_one (clean_faultless (take (at - length one) rest) (kept_parts rest (at - length one) (rest_cut at kept more)).1)
 
   -- as one of the other text
   pub cut_moved : (cut : Cut) → IsCutOf (one ++ rest) cut → length one < cut.at → IsCutOf (other ++ rest) (record { at = cut.at - length one + length other; lexemes = cut.lexemes - count_of one + count_of other })
@@ -152,7 +152,7 @@ module _ (one other rest : Text) (clean_one : is_clean_cut one ≡ true) (clean_
   -- all lexemes after the first text, as those of the rest
   pub after_one : (ls : List (ℕ × Token × ℕ)) → map lexeme_view ls ≡ map shown_lexeme (outcome (one ++ rest)).lexemes → map lexeme_view (drop (count_of one) ls) ≡ map (moved (length one)) (map shown_lexeme (outcome rest).lexemes)
   after_one ls lexed =
-      let whole : (outcome (one ++ rest)).lexemes ≡ without_closing (outcome one).lexemes ++ map (moved (length one)) (outcome rest).lexemes = ap (λ (o : Outcome). o.lexemes) (outcome_joined one rest clean_one none) in
+      let whole : (outcome (one ++ rest)).lexemes ≡ without_closing (outcome one).lexemes ++ map (moved (length one)) (outcome rest).lexemes = ap (λ (o : Outcome). o.lexemes) (outcome_append one rest clean_one none) in
       rw (← drop-map lexeme_view (count_of one) ls, lexed, whole, drop-map shown_lexeme (count_of one), drop-append_seam, shown_later) refl
 
   -- and after the other text
@@ -160,7 +160,7 @@ module _ (one other rest : Text) (clean_one : is_clean_cut one ≡ true) (clean_
       → map lexeme_view (found ++ map (moved_lexeme (length one) (length other)) (drop (count_of one) ls)) ≡ map shown_lexeme (outcome (other ++ rest)).lexemes
   after_other ls found lexed front =
       let after = views_moved (length one) (length other) (drop (count_of one) ls) (map shown_lexeme (outcome rest).lexemes) (after_one ls lexed) in
-      rw (map-append lexeme_view found, after, front, outcome_joined other rest clean_other none) (simp (map-append, shown_later))
+      rw (map-append lexeme_view found, after, front, outcome_append other rest clean_other none) (simp (map-append, shown_later))
 
 -- A text that has a known text's bytes after a kept cut, where that has none of its faults: its lexemes and its cuts are
 -- those up to the cut, and then the known text's, moved.
@@ -176,8 +176,8 @@ met_whole text known ls cuts is_cut at index cut part lexed faultless is are fou
           ∙ ap (λ (t : Text). map shown_lexeme (outcome t).lexemes) whole;
       fault = subst (λ f. IsRawIn f None) (sym text_none) tt;
       cuts = record {
-        each = all_both (IsCutOf text) part.cuts _ to.each (each_moved (drop (index + 1) cuts) (all_drop (IsCutOf known) (index + 1) cuts are.each) beyond);
-        order = rising_both at part.cuts _ to.order (rising_moved cut there (drop (index + 1) cuts) beyond (rising_drop (index + 1) cuts are.order)) to.up_to (above_moved cut there (drop (index + 1) cuts) beyond);
+        each = all_append (IsCutOf text) part.cuts _ to.each (each_moved (drop (index + 1) cuts) (all_drop (IsCutOf known) (index + 1) cuts are.each) beyond);
+        order = rising_append at part.cuts _ to.order (rising_moved cut there (drop (index + 1) cuts) beyond (rising_drop (index + 1) cuts are.order)) to.up_to (above_moved cut there (drop (index + 1) cuts) beyond);
         all = all_held;
       };
       is_cut = is ∙ ap is_clean_cut (sym before) ∙ cuts_of_joined (take cut.at known) (drop at text) clean_one some ∙ sym (cuts_of_joined (take at text) (drop at text) clean_other some) ∙ ap is_clean_cut whole;

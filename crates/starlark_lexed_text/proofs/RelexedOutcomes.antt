@@ -19,9 +19,9 @@ use Rattle.starlark_grammar.proofs.Joining.LineCuts.{kept_by, kept_parts}
 use Rattle.starlark_grammar.proofs.Order.Inside.{lexemes_few}
 use Rattle.starlark_lexed_text.specs.Inner.LexedTexts.{AllNearCuts, AreBeyond, AreCuts, IsBegin, IsCutOf, IsRising, IsUpTo, later_cut, IsReadPart, IsTakenBack, PartView, holds_cut, last_newline_of, later}
 use Rattle.starlark_lexed_text.specs.declared.cuts.Cut.{Cut}
-use Rattle.starlark_lexed_text.proofs.Elements.{all_at, all_both, all_map, all_of_two, all_take, all_weaker}
+use Rattle.starlark_lexed_text.proofs.Elements.{all_at, all_append, all_map, all_of_two, all_take, all_weaker}
 use Rattle.starlark_lexemes.proofs.LexerCuts.{kept_some}
-use Rattle.starlark_lexed_text.proofs.KeptCuts.{held_joined, clean_faultless, count_is, count_joined, reach_joined, held_as, held_front, held_right, kept_in}
+use Rattle.starlark_lexed_text.proofs.KeptCuts.{held_append, clean_faultless, count_is, count_append, reach_append, held_as, held_front, held_right, kept_in}
 use Rattle.starlark_grammar.specs.Tokens.{Fault, InvalidTab, Lexeme, Newline, Outcome, Spanned, moved}
 use Rattle.starlark_grammar.specs.Margins.{has_tab, is_content, margin_of}
 use Rattle.starlark_grammar.specs.Pieces.{Fails}
@@ -54,9 +54,9 @@ cut_later first second cut clean margin is =
     let front : take (length first + cut.at) (first ++ second) ≡ first ++ take cut.at second = take-append-add first second cut.at in
     record {
       inside = omega (arith, is.inside, length-append first second);
-      is_kept = kept_by (first ++ second) (length first + cut.at) (omega (arith, reach_joined first second clean margin, parts.0)) (ap is_clean_cut front ∙ cuts_of_joined first (take cut.at second) clean some ∙ parts.1);
+      is_kept = kept_by (first ++ second) (length first + cut.at) (omega (arith, reach_append first second clean margin, parts.0)) (ap is_clean_cut front ∙ cuts_of_joined first (take cut.at second) clean some ∙ parts.1);
       lexemes = ap (λ n. length (without_closing (outcome first).lexemes) + n) is.lexemes
-          ∙ sym (ap (λ (t : Text). length (without_closing (outcome t).lexemes)) front ∙ count_joined first (take cut.at second) clean (clean_faultless (take cut.at second) parts.1));
+          ∙ sym (ap (λ (t : Text). length (without_closing (outcome t).lexemes)) front ∙ count_append first (take cut.at second) clean (clean_faultless (take cut.at second) parts.1));
     }
 
 pub all_later : (first second : Text) (cuts : List Cut) → is_clean_cut first ≡ true → HasFirstMargin language second → AllByRecursion (IsCutOf second) cuts → AllByRecursion (IsCutOf (first ++ second)) (map (later_cut (length first) (length (without_closing (outcome first).lexemes))) cuts)
@@ -82,10 +82,10 @@ pub rising_take : (n : ℕ) (cuts : List Cut) → IsRising cuts → IsRising (ta
 rising_take (suc n) (cut ∷ cuts) h = (all_take (λ (remainder : Cut). cut.at < remainder.at) n cuts h.0, rising_take n cuts h.1)
 rising_take n cuts h = tt
 
-pub rising_both : (at : ℕ) (one other : List Cut) → IsRising one → IsRising other → AllByRecursion (λ (cut : Cut). cut.at ≤ at) one → AllByRecursion (λ (cut : Cut). at < cut.at) other → IsRising (one ++ other)
-rising_both at [] other h k up above = k
-rising_both at (cut ∷ one) other h k up above =
-    (all_both (λ (remainder : Cut). cut.at < remainder.at) one other h.0 (all_weaker (λ (remainder : Cut). at < remainder.at) (λ (remainder : Cut). cut.at < remainder.at) other (λ remainder less. omega (arith, less, up.0)) above), rising_both at one other h.1 k up.1 above)
+pub rising_append : (at : ℕ) (one other : List Cut) → IsRising one → IsRising other → AllByRecursion (λ (cut : Cut). cut.at ≤ at) one → AllByRecursion (λ (cut : Cut). at < cut.at) other → IsRising (one ++ other)
+rising_append at [] other h k up above = k
+rising_append at (cut ∷ one) other h k up above =
+    (all_append (λ (remainder : Cut). cut.at < remainder.at) one other h.0 (all_weaker (λ (remainder : Cut). at < remainder.at) (λ (remainder : Cut). cut.at < remainder.at) other (λ remainder less. omega (arith, less, up.0)) above), rising_append at one other h.1 k up.1 above)
 
 pub rising_later : (len count : ℕ) (cuts : List Cut) → IsRising cuts → IsRising (map (later_cut len count) cuts)
 rising_later len count [] h = tt
@@ -98,14 +98,14 @@ above_later text len count cuts each =
     all_map (IsCutOf text) (λ (cut : Cut). len < cut.at) _ cuts (λ cut is. omega (arith, some_cut (take cut.at text) (kept_parts text cut.at is.is_kept).1, length-take cut.at text)) each
 
 -- the kept cuts of two texts joined
-pub cuts_joined : (first second : Text) (one other : List Cut) → is_clean_cut first ≡ true → HasFirstMargin language second → AreCuts first one → AreCuts second other
+pub cuts_append : (first second : Text) (one other : List Cut) → is_clean_cut first ≡ true → HasFirstMargin language second → AreCuts first one → AreCuts second other
     → AreCuts (first ++ second) (one ++ map (later_cut (length first) (length (without_closing (outcome first).lexemes))) other)
-cuts_joined first second one other clean margin are are' = record {
-  each = all_both (IsCutOf (first ++ second)) one _
-      (all_stay first (first ++ second) (length first) (length first) one (take_all (length first) first (omega arith) ∙ sym (take-append_seam first second)) (omega (arith, length-append first second)) (omega arith) (omega (arith, reach_joined first second clean margin)) are.each (inside one are.each))
+cuts_append first second one other clean margin are are' = record {
+  each = all_append (IsCutOf (first ++ second)) one _
+      (all_stay first (first ++ second) (length first) (length first) one (take_all (length first) first (omega arith) ∙ sym (take-append_seam first second)) (omega (arith, length-append first second)) (omega arith) (omega (arith, reach_append first second clean margin)) are.each (inside one are.each))
       (all_later first second other clean margin are'.each);
-  order = rising_both (length first) one _ are.order (rising_later _ _ other are'.order) (inside one are.each) (above_later second _ _ other are'.each);
-  all = held_joined first second one other (length (without_closing (outcome first).lexemes)) clean margin (λ x less there. are.all x (kept_by first x (omega (arith, less, (cut first clean).reach)) there)) are'.all;
+  order = rising_append (length first) one _ are.order (rising_later _ _ other are'.order) (inside one are.each) (above_later second _ _ other are'.each);
+  all = held_append first second one other (length (without_closing (outcome first).lexemes)) clean margin (λ x less there. are.all x (kept_by first x (omega (arith, less, (cut first clean).reach)) there)) are'.all;
 }
   where
     inside : (cuts : List Cut) → AllByRecursion (IsCutOf first) cuts → AllByRecursion (λ (cut : Cut). cut.at ≤ length first) cuts
@@ -196,8 +196,8 @@ relexed_start old edited ls cuts part count are up_to is = record {
   lexemes = viewed_later 0 part.lexemes ∙ unmoved (map lexeme_view part.lexemes) ∙ is.lexemes;
   fault = sym (unmoved_fault (outcome edited).fault);
   are_cuts = record {
-    each = all_both (IsCutOf edited) (take count cuts) _ (all_stay old edited 0 0 (take count cuts) refl (omega arith) (omega arith) (omega arith) (all_take (IsCutOf old) count cuts are.each) up_to) (subst (AllByRecursion (IsCutOf edited)) (sym (same_cuts part.cuts)) is.cuts.each);
-    order = rising_both 0 (take count cuts) _ (rising_take count cuts are.order) (rising_later 0 0 part.cuts is.cuts.order) up_to (above_later edited 0 0 part.cuts is.cuts.each);
+    each = all_append (IsCutOf edited) (take count cuts) _ (all_stay old edited 0 0 (take count cuts) refl (omega arith) (omega arith) (omega arith) (all_take (IsCutOf old) count cuts are.each) up_to) (subst (AllByRecursion (IsCutOf edited)) (sym (same_cuts part.cuts)) is.cuts.each);
+    order = rising_append 0 (take count cuts) _ (rising_take count cuts are.order) (rising_later 0 0 part.cuts is.cuts.order) up_to (above_later edited 0 0 part.cuts is.cuts.each);
     all = λ x kept. held_right x (take count cuts) _ (subst (λ (found : List Cut). holds_cut x found ≡ true) (sym (same_cuts part.cuts)) (is.cuts.all x kept));
   };
   near = omega arith;
@@ -243,19 +243,19 @@ module _ (old edited : Text) (ls : List (ℕ × Token × ℕ)) (cuts : List Cut)
       → IsRelexed edited ls cuts at count part (record { lexemes = count; cuts = kept_cuts; fault_at = at; gives_more = true })
   relexed_cut kept_cuts up_to beyond margin =
       let joined = ap outcome (sym whole) ∙ cuts_join (take at edited) (drop at edited) clean margin in
-      let reach : pieces_len (read language edited).pieces ≡ length (take at edited) + pieces_len (read language (drop at edited)).pieces = ap (λ (t : Text). pieces_len (read language t).pieces) (sym whole) ∙ reach_joined (take at edited) (drop at edited) clean margin in
+      let reach : pieces_len (read language edited).pieces ≡ length (take at edited) + pieces_len (read language (drop at edited)).pieces = ap (λ (t : Text). pieces_len (read language t).pieces) (sym whole) ∙ reach_append (take at edited) (drop at edited) clean margin in
       let remainder = all_later (take at edited) (drop at edited) part.cuts clean margin is_part.cuts.each in
       record {
         lexemes = all_views (ap (λ (o : Outcome). o.lexemes) joined ∙ ap (λ n. without_closing (outcome (take at edited)).lexemes ++ map (moved n) (outcome (drop at edited)).lexemes) len);
         fault = ap (λ (o : Outcome). o.fault) joined ∙ ap (λ n. option_map (moved n) (outcome (drop at edited)).fault) len;
         are_cuts = record {
-          each = all_both (IsCutOf edited) (take kept_cuts cuts) _ (all_stay old edited at at (take kept_cuts cuts) same inside (omega arith) (omega (arith, reach, len)) (all_take (IsCutOf old) kept_cuts cuts are.each) up_to)
+          each = all_append (IsCutOf edited) (take kept_cuts cuts) _ (all_stay old edited at at (take kept_cuts cuts) same inside (omega arith) (omega (arith, reach, len)) (all_take (IsCutOf old) kept_cuts cuts are.each) up_to)
               (subst (λ n. AllByRecursion (IsCutOf edited) (map (later_cut at n) part.cuts)) front_count
               (subst (λ n. AllByRecursion (IsCutOf edited) (map (later_cut n (length (without_closing (outcome (take at edited)).lexemes))) part.cuts)) len
               (subst (λ (t : Text). AllByRecursion (IsCutOf t) (map (later_cut (length (take at edited)) (length (without_closing (outcome (take at edited)).lexemes))) part.cuts)) whole remainder)));
-          order = rising_both at (take kept_cuts cuts) _ (rising_take kept_cuts cuts are.order) (rising_later at count part.cuts is_part.cuts.order) up_to (above_later (drop at edited) at count part.cuts is_part.cuts.each);
+          order = rising_append at (take kept_cuts cuts) _ (rising_take kept_cuts cuts are.order) (rising_later at count part.cuts is_part.cuts.order) up_to (above_later (drop at edited) at count part.cuts is_part.cuts.each);
           all = λ x kept. subst (λ n. holds_cut x (take kept_cuts cuts ++ map (later_cut n count) part.cuts) ≡ true) len
-              (held_joined (take at edited) (drop at edited) (take kept_cuts cuts) part.cuts count clean margin
+              (held_append (take at edited) (drop at edited) (take kept_cuts cuts) part.cuts count clean margin
               (λ x less there. held_old x at kept_cuts (omega (arith, less, len)) (omega (arith, less, len)) beyond (ap is_clean_cut (sym (take-take x at edited (omega (arith, less, len)))) ∙ there))
               is_part.cuts.all x (ap (λ (t : Text). is_kept_cut t x) whole ∙ kept));
         };

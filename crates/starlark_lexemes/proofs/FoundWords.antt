@@ -22,11 +22,11 @@ use Rattle.starlark_lexemes.proofs.LexerItems.{one_more}
 use Rattle.starlark_lexemes.proofs.LexerReads.{goes_on, most_few, nothing_found, nothing_is, nothing_kept, peeked_after, peeked_more, peeked_taken, word_inside}
 use Rattle.starlark_lexemes.proofs.LexerStates.{IsGoingOn, same_lexing, same_text}
 use Rattle.starlark_lexemes.proofs.PlainLexemes.{newline_passed, told_same}
-use Rattle.starlark_lexemes.specs.Inner.LexerStates.{HasGoneOn, HasTold, HasToldNext, IsAtWord, IsLexing, IsLexingIn, IsReadNext, IsTakenNext, IsUnnamed, StateView, is_out_of_memory, left_in, left_to_pass, plain_mark, told_count, view_of}
+use Rattle.starlark_lexemes.specs.Inner.LexerStates.{HasGoneOn, HasTold, HasToldNext, IsAtWord, IsLexing, IsLexingIn, IsReadNext, IsTakenNext, IsUnnamed, StateView, is_out_of_memory, left_in, left_to_pass, plain_valueless, told_count, view_of}
 use Rattle.starlark_reader.specs.Inner.Lookaheads.{HasPeeked, IsFound, is_nothing, is_slow, most_peeked}
 use Rattle.starlark_lexemes.specs.declared.lexer_state.LexerState.{LexerState}
-use Rattle.starlark_reader.specs.declared.lookahead.Found.{Found}
-use Rattle.starlark_reader.specs.declared.lookahead.Found.TheVariants as found
+use Rattle.starlark_reader.specs.declared.lookahead.Lookahead.{Lookahead}
+use Rattle.starlark_reader.specs.declared.lookahead.Lookahead.TheVariants as found
 use Rattle.starlark_lexemes.specs.declared.plain_lexeme.PlainLexeme.{PlainLexeme}
 use Rattle.starlark_lexemes.specs.declared.plain_lexeme.PlainKind.TheVariants as kind
 use Rattle.starlark_token.specs.Lexemes.{shown_lexeme}
@@ -65,7 +65,7 @@ read_next old reader read same lexing going ahead end memory reads =
     }
 
 -- the first margin was read
-pub first_margin : (old : LexerState) (new : Reader) (it : Found) → IsLexing old → old.has_ended ≡ false → old.found ≡ found.All → new.text ≡ old.reader.text → IsAhead old.reader.text.now new new.stage (left_in old) (outcome old.reader.text.now).fault
+pub first_margin : (old : LexerState) (new : Reader) (it : Lookahead) → IsLexing old → old.has_ended ≡ false → old.found ≡ found.All → new.text ≡ old.reader.text → IsAhead old.reader.text.now new new.stage (left_in old) (outcome old.reader.text.now).fault
     → left_to_read old.reader.text.now new new.stage < left_to_read old.reader.text.now old.reader old.reader.stage → IsFound old.reader.text.now new old.word old.run it → HasGoneOn old (record old { reader = new; found = it })
 first_margin old new it lexing going all same ahead less is = record {
   lexing = same_lexing old.reader.text.now (record old { reader = new; found = it }) (ap (λ t. t.now) same) (lexing.0, (λ on. ((lexing.1 going).0, ahead)), goes_on it old.has_ended going, (λ on. is));
@@ -78,7 +78,7 @@ pub one_more_fits : (state : LexerState) → length state.reader.text.now < 2 ^ 
 one_more_fits state fits few = omega (arith, few, lexemes_few state.reader.text.now fits)
 
 -- a lexeme was passed, and is counted
-pub past_lexing : (old : LexerState) (lexeme : Spanned TokenView) (reader : Reader) (word : Word) (run : ℕ) (it : Found) → reader.text ≡ old.reader.text → IsText old.reader.text.now → old.has_ended ≡ false
+pub past_lexing : (old : LexerState) (lexeme : Spanned TokenView) (reader : Reader) (word : Word) (run : ℕ) (it : Lookahead) → reader.text ≡ old.reader.text → IsText old.reader.text.now → old.has_ended ≡ false
     → IsAheadPast old.reader.text.now lexeme reader (left_in old) (outcome old.reader.text.now).fault → IsFound old.reader.text.now reader word run it → IsLexing (record old { reader = reader; yielded_count = old.yielded_count + 1; word = word; run = run; found = it })
 past_lexing old lexeme reader word run it same text going past is =
     let further = one_more (map shown_lexeme (outcome old.reader.text.now).lexemes) old.yielded_count lexeme past.0 past.1 in
@@ -213,7 +213,7 @@ margin_read state len new at margin =
 -- after which lexemes may be pending
 pub pending_newline : (state : LexerState) (len : ℕ) (new : Reader) → new.text ≡ state.reader.text → IsAtWord state (record { class = class.LineEnd; len = len }) → IsCharBoundary state.reader.text.now (state.reader.at + len) → IsMarginRead state.reader.text.now len state.reader new new.stage
     → IsAheadAfter state.reader.text.now (newline_if true state.reader.at len) new (left_in state) (outcome state.reader.text.now).fault
-    → HasToldNext state (Ok (Some (plain_mark kind.Newline state.reader.at (state.reader.at + len)))) (record state { reader = new; yielded_count = state.yielded_count + 1; found = found.All })
+    → HasToldNext state (Ok (Some (plain_valueless kind.Newline state.reader.at (state.reader.at + len)))) (record state { reader = new; yielded_count = state.yielded_count + 1; found = found.All })
 pending_newline state len new same at last margin is = record {
   passed = newline_passed state state state.reader new len (refl, refl) at.text.fits at.stands.stage at.ahead last is;
   lexing = past_lexing state _ new state.word state.run found.All same at.text at.going is (margin_read state len new at margin);
@@ -223,7 +223,7 @@ pending_newline state len new same at last margin is = record {
 -- after which none is pending
 pub plain_newline : (state : LexerState) (len : ℕ) (new : Reader) → new.text ≡ state.reader.text → IsAtWord state (record { class = class.LineEnd; len = len }) → IsCharBoundary state.reader.text.now (state.reader.at + len) → IsMarginRead state.reader.text.now len state.reader new new.stage
     → (new.stage ≡ stages.Onward) × IsInCode new × ((text : Text) → pending_lexemes text new.pending ≡ []) → IsAheadAfter state.reader.text.now (newline_if true state.reader.at len) new (left_in state) (outcome state.reader.text.now).fault
-    → HasToldNext state (Ok (Some (plain_mark kind.Newline state.reader.at (state.reader.at + len)))) (record state { reader = new; yielded_count = state.yielded_count + 1 })
+    → HasToldNext state (Ok (Some (plain_valueless kind.Newline state.reader.at (state.reader.at + len)))) (record state { reader = new; yielded_count = state.yielded_count + 1 })
 plain_newline state len new same at last margin onward is =
     let code : IsAtCode state.reader.text.now new = record { stage = onward.0; idle = (is.2.is_pending, onward.2 state.reader.text.now); code = onward.1 } in
     record {

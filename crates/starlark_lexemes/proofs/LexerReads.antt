@@ -17,10 +17,10 @@ use Rattle.starlark_reader.specs.Inner.Lookaheads.{HasPeeked, IsFound, IsOpened,
 use Rattle.starlark_reader.specs.Inner.Pending.{IsPending, owed}
 use Rattle.starlark_reader.specs.Inner.Reader.{IsAhead, IsAtCode, IsAtEnd, IsInCode, IsOver, IsWordHere}
 use Rattle.starlark_reader.specs.Inner.ReadBounds.{HasRead, HasReadAt, HasScanned, HasScannedHere, HasStarted, IsPassedBy}
-use Rattle.starlark_reader.specs.declared.lookahead.Found.{Found}
-use Rattle.starlark_reader.specs.declared.lookahead.Found.TheVariants as found
-use Rattle.starlark_reader.specs.declared.reader.LineEnd.{LineEnd}
-use Rattle.starlark_reader.specs.declared.reader.LineEnd.TheVariants as line_end
+use Rattle.starlark_reader.specs.declared.lookahead.Lookahead.{Lookahead}
+use Rattle.starlark_reader.specs.declared.lookahead.Lookahead.TheVariants as found
+use Rattle.starlark_reader.specs.declared.reader.TakenLineEnd.{TakenLineEnd}
+use Rattle.starlark_reader.specs.declared.reader.TakenLineEnd.TheVariants as line_end
 use Rattle.starlark_reader.specs.declared.reader.Reader.{Reader}
 use Rattle.starlark_reader.specs.declared.reader.Stage.TheVariants as stages
 use Rattle.starlark_words.specs.Inner.ScannedWords.{is_common, peeked_len}
@@ -92,11 +92,11 @@ opened_inside (class.Opener kind is_raw quote) rest run is = is.1.boundary.0
 opened_inside it rest run is = absurd is
 
 -- all reads are few
-pub found_few : (text : Text) (reader : Reader) (word : Word) (run : ℕ) (it : Found) (lexemes : List (Spanned TokenView)) (fault : Option (Spanned Fault)) → IsAhead text reader reader.stage lexemes fault → IsFound text reader word run it
+pub found_few : (text : Text) (reader : Reader) (word : Word) (run : ℕ) (it : Lookahead) (lexemes : List (Spanned TokenView)) (fault : Option (Spanned Fault)) → IsAhead text reader reader.stage lexemes fault → IsFound text reader word run it
     → (HasRead text reader → reader.reads ≤ 16 * (length text + 1)) → reader.reads ≤ 16 * (length text + 1)
 found_few text reader word run it lexemes fault ahead is whole = go it is
   where
-    go : (now : Found) → IsFound text reader word run now → reader.reads ≤ 16 * (length text + 1)
+    go : (now : Lookahead) → IsFound text reader word run now → reader.reads ≤ 16 * (length text + 1)
     go found.Nothing is = whole is.1
     go found.Word is =
         let inside = word_inside text reader lexemes fault word.class word.len is.0.stage ahead (sym is.0.front) in
@@ -119,10 +119,10 @@ pub opened_found : (old new : Reader) (it : LiteralKind) (is_raw : Bool) (quote 
 opened_found old new it is_raw quote len run other same peeked here known = search (rules, peeked_more)
 
 -- at the end of a text nothing is found
-pub end_read : (text : Text) (reader : Reader) (word : Word) (run : ℕ) (it : Found) → IsAtEnd text reader → IsFound text reader word run it → HasRead text reader
+pub end_read : (text : Text) (reader : Reader) (word : Word) (run : ℕ) (it : Lookahead) → IsAtEnd text reader → IsFound text reader word run it → HasRead text reader
 end_read text reader word run it end is = go it is
   where
-    go : (now : Found) → IsFound text reader word run now → HasRead text reader
+    go : (now : Lookahead) → IsFound text reader word run now → HasRead text reader
     go found.Nothing is = is.1
     go found.All is = is
     go now is = absurd (subst IsOver is.0.stage end.1)
@@ -142,10 +142,10 @@ slow_word word = go word.class
     go it common gap comment = (refl, omega arith)
 
 -- where the reader gives the lexeme
-pub all_read : (text : Text) (reader : Reader) (word : Word) (run : ℕ) (it : Found) → it ≡ found.All → IsFound text reader word run it → HasRead text reader
+pub all_read : (text : Text) (reader : Reader) (word : Word) (run : ℕ) (it : Lookahead) → it ≡ found.All → IsFound text reader word run it → HasRead text reader
 all_read text reader word run it all is = subst (IsFound text reader word run) all is
 
-pub goes_on : (it : Found) (has_ended : Bool) → has_ended ≡ false → GoesOn it has_ended
+pub goes_on : (it : Lookahead) (has_ended : Bool) → has_ended ≡ false → GoesOn it has_ended
 goes_on found.All has_ended e = tt
 goes_on it has_ended e = e
 
@@ -154,10 +154,10 @@ module _ (text : Text) (reader over : Reader) where
   over_word : (word : Word) → IsWordHere text reader word → IsWordHere text (record reader { text = over.text }) word
   over_word word here = record { stage = here.stage; idle = here.idle; code = here.code; front = here.front; bang = here.bang }
 
-  pub over_found : (word : Word) (run : ℕ) (it : Found) → IsFound text reader word run it → IsFound text (record reader { text = over.text }) word run it
+  pub over_found : (word : Word) (run : ℕ) (it : Lookahead) → IsFound text reader word run it → IsFound text (record reader { text = over.text }) word run it
   over_found word run it is = go it is
     where
-      go : (now : Found) → IsFound text reader word run now → IsFound text (record reader { text = over.text }) word run now
+      go : (now : Lookahead) → IsFound text reader word run now → IsFound text (record reader { text = over.text }) word run now
       go found.Nothing is = (over_code text reader over is.0, over_reads text reader over reader.stage is.1)
       go found.Word is = (over_word word is.0, is.1, is.2)
       go found.Wordless is = (over_code text reader over is.0, is.1, is.2)
@@ -166,43 +166,43 @@ module _ (text : Text) (reader over : Reader) where
       go found.All is = over_reads text reader over reader.stage is
 
 -- what each test tells
-pub nothing_found : (text : Text) (reader : Reader) (has_ended : Bool) (word : Word) (run : ℕ) (it : Found) → is_nothing it ≡ true → GoesOn it has_ended → (has_ended ≡ false → IsFound text reader word run it) → (has_ended ≡ false) × IsAtCode text reader × HasRead text reader
+pub nothing_found : (text : Text) (reader : Reader) (has_ended : Bool) (word : Word) (run : ℕ) (it : Lookahead) → is_nothing it ≡ true → GoesOn it has_ended → (has_ended ≡ false → IsFound text reader word run it) → (has_ended ≡ false) × IsAtCode text reader × HasRead text reader
 nothing_found text reader has_ended word run it = go it
   where
-    go : (now : Found) → is_nothing now ≡ true → GoesOn now has_ended → (has_ended ≡ false → IsFound text reader word run now) → (has_ended ≡ false) × IsAtCode text reader × HasRead text reader
+    go : (now : Lookahead) → is_nothing now ≡ true → GoesOn now has_ended → (has_ended ≡ false → IsFound text reader word run now) → (has_ended ≡ false) × IsAtCode text reader × HasRead text reader
     go found.Nothing quick goes is = (goes, (is goes).0, (is goes).1)
     go now quick goes is = cc
 
-pub nothing_is : (it : Found) → is_nothing it ≡ true → it ≡ found.Nothing
+pub nothing_is : (it : Lookahead) → is_nothing it ≡ true → it ≡ found.Nothing
 nothing_is found.Nothing nothing = refl
 nothing_is it nothing = cc
 
-pub nothing_kept : (text : Text) (reader : Reader) (word : Word) (run : ℕ) (it : Found) → it ≡ found.Nothing → IsAtCode text reader → HasRead text reader → IsFound text reader word run it
+pub nothing_kept : (text : Text) (reader : Reader) (word : Word) (run : ℕ) (it : Lookahead) → it ≡ found.Nothing → IsAtCode text reader → HasRead text reader → IsFound text reader word run it
 nothing_kept text reader word run it nothing code has = subst (IsFound text reader word run) (sym nothing) (code, has)
 
 -- what is found out after a lexeme
-pub found_out : (text : Text) (reader : Reader) (word : Word) (run : ℕ) (it : Found) → IsFoundOut reader it → IsPending text reader.pending → HasRead text reader → IsFound text reader word run it
+pub found_out : (text : Text) (reader : Reader) (word : Word) (run : ℕ) (it : Lookahead) → IsFoundOut reader it → IsPending text reader.pending → HasRead text reader → IsFound text reader word run it
 found_out text reader word run found.Nothing is pending has = (is text pending, has)
 found_out text reader word run found.All is pending has = has
 found_out text reader word run it is pending has = absurd is
 
-pub found_in_code : (text : Text) (reader : Reader) (word : Word) (run : ℕ) (it : Found) → IsFoundInCode reader it → (IsInCode reader → IsAtCode text reader) → HasRead text reader → IsFound text reader word run it
+pub found_in_code : (text : Text) (reader : Reader) (word : Word) (run : ℕ) (it : Lookahead) → IsFoundInCode reader it → (IsInCode reader → IsAtCode text reader) → HasRead text reader → IsFound text reader word run it
 found_in_code text reader word run found.Nothing is code has = (code is, has)
 found_in_code text reader word run found.All is code has = has
 found_in_code text reader word run it is code has = absurd is
 
 -- a line end that counts isn't passed
-pub newline_counts : (it : LineEnd) → it ≡ line_end.Newline → it ≡ line_end.Passed → ⊥
+pub newline_counts : (it : TakenLineEnd) → it ≡ line_end.Newline → it ≡ line_end.Passed → ⊥
 newline_counts it newline passed = cc
 
-pub pending_counts : (it : LineEnd) → it ≡ line_end.Pending → it ≡ line_end.Passed → ⊥
+pub pending_counts : (it : TakenLineEnd) → it ≡ line_end.Pending → it ≡ line_end.Passed → ⊥
 pending_counts it pending passed = cc
 
-pub fault_counts : (it : LineEnd) → it ≡ line_end.Fault → it ≡ line_end.Passed → ⊥
+pub fault_counts : (it : TakenLineEnd) → it ≡ line_end.Fault → it ≡ line_end.Passed → ⊥
 fault_counts it fault passed = cc
 
 -- more reads of other bytes, where they are within the bound
-pub counted_found : (text : Text) (counts : Bool) (len : ℕ) (old new : Reader) (word : Word) (run : ℕ) (it : Found) → new ≡ record old { reads = new.reads } → (counts ≡ false → new ≡ old) → (counts ≡ true → old.reads + len < new.reads) → (counts ≡ true → new.reads + 5 * owed new.pending < 10 * new.at)
+pub counted_found : (text : Text) (counts : Bool) (len : ℕ) (old new : Reader) (word : Word) (run : ℕ) (it : Lookahead) → new ≡ record old { reads = new.reads } → (counts ≡ false → new ≡ old) → (counts ≡ true → old.reads + len < new.reads) → (counts ≡ true → new.reads + 5 * owed new.pending < 10 * new.at)
     → (HasRead text old → HasRead text new) → IsFound text old word run it → IsFound text new word run it
 counted_found text false len old new word run it same none counted few more is = subst (λ (reader : Reader). IsFound text reader word run it) (sym (none refl)) is
 counted_found text true len old new word run it same none counted few more is = go it is
@@ -223,7 +223,7 @@ counted_found text true len old new word run it same none counted few more is = 
     rest : drop old.at text ≡ drop new.at text
     rest = ap (λ n. drop n text) (sym at)
 
-    go : (now : Found) → IsFound text old word run now → IsFound text new word run now
+    go : (now : Lookahead) → IsFound text old word run now → IsFound text new word run now
     go found.Nothing is = (code is.0, more is.1)
     go found.Word is = (stands is.0, is.1, peeked word.len (most_peeked word) is.2)
     go found.Wordless is = (code is.0, rw rest at is.1, peeked 0 3 is.2)

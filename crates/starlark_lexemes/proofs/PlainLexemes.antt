@@ -15,7 +15,7 @@ use Rattle.starlark_reader.specs.Inner.Reader.{IsAhead, IsAheadAfter, IsAheadPas
 use Rattle.starlark_reader.specs.declared.reader.Reader.{Reader}
 use Rattle.starlark_reader.specs.declared.reader.Stage.TheVariants as stages
 use Rattle.starlark_reader.proofs.TakenPieces.PieceTaken.{left_onward}
-use Rattle.starlark_lexemes.specs.Inner.LexerStates.{HasAnswered, HasRunOut, StateView, known_cut, view_of, HasTold, HasToldNext, HasAdvanced, HasTaken, IsLexing, IsOfMark, is_out_of_memory, left_in, lexer_view, told_as, told_count, plain_fstring_text, plain_mark, plain_string}
+use Rattle.starlark_lexemes.specs.Inner.LexerStates.{HasAnswered, HasRunOut, StateView, known_cut, view_of, HasTold, HasToldNext, HasAdvanced, HasTaken, IsLexing, IsOfPendingToken, is_out_of_memory, left_in, lexer_view, told_as, told_count, plain_fstring_text, plain_valueless, plain_string}
 use Rattle.starlark_lexemes.specs.Lexer.{LexerView, is_ended_by, most_reads, yielded_by}
 use Rattle.starlark_lexemes.specs.PlainLexemes.{IsPlainIn, plain_token, plain_value, plain_view, token_of}
 use Rattle.starlark_errors.specs.declared.error.kinds.ErrorKind.{ErrorKind}
@@ -135,32 +135,32 @@ symbol_shown text lexeme plain token places =
     ∙ ap (λ n. record { begin = plain.begin; node = Whole (plain_token text plain); end = n }) (sym (ap (λ (p : PlainLexeme). p.end) places))
 
 -- a lexeme without a value was passed
-pub mark_told : (state : LexerState) (it : PlainKind) (lexeme : ℕ × Token × ℕ) (new : LexerState) → length state.reader.text.now < 2 ^ 32 → state.yielded_count ≤ length (outcome state.reader.text.now).lexemes → IsUtf8 state.reader.text.now
-    → ((value : Text) → token_view lexeme.1 ≡ Whole (token_of it value)) → HasAnswered state (Some (Ok lexeme)) new → HasTold state (Ok (Some (plain_mark it lexeme.0 lexeme.2))) new
-mark_told state it lexeme new short few utf8 token is =
-    let plain = plain_mark it lexeme.0 lexeme.2 in (
+pub valueless_told : (state : LexerState) (it : PlainKind) (lexeme : ℕ × Token × ℕ) (new : LexerState) → length state.reader.text.now < 2 ^ 32 → state.yielded_count ≤ length (outcome state.reader.text.now).lexemes → IsUtf8 state.reader.text.now
+    → ((value : Text) → token_view lexeme.1 ≡ Whole (token_of it value)) → HasAnswered state (Some (Ok lexeme)) new → HasTold state (Ok (Some (plain_valueless it lexeme.0 lexeme.2))) new
+valueless_told state it lexeme new short few utf8 token is =
+    let plain = plain_valueless it lexeme.0 lexeme.2 in (
       symbol_inside state lexeme new plain short few utf8 is refl,
       subst (λ (view : Spanned TokenView). IsAheadPast state.reader.text.now view new.reader (left_in state) (outcome state.reader.text.now).fault) (symbol_shown state.reader.text.now lexeme plain (token _) refl) is,
     )
 
 -- a pending token was passed
-pub mark_passed : (state : LexerState) (it : Advance) (lexeme : ℕ × Token × ℕ) (new : LexerState) → length state.reader.text.now < 2 ^ 32 → state.yielded_count ≤ length (outcome state.reader.text.now).lexemes → IsUtf8 state.reader.text.now
-    → IsOfMark it (token_view lexeme.1) → HasAnswered state (Some (Ok lexeme)) new → HasTold state (told_as it lexeme.0 lexeme.2) new
-mark_passed state advance.Indent lexeme new short few utf8 token is = mark_told state kind.Indent lexeme new short few utf8 (λ value. token) is
-mark_passed state advance.Dedent lexeme new short few utf8 token is = mark_told state kind.Dedent lexeme new short few utf8 (λ value. token) is
-mark_passed state advance.FStringExprStart lexeme new short few utf8 token is = mark_told state kind.FStringExprStart lexeme new short few utf8 (λ value. token) is
-mark_passed state advance.FStringEnd lexeme new short few utf8 token is = mark_told state kind.FStringEnd lexeme new short few utf8 (λ value. token) is
-mark_passed state it lexeme new short few utf8 token is = absurd token
+pub pending_token_passed : (state : LexerState) (it : Advance) (lexeme : ℕ × Token × ℕ) (new : LexerState) → length state.reader.text.now < 2 ^ 32 → state.yielded_count ≤ length (outcome state.reader.text.now).lexemes → IsUtf8 state.reader.text.now
+    → IsOfPendingToken it (token_view lexeme.1) → HasAnswered state (Some (Ok lexeme)) new → HasTold state (told_as it lexeme.0 lexeme.2) new
+pending_token_passed state advance.Indent lexeme new short few utf8 token is = valueless_told state kind.Indent lexeme new short few utf8 (λ value. token) is
+pending_token_passed state advance.Dedent lexeme new short few utf8 token is = valueless_told state kind.Dedent lexeme new short few utf8 (λ value. token) is
+pending_token_passed state advance.FStringExprStart lexeme new short few utf8 token is = valueless_told state kind.FStringExprStart lexeme new short few utf8 (λ value. token) is
+pending_token_passed state advance.FStringEnd lexeme new short few utf8 token is = valueless_told state kind.FStringEnd lexeme new short few utf8 (λ value. token) is
+pending_token_passed state it lexeme new short few utf8 token is = absurd token
 
 -- it is one lexeme
-pub mark_counted : (it : Advance) (view : TokenView) (begin end : ℕ) → IsOfMark it view → told_count (told_as it begin end) ≡ 1
-mark_counted advance.Indent view begin end token = refl
-mark_counted advance.Dedent view begin end token = refl
-mark_counted advance.FStringExprStart view begin end token = refl
-mark_counted advance.FStringEnd view begin end token = refl
-mark_counted it view begin end token = absurd token
+pub pending_token_counted : (it : Advance) (view : TokenView) (begin end : ℕ) → IsOfPendingToken it view → told_count (told_as it begin end) ≡ 1
+pending_token_counted advance.Indent view begin end token = refl
+pending_token_counted advance.Dedent view begin end token = refl
+pending_token_counted advance.FStringExprStart view begin end token = refl
+pending_token_counted advance.FStringEnd view begin end token = refl
+pending_token_counted it view begin end token = absurd token
 
-pub advance_in_memory : (it : Advance) (view : TokenView) (begin end : ℕ) → IsOfMark it view → is_out_of_memory (told_as it begin end) ≡ false
+pub advance_in_memory : (it : Advance) (view : TokenView) (begin end : ℕ) → IsOfPendingToken it view → is_out_of_memory (told_as it begin end) ≡ false
 advance_in_memory advance.OutOfMemory view begin end token = absurd token
 advance_in_memory it view begin end token = refl
 
@@ -173,8 +173,8 @@ pub advances_lexeme : (old : LexerState) (it : Advance) (new : LexerState) → i
 advances_lexeme old advance.Layout new other is = absurd (other refl)
 advances_lexeme old it new other is = is
 
-pub mark_advances : (it : Advance) (view : TokenView) → IsOfMark it view → it ≢ advance.Layout
-mark_advances it view token is = absurd (subst (λ (it : Advance). IsOfMark it view) is token)
+pub pending_token_advances : (it : Advance) (view : TokenView) → IsOfPendingToken it view → it ≢ advance.Layout
+pending_token_advances it view token is = absurd (subst (λ (it : Advance). IsOfPendingToken it view) is token)
 
 -- a lexer that owes no error has ended where its state has
 pub whole_going : (state : LexerState) (file : SourceFile) (has_run_out : Bool) (lexer : LexerView) → has_run_out ≡ false → lexer_view state file has_run_out ≡ lexer → lexer.has_ended ≡ false → state.has_ended ≡ false

@@ -15,7 +15,7 @@ use Rattle.starlark_lexemes.specs.Inner.LexerStates.{IsAtFault, IsLexingIn}
 use Rattle.starlark_lexemes.specs.declared.lexer_state.LexerState.{LexerState}
 use Rattle.starlark_reader.specs.Inner.Reader.{IsAhead}
 use Rattle.starlark_reader.specs.Inner.ReadBounds.{HasRead}
-use Rattle.starlark_reader.specs.declared.lookahead.Found.TheVariants as found
+use Rattle.starlark_reader.specs.declared.lookahead.Lookahead.TheVariants as found
 use Rattle.starlark_reader.specs.declared.reader.Reader.{Reader}
 use Rattle.starlark_token.specs.Lexemes.{shown_lexeme}
 

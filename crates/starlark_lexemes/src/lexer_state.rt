@@ -14,12 +14,12 @@ ghost use Rattle.starlark_grammar.specs.Words.{Text};
 ghost use Rattle.starlark_grammar.specs.Reading.{History};
 ghost use Rattle.starlark_reader.specs.Inner.MarginCuts.{IsCutBefore};
 ghost use Rattle.starlark_reader.specs.Inner.Reader.{IsAtCode, IsAtEnd, IsReached, IsStateAfter, has_read_none};
-ghost use Rattle.starlark_lexemes.specs.Inner.LexerStates.{HasAdvanced, HasAnswered, HasFound, HasGivenNext, HasGoneOn, KnowsNext, HasTold, HasToldNext, HasTaken, HasTakenLast, HasThrown, IsAtFault, IsAtOpener, IsAtWord, IsBegun, IsReadNext, IsUnnamed, IsLexing, IsLexingIn, IsOfMark, IsTakenNext, has_fault, is_out_of_memory, left_in, told_as, told_count, plain_string, taken_count, thrown_count, view_of};
+ghost use Rattle.starlark_lexemes.specs.Inner.LexerStates.{HasAdvanced, HasAnswered, HasFound, HasGivenNext, HasGoneOn, KnowsNext, HasTold, HasToldNext, HasTaken, HasTakenLast, HasThrown, IsAtFault, IsAtOpener, IsAtWord, IsBegun, IsReadNext, IsUnnamed, IsLexing, IsLexingIn, IsOfPendingToken, IsTakenNext, has_fault, is_out_of_memory, left_in, told_as, told_count, plain_string, taken_count, thrown_count, view_of};
 ghost use Rattle.starlark_lexemes.specs.Lexer.{is_ended_by, most_reads, yielded_by};
 ghost use Rattle.starlark_lexemes.specs.Inner.RawItems.{OffsetsHold};
 ghost use Rattle.starlark_lexemes.specs.PlainLexemes.{IsPlainIn};
 ghost use Rattle.starlark_token.specs.Lexemes.{IsWithin};
-ghost use Rattle.starlark_reader.specs.Inner.Pending.{IsIdle, IsMark, IsPending};
+ghost use Rattle.starlark_reader.specs.Inner.Pending.{IsIdle, IsPendingToken, IsPending};
 ghost use Rattle.starlark_reader.specs.Inner.ReadBounds.{HasRead};
 ghost use Rattle.starlark_token.specs.TokenViews.{token_view};
 ghost use Rattle.starlark_lexemes.specs.Inner.FoundKinds.{IsFoundInCode, IsFoundOut};
@@ -32,9 +32,9 @@ use crate::plain_lexeme::{PlainKind, PlainLexeme, token_of};
 use starlark_base::codemap::{CodeMap, OrMemory};
 use starlark_errors::eval_exception::EvalException;
 use starlark_errors::fault_exception::exception;
-use starlark_reader::lookahead::Found;
+use starlark_reader::lookahead::Lookahead;
 use starlark_reader::nesting::LexerMode;
-use starlark_reader::reader::{Before, LineEnd, Reader, Stage};
+use starlark_reader::reader::{Before, Reader, Stage, TakenLineEnd};
 use starlark_token::lexeme_error::LexemeError;
 use starlark_token::tokens::Token;
 use starlark_words::scanner::{Class, LiteralKind, Quote, Terminal, Word};
@@ -51,7 +51,7 @@ pub struct LexerState<'a> {
     /// Number of lexemes, and faults, that were yielded so far.
     pub yielded_count: usize,
     /// What lookahead has found, which no lexeme has been taken from.
-    found: Found,
+    found: Lookahead,
     /// The word that was found, or the opener of the literal.
     word: Word,
     /// Length in bytes of the run that was found.
@@ -65,7 +65,7 @@ pub struct LexerState<'a> {
     alloc: Global,
 }
 
-/// How far the reader has advanced without lookahead in code: past a lexeme of a kind, or past none.
+/// What `advance_outside_code` or `look_further` has passed: a lexeme of a kind, or none.
 #[derive(Clone, Copy)]
 enum Advance {
     /// None.
@@ -87,9 +87,9 @@ impl Advance {
     /// The kind of a pending token.
     #[tactic(auto, unfolding(starlark_token::specs::TokenViews::token_view))]
     #[inline(always)]
-    fn of_mark(token: &Token) -> Advance
-        requires { IsMark (token_view token.now) }
-        ensures { IsOfMark result (token_view token.now) }
+    fn of_pending_token(token: &Token) -> Advance
+        requires { IsPendingToken (token_view token.now) }
+        ensures { IsOfPendingToken result (token_view token.now) }
     {
         match token {
             Token::Indent => Advance::Indent,
@@ -127,24 +127,24 @@ impl Advance {
 
 /// What lookahead has found after a keyword or symbol: only the bracket depth can have changed it.
 #[inline(always)]
-fn found_in_code(reader: &Reader<'_>) -> Found
+fn found_in_code(reader: &Reader<'_>) -> Lookahead
     ensures { IsFoundInCode reader.now result }
 {
     match reader.nesting.mode() {
-        LexerMode::InText(_) => Found::All,
-        _ => Found::Nothing,
+        LexerMode::InText(_) => Lookahead::All,
+        _ => Lookahead::Nothing,
     }
 }
 
 /// What lookahead has found after any lexeme.
 #[inline(always)]
-fn found_after(reader: &Reader<'_>) -> Found
+fn found_after(reader: &Reader<'_>) -> Lookahead
     ensures { IsFoundOut reader.now result }
 {
     if reader.pending.is_nothing() && matches!(reader.stage, Stage::Onward) {
         found_in_code(reader)
     } else {
-        Found::All
+        Lookahead::All
     }
 }
 
@@ -160,7 +160,7 @@ impl<'a> LexerState<'a> {
             reader: Reader::new(alloc, text),
             yielded_count: 0,
             has_ended: false,
-            found: Found::All,
+            found: Lookahead::All,
             word: Word {
                 class: Class::Skipped,
                 len: 0,
@@ -177,7 +177,7 @@ impl<'a> LexerState<'a> {
     fn item_of(
         &mut self,
         taken: Result<(usize, Token, usize), AllocError>,
-        found: Found,
+        found: Lookahead,
     ) -> Option<Lexeme>
         requires taken { IsTakenNext self.old taken }
         requires found { OnOk taken (IsFound self.old.reader.text.now self.old.reader self.old.word self.old.run found) }
@@ -191,7 +191,7 @@ impl<'a> LexerState<'a> {
             }
             Err(_) => {
                 self.has_ended = true;
-                self.found = Found::All;
+                self.found = Lookahead::All;
                 Some(Err(OrMemory::Memory))
             }
         }
@@ -208,7 +208,7 @@ impl<'a> LexerState<'a> {
         ensures { HasGivenNext self.old result self.new }
     {
         let Some(taken) = read.transpose() else {
-            self.found = Found::All;
+            self.found = Lookahead::All;
             return None;
         };
         let found = found_after(&self.reader);
@@ -220,7 +220,7 @@ impl<'a> LexerState<'a> {
     fn next_bytes(&mut self, is_raw: bool, quote: Quote, len: usize) -> Option<Lexeme>
         requires lexing { IsLexing self.old }
         requires going { self.old.has_ended ≡ false }
-        requires found { self.old.found ≡ Found.Word }
+        requires found { self.old.found ≡ Lookahead.Word }
         requires word { self.old.word ≡ record { class = Class.Opener kind.Bytes is_raw quote; len = len } }
         ensures { HasGivenNext self.old result self.new }
     {
@@ -230,7 +230,7 @@ impl<'a> LexerState<'a> {
         {
             Ok(body) => {
                 let taken = self.reader.take_plain_bytes(is_raw, quote, len, body);
-                self.item_of(taken, Found::Nothing)
+                self.item_of(taken, Lookahead::Nothing)
             }
             Err(run) => {
                 let read = self.reader.read_literal(self.word, run);
@@ -244,7 +244,7 @@ impl<'a> LexerState<'a> {
     fn next_word(&mut self, word: Word) -> Option<Lexeme>
         requires lexing { IsLexing self.old }
         requires going { self.old.has_ended ≡ false }
-        requires found { self.old.found ≡ Found.Word }
+        requires found { self.old.found ≡ Lookahead.Word }
         requires word { self.old.word ≡ word }
         ensures { HasGivenNext self.old result self.new }
     {
@@ -255,7 +255,7 @@ impl<'a> LexerState<'a> {
                 quote,
             } => {
                 let taken = self.reader.take_fstring(is_raw, quote, word.len);
-                self.item_of(taken, Found::All)
+                self.item_of(taken, Lookahead::All)
             }
             Class::Opener {
                 kind: LiteralKind::Bytes,
@@ -265,11 +265,11 @@ impl<'a> LexerState<'a> {
             _ => {
                 if let Some(digit) = self.reader.single_digit(word) {
                     let lexeme = self.reader.take_digit(digit);
-                    return self.item_of(Ok(lexeme), Found::Nothing);
+                    return self.item_of(Ok(lexeme), Lookahead::Nothing);
                 }
                 if self.reader.is_plain_number(word) {
                     let taken = self.reader.take_number(word);
-                    return self.item_of(taken, Found::Nothing);
+                    return self.item_of(taken, Lookahead::Nothing);
                 }
                 let read = self.reader.refuse_word(word);
                 self.item_read(read)
@@ -287,14 +287,14 @@ impl<'a> LexerState<'a> {
         ensures { HasGivenNext self.old result self.new }
     {
         let read = match self.found {
-            Found::Word => return self.next_word(self.word),
-            Found::Wordless if self.reader.at == self.reader.text.len() => {
+            Lookahead::Word => return self.next_word(self.word),
+            Lookahead::Wordless if self.reader.at == self.reader.text.len() => {
                 Ok(Some(self.reader.close()))
             }
-            Found::Wordless => self.reader.read_wordless(),
-            Found::Literal => self.reader.read_literal(self.word, self.run),
-            Found::Text => self.reader.read_text(self.run),
-            Found::Nothing | Found::All => Ok(None),
+            Lookahead::Wordless => self.reader.read_wordless(),
+            Lookahead::Literal => self.reader.read_literal(self.word, self.run),
+            Lookahead::Text => self.reader.read_text(self.run),
+            Lookahead::Nothing | Lookahead::All => Ok(None),
         };
         self.item_read(read)
     }
@@ -317,7 +317,7 @@ impl<'a> LexerState<'a> {
     fn pass_pending_comment(&mut self) -> Advance
         requires lexing { IsLexing self.old }
         requires going { self.old.has_ended ≡ false }
-        requires all { self.old.found ≡ Found.All }
+        requires all { self.old.found ≡ Lookahead.All }
         requires some { self.old.reader.pending.from < self.old.reader.pending.to }
         ensures { HasAdvanced self.old result self.new }
     {
@@ -329,20 +329,20 @@ impl<'a> LexerState<'a> {
 
     /// Passes the first pending lexeme, where no comments are pending. Returns its kind.
     #[inline(always)]
-    fn pass_mark(&mut self) -> Advance
+    fn pass_pending_token(&mut self) -> Advance
         requires lexing { IsLexing self.old }
         requires going { self.old.has_ended ≡ false }
-        requires all { self.old.found ≡ Found.All }
+        requires all { self.old.found ≡ Lookahead.All }
         requires none { self.old.reader.pending.to ≤ self.old.reader.pending.from }
         ensures passed { result ≢ Advance.Nothing → HasAdvanced self.old result self.new }
         ensures stays { result ≡ Advance.Nothing → self.new ≡ self.old }
         ensures idle { result ≡ Advance.Nothing → IsIdle self.old.reader.text.now self.old.reader.pending }
     {
-        let Some((begin, token, end)) = self.reader.pending.next_mark() else {
+        let Some((begin, token, end)) = self.reader.pending.next_token() else {
             return Advance::Nothing;
         };
         self.count_passed(begin, end);
-        Advance::of_mark(&token)
+        Advance::of_pending_token(&token)
     }
 
     /// Passes the f-string text that comes next if it has no escapes, or what ends it if it is empty.
@@ -351,7 +351,7 @@ impl<'a> LexerState<'a> {
     fn pass_fstring_text(&mut self) -> Advance
         requires lexing { IsLexing self.old }
         requires going { self.old.has_ended ≡ false }
-        requires all { self.old.found ≡ Found.All }
+        requires all { self.old.found ≡ Lookahead.All }
         requires stage { self.old.reader.stage ≡ Stage.Onward }
         requires idle { IsIdle self.old.reader.text.now self.old.reader.pending }
         ensures { HasAdvanced self.old result self.new }
@@ -359,19 +359,19 @@ impl<'a> LexerState<'a> {
         let found = match self.reader.plain_text() {
             Some(Ok(found)) => found,
             Some(Err(run)) => {
-                self.found = Found::Text;
+                self.found = Lookahead::Text;
                 self.run = run;
                 return Advance::Nothing;
             }
             None => {
-                self.found = Found::Nothing;
+                self.found = Lookahead::Nothing;
                 return Advance::Layout;
             }
         };
         if found.len == 0 {
             let (begin, token, end) = self.reader.take_chunk_end(found);
             self.count_passed(begin, end);
-            return Advance::of_mark(&token);
+            return Advance::of_pending_token(&token);
         }
         let begin = self.reader.at;
         self.reader.pass_chunk(found);
@@ -387,18 +387,18 @@ impl<'a> LexerState<'a> {
     fn advance_outside_code(&mut self) -> Advance
         requires lexing { IsLexing self.old }
         requires going { self.old.has_ended ≡ false }
-        requires found { self.old.found ≢ Found.Nothing }
+        requires found { self.old.found ≢ Lookahead.Nothing }
         ensures { HasAdvanced self.old result self.new }
     {
-        if !matches!(self.found, Found::All) {
+        if !matches!(self.found, Lookahead::All) {
             return Advance::Nothing;
         }
         if self.reader.pending.has_comments() {
             return self.pass_pending_comment();
         }
-        match self.pass_mark() {
+        match self.pass_pending_token() {
             Advance::Nothing => {}
-            mark => return mark,
+            passed => return passed,
         }
         match self.reader.stage {
             Stage::Begin => {}
@@ -411,7 +411,7 @@ impl<'a> LexerState<'a> {
         };
         self.found = match found_after(&self.reader) {
             // No word begins at the text's end.
-            Found::Nothing if self.reader.at == self.reader.text.len() => Found::Wordless,
+            Lookahead::Nothing if self.reader.at == self.reader.text.len() => Lookahead::Wordless,
             found => found,
         };
         Advance::Layout
@@ -484,7 +484,7 @@ impl<'a> LexerState<'a> {
                     is_raw,
                     quote,
                 };
-                self.found = Found::Literal;
+                self.found = Lookahead::Literal;
                 self.word = Word { class, len };
                 self.run = run;
                 Ok(None)
@@ -501,7 +501,7 @@ impl<'a> LexerState<'a> {
         ensures { HasAdvanced self.old result self.new }
     {
         let Some(word) = self.reader.unnamed_word() else {
-            self.found = Found::Wordless;
+            self.found = Lookahead::Wordless;
             return Advance::Nothing;
         };
         match word.class {
@@ -516,7 +516,7 @@ impl<'a> LexerState<'a> {
                 Advance::Comment
             }
             _ => {
-                self.found = Found::Word;
+                self.found = Lookahead::Word;
                 self.word = word;
                 Advance::Nothing
             }
@@ -557,17 +557,17 @@ impl<'a> LexerState<'a> {
                     let begin = self.reader.at;
                     let Ok(line_end) = self.reader.take_line_end(len) else {
                         self.has_ended = true;
-                        self.found = Found::All;
+                        self.found = Lookahead::All;
                         return Err(AllocError);
                     };
                     match line_end {
-                        LineEnd::Passed => continue,
-                        LineEnd::Fault => {
-                            self.found = Found::All;
+                        TakenLineEnd::Passed => continue,
+                        TakenLineEnd::Fault => {
+                            self.found = Lookahead::All;
                             return Ok(None);
                         }
-                        LineEnd::Pending => self.found = Found::All,
-                        LineEnd::Newline => {}
+                        TakenLineEnd::Pending => self.found = Lookahead::All,
+                        TakenLineEnd::Newline => {}
                     }
                     self.yielded_count += 1;
                     let end = begin + len;
@@ -581,7 +581,7 @@ impl<'a> LexerState<'a> {
                 } => return self.pass_string(is_raw, quote, len),
                 Class::Skipped => self.reader.step_over(len, Before::Gap),
                 _ => {
-                    self.found = Found::Word;
+                    self.found = Lookahead::Word;
                     self.word = Word { class, len };
                     return Ok(None);
                 }
@@ -601,7 +601,7 @@ impl<'a> LexerState<'a> {
             Err(_) => {
                 self.yielded_count -= 1;
                 self.has_ended = true;
-                self.found = Found::All;
+                self.found = Lookahead::All;
                 Some(Err(OrMemory::Memory))
             }
         }
@@ -694,7 +694,7 @@ impl<'a> LexerState<'a> {
     {
         self.yielded_count = self.yielded_count - 1 + (end - begin);
         self.has_ended = false;
-        self.found = Found::All;
+        self.found = Lookahead::All;
         self.reader.go_on(begin, end);
     }
 
@@ -719,7 +719,7 @@ impl<'a> LexerState<'a> {
         if self.has_ended {
             return None;
         }
-        self.found = Found::All;
+        self.found = Lookahead::All;
         let fault = self.reader.take_fault()?;
         self.yielded_count += 1;
         self.has_ended = true;

@@ -14,7 +14,7 @@ use std::alloc::{AllocError, Global};
 /// The kind of a plain lexeme.
 #[derive(Clone, Copy)]
 pub enum PlainKind {
-    /// The comment of a comment-only line.
+    /// A comment.
     Comment,
     /// A name.
     Identifier,

@@ -5,7 +5,7 @@ ghost use Rattle.starlark_reader.specs.Inner.Lookaheads.{is_nothing};
 
 /// What kind of thing lookahead has found.
 #[derive(Clone, Copy)]
-pub enum Found {
+pub enum Lookahead {
     /// Nothing yet. The reader is in code, and no token is pending.
     Nothing,
     /// In code: a word that is neither a name, a symbol, a line end, a skipped piece nor the opener of a
@@ -21,12 +21,12 @@ pub enum Found {
     All,
 }
 
-impl Found {
+impl Lookahead {
     /// Whether no lookahead was spent.
     #[inline(always)]
     pub fn is_nothing(self) -> bool
         ensures { result ≡ is_nothing self }
     {
-        matches!(self, Found::Nothing)
+        matches!(self, Lookahead::Nothing)
     }
 }

@@ -1,7 +1,7 @@
 //! Pending lexemes: read already, and made one by one as the lexer yields them.
 
 ghost use Rattle.std.specs.Prelude.{◌≡◌, ◌<◌, ◌≤◌, ◌+◌, ◌*◌, [], drop, length, nat_lt, true, None, Some, OnErr, OnOk, IfOk, IfSome};
-ghost use Rattle.starlark_reader.specs.Inner.Pending.{IsCommentIn, IsFirst, IsFirstAfter, IsFirstPast, IsMark, IsPending, comment_lexeme, lexemes_after, owed, pending_lexemes};
+ghost use Rattle.starlark_reader.specs.Inner.Pending.{IsCommentIn, IsFirst, IsFirstAfter, IsFirstPast, IsPendingToken, IsPending, comment_lexeme, lexemes_after, owed, pending_lexemes};
 ghost use Rattle.starlark_reader.specs.Inner.MarginLines.{IsLinePassed, IsPassedLine};
 ghost use Rattle.starlark_grammar.specs.Margins as grammar;
 ghost use Rattle.starlark_grammar.specs.Words.{Text};
@@ -89,7 +89,7 @@ impl AfterComments {
     #[tactic(auto, unfolding(starlark_token::specs::TokenViews::token_view))]
     fn next(&mut self) -> Option<(usize, Token, usize)>
         ensures first { IsFirstAfter self.old self.new result }
-        ensures mark { IfSome result (λ lexeme. IsMark (token_view lexeme.1)) }
+        ensures kind { IfSome result (λ lexeme. IsPendingToken (token_view lexeme.1)) }
     {
         match *self {
             AfterComments::Dedents { at, count } => {
@@ -192,13 +192,13 @@ impl Pending {
 
     /// Takes the first pending lexeme where no comments are pending; `None` if there is none.
     #[inline(always)]
-    pub fn next_mark(&mut self) -> Option<(usize, Token, usize)>
+    pub fn next_token(&mut self) -> Option<(usize, Token, usize)>
         requires none { self.old.to ≤ self.old.from }
         ensures next { (text : Text) → IsPending text self.old → IsFirst text self.old self.new result }
         ensures lines { (text : Text) → IsLinePassed text self.old self.new result }
         ensures place { (self.new.from ≡ self.old.from) × (self.new.to ≡ self.old.to) }
         ensures stays { result ≡ None → self.new ≡ self.old }
-        ensures mark { IfSome result (λ lexeme. IsMark (token_view lexeme.1)) }
+        ensures kind { IfSome result (λ lexeme. IsPendingToken (token_view lexeme.1)) }
     {
         let first = self.remainder.next()?;
         self.is_flat = false;

@@ -15,7 +15,7 @@ ghost use Rattle.starlark_reader.specs.Inner.MarginViews.{IsMargin, spaces_margi
 ghost use Rattle.starlark_grammar.specs.Pieces as grammar;
 ghost use Rattle.starlark_grammar.specs.declared.class.Class.TheVariants as class;
 ghost use Rattle.starlark_grammar.specs.declared.class.LiteralKind.TheVariants as kind;
-ghost use Rattle.starlark_reader.specs.Inner.Pending.{IsCommentIn, IsIdle, IsMark, IsPending, comment_lexeme, owed, pending_lexemes};
+ghost use Rattle.starlark_reader.specs.Inner.Pending.{IsCommentIn, IsIdle, IsPendingToken, IsPending, comment_lexeme, owed, pending_lexemes};
 ghost use Rattle.starlark_reader.specs.Inner.MarginCuts.{IsCutBefore};
 ghost use Rattle.starlark_reader.specs.Inner.ReadBounds.{HasStarted, HasScanned, HasScannedHere, HasRead, HasReadAt, HasReadLast, IsMarginRead, IsPassedBy, IsTaken};
 ghost use Rattle.starlark_reader.specs.Inner.Reader.{HasSomething, IsText, IsAtLineEnd, IsAtStep, IsLineEndStep, IsSound, KeepsAhead, PassesNext, Takes, TakesNext, has_read_none, is_fault, IsAhead, IsAheadAfter, IsAtCode, IsBangHere, IsInCode, IsInFlatMargin, IsReached, IsStateAfter, IsStateAtFault, IsAtEnd, IsLast, IsPlainTextHere, IsRead, IsReadPast, IsReady, IsTokenOf, IsWordHere, before_view, chunk_lexemes, fstring_text_lexeme, left_here, left_to_read, name_lexeme, newline_of, step_here, text_lexeme};
@@ -37,7 +37,7 @@ use crate::indent_stack::IndentStack;
 use crate::literal::{
     Chunk, Opening, chunk_from, literal_piece, opening_of, plain_text, quotes_of,
 };
-use crate::lookahead::Found;
+use crate::lookahead::Lookahead;
 use crate::margins::{Margin, margin_of, plain_margin};
 use crate::nesting::{LexerMode, Nesting};
 use crate::pending::{AfterComments, Pending, text_end};
@@ -93,9 +93,11 @@ pub struct Reader<'a> {
     alloc: Global,
 }
 
-/// The outcome of a newline.
+/// What `take_line_end` has taken.
+// Order matters: the last variant is the one that continues the loop of `next_plain`, and `Newline`
+// spares it a look at what is pending (6 % of blank lines).
 #[derive(Clone, Copy)]
-pub enum LineEnd {
+pub enum TakenLineEnd {
     /// A fault in the margin after it.
     Fault,
     /// A `Newline` token. Comments, an `Indent` or `Dedent`s may be pending after it.
@@ -211,38 +213,38 @@ impl<'a> Reader<'a> {
     /// Takes the margin found after a newline of `len` bytes that counts. Returns the outcome, and stops
     /// at the fault, where the margin has one. Its reads are counted before.
     #[inline(always)]
-    fn put_margin(&mut self, len: usize, margin: Margin) -> Result<LineEnd, AllocError>
+    fn put_margin(&mut self, len: usize, margin: Margin) -> Result<TakenLineEnd, AllocError>
         requires line_end { IsAtLineEnd self.old len }
         requires margin { IsMargin (margin_of (drop (self.old.at + len) self.old.text.now)) margin }
         requires within { self.old.at + len + (margin.at + margin.blanks) ≤ length self.old.text.now }
         ensures text { self.new.text ≡ self.old.text }
         ensures read { IfOk result (λ line_end. Takes self.old (IsLineEndStep self.old len) (newline_of line_end self.old.at len) self.new) }
-        ensures end { IfOk result (λ line_end. line_end ≡ LineEnd.Fault → IsAtEnd self.old.text.now self.new) }
+        ensures end { IfOk result (λ line_end. line_end ≡ TakenLineEnd.Fault → IsAtEnd self.old.text.now self.new) }
         ensures reads { OnOk result ((before : ℕ) → AreReads (margin.at + margin.blanks) (5 * margin.at + margin.blanks + 2) before self.old.reads → IsLineEnd len (drop self.old.at self.old.text.now) →
             IsMarginRead self.old.text.now len (record self.old { reads = before }) self.new self.new.stage) }
-        ensures counts { IfOk result (λ line_end. (line_end ≢ LineEnd.Passed) × (line_end ≢ LineEnd.Newline)) }
+        ensures counts { IfOk result (λ line_end. (line_end ≢ TakenLineEnd.Passed) × (line_end ≢ TakenLineEnd.Newline)) }
     {
         let fault = take_margin(&mut self.levels, &mut self.pending, self.at, len, margin)?;
         if let Some((fault, end)) = fault {
             self.pending = Pending::nothing();
             self.refuse(0, fault, end);
-            return Ok(LineEnd::Fault);
+            return Ok(TakenLineEnd::Fault);
         }
         self.step_over(len + margin.at + margin.blanks, Before::Layout);
-        Ok(LineEnd::Pending)
+        Ok(TakenLineEnd::Pending)
     }
 
     /// Reads a newline of `len` bytes that counts, and any margin after it. Returns the outcome, and
     /// stops at the fault, where the margin has one.
     // A call: so a newline before a plain margin saves no registers (8 % of blank lines).
     #[inline(never)]
-    fn put_long_margin(&mut self, len: usize) -> Result<LineEnd, AllocError>
+    fn put_long_margin(&mut self, len: usize) -> Result<TakenLineEnd, AllocError>
         requires { IsAtLineEnd self.old len }
         ensures text { self.new.text ≡ self.old.text }
         ensures read { IfOk result (λ line_end. Takes self.old (IsLineEndStep self.old len) (newline_of line_end self.old.at len) self.new) }
-        ensures end { IfOk result (λ line_end. line_end ≡ LineEnd.Fault → IsAtEnd self.old.text.now self.new) }
+        ensures end { IfOk result (λ line_end. line_end ≡ TakenLineEnd.Fault → IsAtEnd self.old.text.now self.new) }
         ensures reads { OnOk result (IsLineEnd len (drop self.old.at self.old.text.now) → IsMarginRead self.old.text.now len self.old self.new self.new.stage) }
-        ensures counts { IfOk result (λ line_end. (line_end ≢ LineEnd.Passed) × (line_end ≢ LineEnd.Newline)) }
+        ensures counts { IfOk result (λ line_end. (line_end ≢ TakenLineEnd.Passed) × (line_end ≢ TakenLineEnd.Newline)) }
     {
         let begin = self.at + len;
         let margin = margin_of(&mut self.reads, &self.text[begin..]);
@@ -253,15 +255,15 @@ impl<'a> Reader<'a> {
     /// which content follows. Returns the outcome, and stops at the fault, where the margin has one.
     // Not `put_long_margin`: the known width is 2 % of deep indentation.
     #[inline(never)]
-    fn change_width(&mut self, len: usize, width: usize) -> Result<LineEnd, AllocError>
+    fn change_width(&mut self, len: usize, width: usize) -> Result<TakenLineEnd, AllocError>
         requires line_end { IsAtLineEnd self.old len }
         requires margin { IsMargin (margin_of (drop (self.old.at + len) self.old.text.now)) (spaces_margin width) }
         requires within { self.old.at + len + width ≤ length self.old.text.now }
         ensures text { self.new.text ≡ self.old.text }
         ensures read { IfOk result (λ line_end. Takes self.old (IsLineEndStep self.old len) (newline_of line_end self.old.at len) self.new) }
-        ensures end { IfOk result (λ line_end. line_end ≡ LineEnd.Fault → IsAtEnd self.old.text.now self.new) }
+        ensures end { IfOk result (λ line_end. line_end ≡ TakenLineEnd.Fault → IsAtEnd self.old.text.now self.new) }
         ensures reads { OnOk result (IsLineEnd len (drop self.old.at self.old.text.now) → IsMarginRead self.old.text.now len self.old self.new self.new.stage) }
-        ensures counts { IfOk result (λ line_end. (line_end ≢ LineEnd.Passed) × (line_end ≢ LineEnd.Newline)) }
+        ensures counts { IfOk result (λ line_end. (line_end ≢ TakenLineEnd.Passed) × (line_end ≢ TakenLineEnd.Newline)) }
     {
         self.reads.count_run(width + 1);
         self.put_margin(len, Margin::of_spaces(width))
@@ -270,14 +272,14 @@ impl<'a> Reader<'a> {
     /// Reads a newline of `len` bytes that counts, and the margin after it. Returns the outcome, and
     /// stops at the fault, where the margin has one.
     #[inline(always)]
-    fn put_line_end(&mut self, len: usize) -> Result<LineEnd, AllocError>
+    fn put_line_end(&mut self, len: usize) -> Result<TakenLineEnd, AllocError>
         requires { IsAtLineEnd self.old len }
         ensures text { self.new.text ≡ self.old.text }
         ensures read { IfOk result (λ line_end. Takes self.old (IsLineEndStep self.old len) (newline_of line_end self.old.at len) self.new) }
-        ensures end { IfOk result (λ line_end. line_end ≡ LineEnd.Fault → IsAtEnd self.old.text.now self.new) }
+        ensures end { IfOk result (λ line_end. line_end ≡ TakenLineEnd.Fault → IsAtEnd self.old.text.now self.new) }
         ensures reads { OnOk result (IsLineEnd len (drop self.old.at self.old.text.now) → IsMarginRead self.old.text.now len self.old self.new self.new.stage) }
-        ensures counts { IfOk result (λ line_end. line_end ≢ LineEnd.Passed) }
-        ensures onward { IfOk result (λ line_end. line_end ≡ LineEnd.Newline → (self.new.stage ≡ Stage.Onward) × (self.new.nesting ≡ self.old.nesting) × ((text : Text) → pending_lexemes text self.new.pending ≡ [])) }
+        ensures counts { IfOk result (λ line_end. line_end ≢ TakenLineEnd.Passed) }
+        ensures onward { IfOk result (λ line_end. line_end ≡ TakenLineEnd.Newline → (self.new.stage ≡ Stage.Onward) × (self.new.nesting ≡ self.old.nesting) × ((text : Text) → pending_lexemes text self.new.pending ≡ [])) }
     {
         let begin = self.at + len;
         let Some(margin) = plain_margin(&self.text[begin..]) else {
@@ -290,7 +292,7 @@ impl<'a> Reader<'a> {
         let is_flat = self.levels.len() == 0;
         self.pending.wait_for_comments(begin, begin, is_flat);
         self.step_to(begin + margin.blanks, Before::Layout);
-        Ok(LineEnd::Newline)
+        Ok(TakenLineEnd::Newline)
     }
 
     /// Takes a token of `len` bytes that begins no f-string, and returns it with its span.
@@ -336,7 +338,7 @@ impl<'a> Reader<'a> {
         requires { IsAtStep self.old (λ history step. step ≡ text_step [] chunk) }
         ensures text { self.new.text ≡ self.old.text }
         ensures read { Takes self.old (λ history step. step ≡ text_step [] chunk) (Some result) self.new }
-        ensures mark { IsMark (token_view result.1) }
+        ensures kind { IsPendingToken (token_view result.1) }
         ensures passed { IsPassedBy (self.old.at + (chunk.len + chunk.stop_len)) self.old self.new × (self.new.stage ≡ Stage.Onward) }
     {
         let begin = self.at + chunk.len;
@@ -507,9 +509,8 @@ impl<'a> Reader<'a> {
         self.stage = Stage::Onward;
     }
 
-    /// The next word if its first two bytes tell its kind; `None` if something else comes. It is a
-    /// name, a symbol, an LF, or a quote. The spaces before it are passed. For offsets
-    /// in code.
+    /// The next word if its first two bytes tell its kind, as of `word_after`; `None` if something else
+    /// comes. The spaces before it are passed. For offsets in code.
     #[inline(always)]
     pub fn common_word(&mut self) -> Option<Word>
         requires sound { IsSound self.old }
@@ -576,24 +577,24 @@ impl<'a> Reader<'a> {
     /// Takes the newline of `len` bytes here, and the margin after it if it counts. Returns the
     /// outcome. Don't use the reader after an `AllocError`.
     #[inline(never)]
-    pub fn take_line_end(&mut self, len: usize) -> Result<LineEnd, AllocError>
+    pub fn take_line_end(&mut self, len: usize) -> Result<TakenLineEnd, AllocError>
         requires sound { IsSound self.old }
         requires stands { IsWordHere self.old.text.now self.old (record { class = class.LineEnd; len = len }) }
         ensures text { self.new.text ≡ self.old.text }
         ensures ahead { IfOk result (λ line_end. TakesNext self.old (newline_of line_end self.old.at len) self.new) }
         ensures memory { OnErr result (HasSomething self.old) }
         ensures cut { IsCharBoundary self.old.text.now (self.old.at + len) }
-        ensures code { IfOk result (λ line_end. line_end ≡ LineEnd.Passed → IsAtCode self.old.text.now self.new) }
-        ensures taken { IfOk result (λ line_end. line_end ≡ LineEnd.Passed → IsTaken len self.old self.new) }
-        ensures end { IfOk result (λ line_end. line_end ≡ LineEnd.Fault → IsAtEnd self.old.text.now self.new) }
-        ensures reads { IfOk result (λ line_end. line_end ≢ LineEnd.Passed → IsMarginRead self.old.text.now len self.old self.new self.new.stage) }
-        ensures onward { IfOk result (λ line_end. line_end ≡ LineEnd.Newline → (self.new.stage ≡ Stage.Onward) × IsInCode self.new × ((text : Text) → pending_lexemes text self.new.pending ≡ [])) }
+        ensures code { IfOk result (λ line_end. line_end ≡ TakenLineEnd.Passed → IsAtCode self.old.text.now self.new) }
+        ensures taken { IfOk result (λ line_end. line_end ≡ TakenLineEnd.Passed → IsTaken len self.old self.new) }
+        ensures end { IfOk result (λ line_end. line_end ≡ TakenLineEnd.Fault → IsAtEnd self.old.text.now self.new) }
+        ensures reads { IfOk result (λ line_end. line_end ≢ TakenLineEnd.Passed → IsMarginRead self.old.text.now len self.old self.new self.new.stage) }
+        ensures onward { IfOk result (λ line_end. line_end ≡ TakenLineEnd.Newline → (self.new.stage ≡ Stage.Onward) × IsInCode self.new × ((text : Text) → pending_lexemes text self.new.pending ≡ [])) }
     {
         if self.nesting.counts_line_ends() {
             return self.put_line_end(len);
         }
         self.step_over(len, Before::Other);
-        Ok(LineEnd::Passed)
+        Ok(TakenLineEnd::Passed)
     }
 
     /// Length in bytes of the next literal's body, if it has no escapes and one quote closes it.
@@ -792,7 +793,7 @@ impl<'a> Reader<'a> {
         run: usize,
     ) -> Result<Option<(usize, Token, usize)>, AllocError>
         requires sound { IsSound self.old }
-        requires found { IsFound self.old.text.now self.old opener run Found.Literal }
+        requires found { IsFound self.old.text.now self.old opener run Lookahead.Literal }
         ensures text { self.new.text ≡ self.old.text }
         ensures ahead { IfOk result (λ given. TakesNext self.old given self.new) }
         ensures end { IfOk result (λ given. given ≡ None → IsAtEnd self.old.text.now self.new) }

@@ -5,12 +5,12 @@ use Rattle.starlark_base.specs.Diagnostics.{Diagnosed}
 use Rattle.starlark_base.specs.Places.{Text}
 use Rattle.starlark_base.specs.Sources.{SourceFile}
 use Rattle.starlark_text.specs.declared.or_memory.OrMemory.TheVariants as refusal
-use Rattle.starlark_syntax.specs.Exceptions.{IsFaultIn}
+use Rattle.starlark_errors.specs.Exceptions.{IsFaultIn}
 use Rattle.starlark_errors.specs.declared.error.kinds.ErrorKind.{ErrorKind}
 use Rattle.starlark_grammar.specs.Reading.{outcome}
 use Rattle.starlark_token.specs.TextItems.{Given, LexerItem, Refused, items}
 use Rattle.starlark_token.specs.declared.tokens.Token.{Token}
-use Rattle.starlark_syntax.specs.Lexer.{AnswersNext}
+use Rattle.starlark_lexemes.specs.Lexer.{AnswersNext}
 use Rattle.starlark_lexemes.proofs.NextItems.{found_fault, found_lexeme, found_none}
 use Rattle.starlark_run.specs.Inner.FaultLine.{fault_items}
 use Rattle.starlark_run.proofs.PrintedItems.{IsNextLexeme, next_given, next_refused, none_left}

@@ -9,14 +9,13 @@ use Rattle.starlark_base.specs.Sources.{SourceFile}
 use Rattle.starlark_grammar.specs.Reading.{outcome}
 use Rattle.starlark_grammar.specs.Tokens.{Fault, Spanned}
 use Rattle.starlark_run.specs.Edits.{edited_text, text_after, text_after_one}
-use Rattle.starlark_run.specs.Inner.EditedTexts.{AreVersions, AreVersionsAfter, AreVersionsLexed, AreVersionsRelexed, Fits, Follows, IsRefusal, IsVersion, newest_text}
+use Rattle.starlark_run.specs.Inner.EditedTexts.{AreVersions, AreVersionsAfter, AreVersionsLexed, AreVersionsRelexed, Fits, Follows, IsVersion, newest_text}
 use Rattle.starlark_run.specs.Relexed.{AreLexed, AreRelexed, IsCutBefore, IsReadOn}
 use Rattle.starlark_errors.specs.declared.error.kinds.ErrorKind.{ErrorKind}
 use Rattle.starlark_base.specs.declared.edit.Edit.{Edit}
 use Rattle.starlark_run.specs.declared.edited_texts.Version.{Version}
-use Rattle.starlark_syntax.specs.LexedTexts.{IsFaultIn, IsLexed, IsReadFrom, LexedView}
+use Rattle.starlark_lexed_text.specs.LexedTexts.{IsFaultIn, IsLexed, IsReadFrom, LexedView}
 use Rattle.starlark_run.specs.declared.ends.TheConstants.{GREATEST_LEN}
-use Rattle.starlark_run.specs.declared.ends.RunFault.{RunFault}
 use Rattle.starlark_run.specs.declared.ends.RunFault.TheVariants as fault
 
 front_kept : (n : ℕ) (text rest : Text) → n ≤ length text → take n (take n text ++ rest) ≡ take n text
@@ -76,18 +75,6 @@ drop_at (x ∷ xs) (suc at) none inside =
 pub one_taken : (at : ℕ) (text next : Text) (edits : List Edit) (none : Edit) → at < length edits → text_after_one at text (slice_index_or edits at none) ≡ Ok next → text_after at text (drop at edits) ≡ text_after (at + 1) next (drop (at + 1) edits)
 one_taken at text next edits none inside is =
     ap (text_after at text) (drop_at edits at none inside) ∙ after_taken at text next (slice_index_or edits at none) (drop (at + 1) edits) is
-
-after_refused : (at : ℕ) (text : Text) (edit : Edit) (edits : List Edit) (why : RunFault) → IsRefusal (text_after_one at text edit) why → IsRefusal (text_after at text (edit ∷ edits)) why
-after_refused at text edit edits fault.Memory is = tt
-after_refused at text edit edits fault.TooLong is = rw is refl
-after_refused at text edit edits (fault.BadEdit place) is = rw is refl
-after_refused at text edit edits fault.NotUtf8 is = is
-after_refused at text edit edits fault.Read is = is
-after_refused at text edit edits fault.Write is = is
-
-pub one_refused : (at : ℕ) (text : Text) (edits : List Edit) (none : Edit) (why : RunFault) → at < length edits → IsRefusal (text_after_one at text (slice_index_or edits at none)) why → IsRefusal (text_after at text (drop at edits)) why
-one_refused at text edits none why inside is =
-    subst (λ left. IsRefusal (text_after at text left) why) (sym (drop_at edits at none inside)) (after_refused at text (slice_index_or edits at none) (drop (at + 1) edits) why is)
 
 -- the versions that are left begin with the one at their place
 next_version : (versions : List Version) (at : ℕ) (version : Version) → at < length versions → version ≡ slice_index_or versions at version → drop at versions ≡ version ∷ drop (at + 1) versions

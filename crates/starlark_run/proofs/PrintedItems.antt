@@ -11,7 +11,7 @@ use Rattle.starlark_base.specs.Places.{Text}
 use Rattle.starlark_base.specs.Sources.{SourceFile}
 use Rattle.starlark_base.specs.Spans.{ByteSpan}
 use Rattle.starlark_base.specs.declared.codemap.file_span.FileSpan.{FileSpan}
-use Rattle.starlark_syntax.specs.Errors.{kind_text, message_text}
+use Rattle.starlark_errors.specs.Errors.{kind_text, message_text}
 use Rattle.starlark_token.specs.FaultTexts.{fault_text}
 use Rattle.starlark_errors.specs.declared.error.kinds.ErrorKind.{ErrorKind}
 use Rattle.starlark_errors.specs.declared.error.kinds.ErrorKind.TheVariants.{Parser}
@@ -24,11 +24,11 @@ use Rattle.starlark_grammar.specs.Reading.{outcome}
 use Rattle.starlark_grammar.specs.Tokens as token
 use Rattle.starlark_grammar.specs.Tokens.{Fault, Lexeme, Spanned}
 use Rattle.starlark_token.specs.TokenViews.{TokenView}
-use Rattle.starlark_syntax.specs.Exceptions.{IsFaultIn}
+use Rattle.starlark_errors.specs.Exceptions.{IsFaultIn}
 use Rattle.starlark_token.specs.Lexemes.{fault_view, lexeme_view, shown_lexeme}
 use Rattle.starlark_token.specs.TextItems.{Given, LexerItem, Refused, items}
 use Rattle.starlark_token.proofs.NumberedItems.{fault_at, given, only_faults}
-use Rattle.starlark_syntax.specs.Exceptions.{IsException}
+use Rattle.starlark_errors.specs.Exceptions.{IsException}
 use Rattle.starlark_token.specs.declared.tokens.Token.{Token}
 use Rattle.starlark_grammar.proofs.Order.WholeTexts.{outcome_edges, fault_edges}
 use Rattle.starlark_grammar.proofs.Reading.Faults.{outcome_fault}

@@ -7,7 +7,7 @@ ghost use Rattle.starlark_run.specs.Inner.EditedTexts.{AreVersions, AreVersionsA
 ghost use Rattle.starlark_run.specs.Relexed.{IsReadOn};
 ghost use Rattle.starlark_run.specs.declared.ends.RunFault.TheVariants.{Memory};
 ghost use Rattle.starlark_run.specs.declared.ends.TheConstants.{GREATEST_LEN};
-ghost use Rattle.starlark_syntax.specs.LexedTexts.{IsLexed};
+ghost use Rattle.starlark_lexed_text.specs.LexedTexts.{IsLexed};
 
 use crate::edits::{edited, fits, kept_len};
 use crate::ends::{GREATEST_LEN, RunFault};

@@ -3,7 +3,7 @@
 ghost use Rattle.std.specs.Prelude.{◌≡◌, ◌++◌, false, IfOk};
 ghost use Rattle.starlark_base.specs.Sources.{SourceFile};
 ghost use Rattle.starlark_grammar.specs.Reading.{outcome};
-ghost use Rattle.starlark_syntax.specs.LexedTexts.{IsLexed};
+ghost use Rattle.starlark_lexed_text.specs.LexedTexts.{IsLexed};
 ghost use Rattle.starlark_run.specs.Output.{output};
 ghost use Rattle.starlark_run.specs.Runs.{status_of};
 ghost use Rattle.starlark_run.specs.Writing.{Writes, WritesAll};

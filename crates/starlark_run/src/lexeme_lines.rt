@@ -2,7 +2,7 @@
 
 ghost use Rattle.std.specs.Prelude.{◌≡◌, ◌++◌, OnOk, codes, string_bytes};
 ghost use Rattle.starlark_base.specs.Places.{span_text};
-ghost use Rattle.starlark_syntax.specs.Errors.{kind_text};
+ghost use Rattle.starlark_errors.specs.Errors.{kind_text};
 ghost use Rattle.starlark_run.specs.Output.{fault_text, hex, lexeme_text, value_text};
 ghost use Rattle.starlark_token.specs.TokenViews.{token_view};
 

@@ -3,8 +3,8 @@
 ghost use Rattle.std.specs.Prelude.{◌≡◌, ◌≤◌, ◌++◌, [], false, Some, IfOk, IfErr, IsSome};
 ghost use Rattle.std.specs.Str.{IsCharBoundary};
 ghost use Rattle.starlark_base.specs.Sources.{SourceFile};
-ghost use Rattle.starlark_syntax.specs.Errors.{kind_text};
-ghost use Rattle.starlark_syntax.specs.Exceptions.{IsFaultIn};
+ghost use Rattle.starlark_errors.specs.Errors.{kind_text};
+ghost use Rattle.starlark_errors.specs.Exceptions.{IsFaultIn};
 ghost use Rattle.starlark_grammar.specs.Reading.{outcome};
 ghost use Rattle.starlark_run.specs.Inner.FaultLine.{fault_lines};
 ghost use Rattle.starlark_run.specs.Output.{fault_text, item_line, place_text};

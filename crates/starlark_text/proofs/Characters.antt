@@ -30,10 +30,6 @@ drop_bytes : (text : List ℕ) (index : ℕ) → IsUtf8 text → drop (byte_plac
 unfolding byte_place
 drop_bytes text index utf8 = ap (drop (length (encodes (take index (chars text))))) (cut_bytes text index utf8) ∙ drop_at (encodes (take index (chars text))) (encodes (drop index (chars text))) (length (encodes (take index (chars text)))) refl
 
--- what follows the first characters is a text, and its characters are the others
-utf8_from : (text : List ℕ) (index : ℕ) → IsUtf8 text → IsUtf8 (drop (byte_place text index) text)
-utf8_from text index utf8 = (drop index (chars text), (scalars-drop index (chars text) (scalars-chars text utf8), sym (drop_bytes text index utf8)))
-
 pub chars_from : (text : List ℕ) (index : ℕ) → IsUtf8 text → chars (drop (byte_place text index) text) ≡ drop index (chars text)
 chars_from text index utf8 = ap chars (drop_bytes text index utf8) ∙ chars-encodes (drop index (chars text)) (scalars-drop index (chars text) (scalars-chars text utf8))
 
@@ -47,10 +43,6 @@ unfolding byte_place
 place_boundary text index utf8 =
     IsCharBoundary-at_seam text (encodes (take index (chars text))) (encodes (drop index (chars text))) (cut_bytes text index utf8)
     (drop index (chars text), (scalars-drop index (chars text) (scalars-chars text utf8), refl))
-
-pub place_zero : (text : List ℕ) → byte_place text 0 ≡ 0
-unfolding byte_place
-place_zero text = refl
 
 -- where a text begins with the bytes of so many characters
 pub place_after : (text front rest : List ℕ) → IsUtf8 text → text ≡ encodes front ++ rest → chars text ≡ front ++ chars rest → IsFrom text (length front) rest

@@ -6,7 +6,6 @@ use Rattle.std.proofs.lemmas.Slice.Eq.{bytes_eq-Decides}
 use Rattle.std.specs.List.{starts_with}
 use Rattle.memchr.specs.Find.{OccursAt, FindsNeedle, matches_from, matches, match_len, occurs_at}
 use Rattle.memchr.proofs.lemmas.MatchLemmas.{OccursAt-split, OccursAt-part, OccursAt-from_part, OccursAt-true, occurs_at-true}
-use Rattle.starlark_text.specs.Characters.{char_count}
 use Rattle.starlark_text.specs.Strings.{Contains, matches_after, match_count}
 
 pub contains_from_occurs : (text needle : List ℕ) (k : ℕ) → OccursAt text needle k → Contains text needle
@@ -87,7 +86,3 @@ counted text needle some zero i (suc n) whole = go (cases_lt i (length text)) (c
 pub matches_counted : (text needle : List ℕ) → 0 < length needle → length (matches text needle 0) ≡ match_count text needle
 matches_counted text [] some = absurd (omega arith)
 matches_counted text (b ∷ needle) some = let whole : length text + 1 - 0 ≡ length text + 1 = omega arith in ap (λ n. length (matches_from text (b ∷ needle) 0 0 n)) whole ∙ counted text (b ∷ needle) some 0 0 (length text + 1) (omega arith)
-
-pub empty_count : (text needle : List ℕ) → length needle ≡ 0 → char_count text + 1 ≡ match_count text needle
-empty_count text [] none = refl
-empty_count text (b ∷ needle) none = absurd (omega arith)

@@ -12,10 +12,6 @@ place_within : (count : ℕ) (index : ℤ) → place count index ≤ count
 place_within count (pos i) = omega arith
 place_within count (negsuc i) = omega arith
 
-start_within : (count : ℕ) (start : Option ℤ) → start_place count start ≤ count
-start_within count None = omega arith
-start_within count (Some index) = place_within count index
-
 end_within : (count : ℕ) (end : Option ℤ) → end_place count end ≤ count
 end_within count None = omega arith
 end_within count (Some index) = place_within count index

@@ -188,6 +188,7 @@ pub(crate) fn is_kept_pair(literal: Literal, front: &[u8]) -> bool
 
 /// The escape at the start of a text, which begins with its backslash: an item, or a bad escape.
 /// `front` is the text's first three bytes, read already.
+// Always, as `found_at`: as calls these cost 6 % of escapes.
 #[inline(always)]
 pub(crate) fn escape<'a>(
     reads: &mut ReadCounter,

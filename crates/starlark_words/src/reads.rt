@@ -36,9 +36,9 @@ pub(crate) fn byte_at(text: &[u8], at: usize) -> u8
 
 /// A counter of reads of bytes, which saturates.
 ///
-/// All code that decides by bytes of a text reads them through this type, so that contracts can
-/// bound the reads. A `_len` call returns the length of the longest run at the start of a text; the
-/// byte that ends the run is read too. In a contract it is the count.
+/// Code that decides by bytes of a text reads them by a call of this type, or adds to the count what
+/// it has read, so that contracts can bound the reads. A `_len` call returns the length of the longest
+/// run at the start of a text; the byte that ends the run is read too. In a contract it is the count.
 #[derive(Drop)]
 pub struct ReadCounter {
     count: u64,

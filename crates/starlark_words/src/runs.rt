@@ -84,6 +84,7 @@ fn lanes_run_len(literal: Literal, bytes: &[u8], at: usize) -> usize
 }
 
 /// Length of the run at the start of some bytes, by SIMD with a scalar tail.
+// It advances by 16 and not by what a step found: so no step waits for the one before.
 #[inline(never)]
 fn long_run_len(reads: &mut ReadCounter, literal: Literal, bytes: &[u8]) -> usize
     ensures value { result ≡ prefix_len (is_in_run (literal_view literal)) bytes.now }

@@ -4,7 +4,7 @@ use Rattle.starlark_c.specs.Inner.Recovering.{ArePut, counts_with}
 use Rattle.starlark_c.specs.RecoveredTexts.{Contents, LackRoom, added, capped_counts}
 use Rattle.starlark_c.specs.declared.recovered_endings.Counts.{Counts}
 use Rattle.starlark_grammar.specs.Tokens.{Spanned}
-use Rattle.starlark_syntax.specs.RecoveryLaws.{AreInOrder}
+use Rattle.starlark_grammar.specs.RecoveryLaws.{AreInOrder}
 use Rattle.starlark_token.specs.TextItems.{LexerItem}
 
 -- an item was put after what fills the buffers, or has no room

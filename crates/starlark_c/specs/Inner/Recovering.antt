@@ -8,7 +8,7 @@ use Rattle.starlark_c.specs.declared.recovered_endings.RecoveredEnding.{Recovere
 use Rattle.starlark_c.specs.declared.recovered_endings.RecoveredEnding.TheVariants as ending
 use Rattle.starlark_c.specs.declared.recovering.Taken.{Taken}
 use Rattle.starlark_c.specs.declared.recovering.Taken.TheVariants as taken
-use Rattle.starlark_syntax.specs.RecoveringLexer.{left_after}
+use Rattle.starlark_recovery.specs.RecoveringLexer.{left_after}
 use Rattle.starlark_errors.specs.declared.error.kinds.ErrorKind.{ErrorKind}
 use Rattle.starlark_text.specs.declared.or_memory.OrMemory.{OrMemory}
 use Rattle.starlark_text.specs.declared.or_memory.OrMemory.TheVariants as refusal

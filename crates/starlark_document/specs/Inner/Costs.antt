@@ -1,7 +1,7 @@
 -- What lexing takes.
 use Rattle.std.specs.Prelude.{◌≡◌, ◌≤◌, ◌<◌, ◌+◌, ◌*◌, min, ℕ}
 use Rattle.starlark_document.specs.declared.segment_lexing.LexingCost.{LexingCost}
-use Rattle.starlark_syntax.specs.RecoveringLexer.{most_reads_on}
+use Rattle.starlark_recovery.specs.RecoveringLexer.{most_reads_on}
 
 -- the reads are within the bound for the bytes that were lexed and the starts of lexing
 abbrev pub IsPaid : LexingCost → Type 0

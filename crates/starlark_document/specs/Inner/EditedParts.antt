@@ -10,7 +10,7 @@ use Rattle.starlark_document.specs.declared.edited_parts.SegmentRange.{SegmentRa
 use Rattle.starlark_document.specs.declared.segments.Segment.{Segment}
 use Rattle.starlark_document.specs.declared.segments.SegmentPlace.{SegmentPlace}
 use Rattle.starlark_grammar.specs.Words.{Text}
-use Rattle.starlark_syntax.specs.Joining.{begins_plainly}
+use Rattle.starlark_grammar.specs.Joining.{begins_plainly}
 
 -- a segment by its index, and where it begins
 pub record IsPlaceIn (segments : List Segment) (place : SegmentPlace) : Type 0 where

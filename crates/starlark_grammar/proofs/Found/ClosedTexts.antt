@@ -64,18 +64,18 @@ cut_closed first cut _ (Lost second fault has loses is rest) plain =
     let left : drop (restart (first ++ second) (moved (length first) fault)) (first ++ second) ≡ drop (restart second fault) second = ap (λ n. drop n (first ++ second)) place ∙ drop-append-add first second (restart second fault) in
     Lost (first ++ second) (moved (length first) fault) (fault_is first cut second plain (Some fault) has) (keeps_as first cut second plain fault has ∙ loses) (decided_moved first second plain fault ∙ is) (subst IsClosed (sym left) rest)
 
-closed_both : (second : Text) → begins_plainly second ≡ true → IsClosed second → (first : Text) → IsClosed first → IsClosed (first ++ second)
-closed_both second plain closed _ Empty = closed
-closed_both second plain closed _ (Cut first cut) = cut_closed first cut second closed plain
-closed_both second plain closed _ (Kept first fault has keeps is rest) =
+closed_append : (second : Text) → begins_plainly second ≡ true → IsClosed second → (first : Text) → IsClosed first → IsClosed (first ++ second)
+closed_append second plain closed _ Empty = closed
+closed_append second plain closed _ (Cut first cut) = cut_closed first cut second closed plain
+closed_append second plain closed _ (Kept first fault has keeps is rest) =
     Kept (first ++ second) fault (has_both second plain 0 first fault has is) (keeps_both second plain 0 first fault has is ∙ keeps) (decided_both first second plain fault is closed)
-    (subst IsClosed (sym (repaired_stays first second fault has is (repairs_have_bytes first fault (has, keeps)).1)) (closed_both second plain closed (repaired first fault) rest))
-closed_both second plain closed _ (Lost first fault has loses is rest) =
+    (subst IsClosed (sym (repaired_stays first second fault has is (repairs_have_bytes first fault (has, keeps)).1)) (closed_append second plain closed (repaired first fault) rest))
+closed_append second plain closed _ (Lost first fault has loses is rest) =
     let stay = decided_faults_stay first second fault has is in
     let inside = (restart_bounds first fault (fault_within first fault has).1).1 in
     let left : drop (restart (first ++ second) fault) (first ++ second) ≡ drop (restart first fault) first ++ second = ap (λ n. drop n (first ++ second)) stay.1 ∙ drop-append-le (restart first fault) first second inside in
     Lost (first ++ second) fault (has_both second plain 0 first fault has is) (keeps_both second plain 0 first fault has is ∙ loses) (decided_both first second plain fault is closed)
-    (subst IsClosed (sym left) (closed_both second plain closed (drop (restart first fault) first) rest))
+    (subst IsClosed (sym left) (closed_append second plain closed (drop (restart first fault) first) rest))
 
 pub closed_join : ClosedJoin
-closed_join first second one plain other = closed_both second plain other first one
+closed_join first second one plain other = closed_append second plain other first one

@@ -2,7 +2,7 @@
 use Rattle.std.proofs.Common.{◌≡◌, ℕ, zero, suc, ◌+◌, ◌-◌, ◌≤◌, ◌<◌, Bool, true, false, List, [], ◌∷◌, ◌++◌, map, length, take, drop, refl, ap, ◌∙◌, sym, Option, Some, None, arith, append_assoc, append-nil, length-append}
 use Rattle.std.specs.Prelude.{◌&&◌, ◌==◌, option_map}
 use Rattle.std.proofs.lemmas.Bool.Decides.{nat_tests}
-use Rattle.std.proofs.lemmas.List.{drop-append-le, length-drop, length-map, length-take-le, take-append-drop}
+use Rattle.std.proofs.lemmas.List.{drop-append-le, length-drop, length-map, length-take-le, take-append-drop, map-append}
 use Rattle.std.proofs.Math.Seq.{drop-append-add}
 use Rattle.std.specs.List.{drop-map}
 use Rattle.starlark_grammar.specs.AfterFaults.{restart}
@@ -19,7 +19,7 @@ use Rattle.starlark_grammar.specs.Words.{Text, language}
 use Rattle.starlark_grammar.proofs.Found.CommentEnds.{no_comment_after}
 use Rattle.starlark_grammar.proofs.Found.FoundItems.{Enough, by_keeps, enough_bytes, enough_repaired, faultless_found, found_after_lines, found_after_repairs}
 use Rattle.starlark_grammar.proofs.Found.Repairs.{end_moved, end_stays, keeps_moved, keeps_stays, plain_repaired, repaired_moved, repaired_stays}
-use Rattle.starlark_grammar.proofs.Joining.Joined.{map_both, moved_both, twice, unmoved}
+use Rattle.starlark_grammar.proofs.Joining.Joined.{moved_both, twice, unmoved}
 use Rattle.starlark_grammar.proofs.Order.Inside.{fault_within}
 use Rattle.starlark_grammar.proofs.Recovery.DecidedFaults.{decided_faults_stay}
 use Rattle.starlark_grammar.proofs.Recovery.LineCuts.{has_newline_later, has_newline_moved, left_out_later, left_out_moved, line_cut, line_cut_faultless, line_cut_some, line_cuts_join, outcome_newline}
@@ -30,8 +30,8 @@ use Rattle.starlark_grammar.proofs.Repairs.Readings.{closes, is_repaired, outcom
 
 -- Items
 
-given_both : (one other : List Lexeme) → given (one ++ other) ≡ given one ++ given other
-given_both one other = map_both (λ (lexeme : Lexeme). Given lexeme) one other
+given_append : (one other : List Lexeme) → given (one ++ other) ≡ given one ++ given other
+given_append one other = map-append (λ (lexeme : Lexeme). Given lexeme) one other
 
 given_moved : (n : ℕ) (lexemes : List Lexeme) → given (map (moved n) lexemes) ≡ map (moved_item n) (given lexemes)
 given_moved n [] = refl
@@ -80,9 +80,9 @@ parted_given (lexeme ∷ lexemes) = ap (λ (found : Recovered). let r : Recovere
 moved_joined : (at len : ℕ) (one other : Recovered) → moved_recovered at (recovered_joined len one other) ≡ recovered_joined (at + len) (moved_recovered at one) other
 unfolding moved_recovered
 moved_joined at len one other = same_recovered
-    (map_both (moved at) (without_last_newline one.lexemes) (map (moved len) other.lexemes) ∙ ap (λ ls. map (moved at) (without_last_newline one.lexemes) ++ ls) (twice at len other.lexemes)
+    (map-append (moved at) (without_last_newline one.lexemes) (map (moved len) other.lexemes) ∙ ap (λ ls. map (moved at) (without_last_newline one.lexemes) ++ ls) (twice at len other.lexemes)
     ∙ ap (λ ls. ls ++ map (moved (at + len)) other.lexemes) (sym (left_out_moved at one.lexemes)))
-    (map_both (moved at) one.faults (map (moved len) other.faults) ∙ ap (λ fs. map (moved at) one.faults ++ fs) (twice at len other.faults))
+    (map-append (moved at) one.faults (map (moved len) other.faults) ∙ ap (λ fs. map (moved at) one.faults ++ fs) (twice at len other.faults))
 
 fault_joined : (lexemes : List Lexeme) (fault : Spanned Fault) (len : ℕ) (one other : Recovered) → has_newline one.lexemes ≡ true → with_fault lexemes fault (recovered_joined len one other) ≡ recovered_joined len (with_fault lexemes fault one) other
 unfolding with_fault
@@ -141,7 +141,7 @@ module _ (first : Text) (cut : is_line_cut first ≡ true) where
 
     given_after : (p k : ℕ) (before : List Lexeme) → Passes p k before → given (drop p (outcome (first ++ second)).lexemes) ≡ given before ++ map (moved_item n) (given (drop k (outcome second).lexemes))
     given_after p k before passes =
-        ap (λ ls. given (drop p ls)) lexemes_are ∙ ap given passes ∙ given_both before (map (moved n) (drop k (outcome second).lexemes))
+        ap (λ ls. given (drop p ls)) lexemes_are ∙ ap given passes ∙ given_append before (map (moved n) (drop k (outcome second).lexemes))
         ∙ ap (λ items. given before ++ items) (given_moved n (drop k (outcome second).lexemes))
 
     abbrev Finds : ℕ → ℕ → List Lexeme → Type 0
@@ -166,7 +166,7 @@ module _ (first : Text) (cut : is_line_cut first ≡ true) where
           ap (λ items. items ++ (Refused (moved n fault) ∷ one)) (given_after p k before passes)
           ∙ ap (λ items. (given before ++ map (moved_item n) (given (drop k (outcome second).lexemes))) ++ (Refused (moved n fault) ∷ items)) same
           ∙ append_assoc (given before) (map (moved_item n) (given (drop k (outcome second).lexemes))) (Refused (moved n fault) ∷ map (moved_item n) other)
-          ∙ ap (λ items. given before ++ items) (sym (map_both (moved_item n) (given (drop k (outcome second).lexemes)) (Refused fault ∷ other)))
+          ∙ ap (λ items. given before ++ items) (sym (map-append (moved_item n) (given (drop k (outcome second).lexemes)) (Refused fault ∷ other)))
 
       lost : (p k : ℕ) (before : List Lexeme) → Passes p k before → keeps_line second (outcome second).lexemes fault ≡ false → Finds p k before
       lost p k before passes is =

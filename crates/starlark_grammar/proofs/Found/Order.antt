@@ -19,7 +19,7 @@ use Rattle.starlark_grammar.proofs.Found.JoinedTexts.{semicolon_count}
 use Rattle.starlark_grammar.proofs.Order.Inside.{fault_within}
 use Rattle.starlark_grammar.proofs.Order.OrderedLexemes.{outcome_order}
 use Rattle.starlark_grammar.proofs.Recovery.EarlierLexemes.{EndBy, end_later, lexemes_before_faults}
-use Rattle.starlark_grammar.proofs.Recovery.Order.{order_both, order_later, order_sooner, whole_order}
+use Rattle.starlark_grammar.proofs.Recovery.Order.{order_append, order_later, order_sooner, whole_order}
 use Rattle.starlark_grammar.proofs.Recovery.RestartLines.{tab_empty}
 use Rattle.starlark_grammar.proofs.Recovery.RestartBounds.{restart_bounds}
 use Rattle.starlark_grammar.proofs.Repairs.RepairedTexts.{repaired_len}
@@ -27,13 +27,13 @@ use Rattle.starlark_grammar.proofs.Repairs.Readings.{repairs_have_bytes, repairs
 
 -- Lexemes and faults of items
 
-lexemes_both : (lexemes : List Lexeme) (items : List Item) → lexemes_in (given lexemes ++ items) ≡ lexemes ++ lexemes_in items
-lexemes_both [] items = refl
-lexemes_both (lexeme ∷ lexemes) items = ap (λ l. lexeme ∷ l) (lexemes_both lexemes items)
+lexemes_append : (lexemes : List Lexeme) (items : List Item) → lexemes_in (given lexemes ++ items) ≡ lexemes ++ lexemes_in items
+lexemes_append [] items = refl
+lexemes_append (lexeme ∷ lexemes) items = ap (λ l. lexeme ∷ l) (lexemes_append lexemes items)
 
-faults_both : (lexemes : List Lexeme) (items : List Item) → faults_in (given lexemes ++ items) ≡ faults_in items
-faults_both [] items = refl
-faults_both (lexeme ∷ lexemes) items = faults_both lexemes items
+faults_append : (lexemes : List Lexeme) (items : List Item) → faults_in (given lexemes ++ items) ≡ faults_in items
+faults_append [] items = refl
+faults_append (lexeme ∷ lexemes) items = faults_append lexemes items
 
 lexemes_moved : (n : ℕ) (items : List Item) → lexemes_in (map (moved_item n) items) ≡ map (moved n) (lexemes_in items)
 lexemes_moved n [] = refl
@@ -122,8 +122,8 @@ module _ (from passed : ℕ) (text : Text) (is : IsFrom from passed text) (fault
       let left : List Lexeme = drop passed (outcome text).lexemes in
       let lexemes = is.lexemes in
       let before : AreInOrder from left at = order_to from left (length text) at lexemes reach (ends_dropped passed at (outcome text).lexemes ends) in (
-        subst (λ (l : List Lexeme). AreInOrder from l (length text)) (sym (lexemes_both left (Refused fault ∷ after))) (order_both from at (length text) left (lexemes_in after) before good.0),
-        subst (λ (l : List (Spanned Fault)). AreInOrder from l (length text)) (sym (faults_both left (Refused fault ∷ after))) (begins, within.0, order_sooner fault.end at (length text) (faults_in after) later good.1),
+        subst (λ (l : List Lexeme). AreInOrder from l (length text)) (sym (lexemes_append left (Refused fault ∷ after))) (order_append from at (length text) left (lexemes_in after) before good.0),
+        subst (λ (l : List (Spanned Fault)). AreInOrder from l (length text)) (sym (faults_append left (Refused fault ∷ after))) (begins, within.0, order_sooner fault.end at (length text) (faults_in after) later good.1),
       )
 
   -- after a repair

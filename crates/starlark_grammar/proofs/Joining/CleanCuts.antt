@@ -3,7 +3,7 @@ use Rattle.std.proofs.Common.{◌≡◌, ℕ, zero, suc, ◌+◌, ◌-◌, true,
 use Rattle.std.specs.Prelude.{◌&&◌, option_map}
 use Rattle.std.proofs.Math.Seq.{drop-append-add, take-append_seam}
 use Rattle.std.proofs.lemmas.Bool.{and_parts, both_ways}
-use Rattle.std.proofs.lemmas.List.{length-drop}
+use Rattle.std.proofs.lemmas.List.{length-drop, map-append}
 use Rattle.std.proofs.lemmas.List.Sums.{sum_by-cons, sum_by-append}
 use Rattle.starlark_grammar.specs.Words.{Text, Table, language}
 use Rattle.starlark_grammar.specs.Tokens.{Newline, Dedent, Lexeme, Spanned, moved, Fault, Outcome}
@@ -17,18 +17,18 @@ use Rattle.starlark_grammar.proofs.Lists.{drop-sum}
 use Rattle.starlark_grammar.proofs.Reading.Readings.{longest_onward, read_from_is, read_is, reading_fits, ends_at_end, started, piece_fits, outcome_only}
 use Rattle.starlark_grammar.proofs.Joining.Followed.{ends_line, ends_line_of}
 use Rattle.starlark_grammar.proofs.Joining.Settled.{Settled, settled, remainder, widths_settled, all_after, longest_after}
-use Rattle.starlark_grammar.proofs.Joining.Joined.{Joined, join_reading, moved_both, all_moved, map_both}
+use Rattle.starlark_grammar.proofs.Joining.Joined.{Joined, join_reading, moved_both, all_moved}
 
 -- Lists of pieces
 
-pub pieces_both : (one other : List Piece) → pieces_len (one ++ other) ≡ pieces_len one + pieces_len other
-pieces_both one other = sum_by-append (λ (piece : Piece). piece.len) one other
+pub pieces_append : (one other : List Piece) → pieces_len (one ++ other) ≡ pieces_len one + pieces_len other
+pieces_append one other = sum_by-append (λ (piece : Piece). piece.len) one other
 
-pub along_both : (at : ℕ) (one other : List Piece) → lexemes_along at (one ++ other) ≡ lexemes_along at one ++ lexemes_along (at + pieces_len one) other
-along_both at [] other = let same : at ≡ at + pieces_len [] = omega arith in ap (λ n. lexemes_along n other) same
-along_both at (piece ∷ one) other =
+pub along_append : (at : ℕ) (one other : List Piece) → lexemes_along at (one ++ other) ≡ lexemes_along at one ++ lexemes_along (at + pieces_len one) other
+along_append at [] other = let same : at ≡ at + pieces_len [] = omega arith in ap (λ n. lexemes_along n other) same
+along_append at (piece ∷ one) other =
     let total : at + piece.len + pieces_len one ≡ at + pieces_len (piece ∷ one) = omega (arith, sum_by-cons (λ (piece : Piece). piece.len) piece one) in
-    ap (λ ls. map (moved at) piece.lexemes ++ ls) (along_both (at + piece.len) one other ∙ ap (λ n. lexemes_along (at + piece.len) one ++ lexemes_along n other) total)
+    ap (λ ls. map (moved at) piece.lexemes ++ ls) (along_append (at + piece.len) one other ∙ ap (λ n. lexemes_along (at + piece.len) one ++ lexemes_along n other) total)
     ∙ sym (append_assoc (map (moved at) piece.lexemes) (lexemes_along (at + piece.len) one) (lexemes_along (at + pieces_len (piece ∷ one)) other))
 
 pub along_later : (n at : ℕ) (pieces : List Piece) → lexemes_along (n + at) pieces ≡ map (moved n) (lexemes_along at pieces)
@@ -38,20 +38,20 @@ along_later n at (piece ∷ pieces) =
     ap (λ k. map (moved (n + at)) piece.lexemes ++ lexemes_along k pieces) next
     ∙ ap (λ ls. map (moved (n + at)) piece.lexemes ++ ls) (along_later n (at + piece.len) pieces)
     ∙ ap (λ ls. ls ++ map (moved n) (lexemes_along (at + piece.len) pieces)) (sym (all_moved n at (n + at) piece.lexemes refl))
-    ∙ sym (map_both (moved n) (map (moved at) piece.lexemes) (lexemes_along (at + piece.len) pieces))
+    ∙ sym (map-append (moved n) (map (moved at) piece.lexemes) (lexemes_along (at + piece.len) pieces))
 
-pub past_both : (history : History) (one other : List Piece) → after_all history (one ++ other) ≡ after_all (after_all history one) other
-past_both history [] other = refl
-past_both history (piece ∷ one) other = past_both (after history piece) one other
+pub past_append : (history : History) (one other : List Piece) → after_all history (one ++ other) ≡ after_all (after_all history one) other
+past_append history [] other = refl
+past_append history (piece ∷ one) other = past_append (after history piece) one other
 
 -- a reading, and a longest one after it
-pub longest_both : (table : Table) (history : History) (text : Text) (one other : List Piece) (last : Step) → IsReading table history text one → IsLongestReading table (after_all history one) (drop (pieces_len one) text) other last → IsLongestReading table history text (one ++ other) last
-longest_both table history text [] other last reads longest = longest
-longest_both table history text (piece ∷ one) other last reads longest =
+pub longest_append : (table : Table) (history : History) (text : Text) (one other : List Piece) (last : Step) → IsReading table history text one → IsLongestReading table (after_all history one) (drop (pieces_len one) text) other last → IsLongestReading table history text (one ++ other) last
+longest_append table history text [] other last reads longest = longest
+longest_append table history text (piece ∷ one) other last reads longest =
     let total : pieces_len (piece ∷ one) ≡ piece.len + pieces_len one = sum_by-cons (λ (piece : Piece). piece.len) piece one in
     let left : drop (pieces_len (piece ∷ one)) text ≡ drop (pieces_len one) (drop piece.len text) = ap (λ n. drop n text) total ∙ drop-sum piece.len (pieces_len one) text in
     longest_onward table history text piece (one ++ other) last reads.0
-    (longest_both table (after history piece) (drop piece.len text) one other last reads.1 (subst (λ (t : Text). IsLongestReading table (after_all (after history piece) one) t other last) left longest))
+    (longest_append table (after history piece) (drop piece.len text) one other last reads.1 (subst (λ (t : Text). IsLongestReading table (after_all (after history piece) one) t other last) left longest))
 
 pub but_last : {A : Type 0} (xs : List A) (x : A) → take (length (xs ++ x ∷ []) - 1) (xs ++ x ∷ []) ≡ xs
 but_last xs x = let len : length (xs ++ x ∷ []) - 1 ≡ length xs = omega (arith, length-append xs (x ∷ [])) in ap (λ n. take n (xs ++ x ∷ [])) len ∙ take-append_seam xs (x ∷ [])
@@ -153,9 +153,9 @@ pub some_before : (text : Text) (pieces : List Piece) → ¬ (pieces ≡ []) →
 some_before text [] some = absurd (some refl)
 some_before text (piece ∷ pieces) some = refl
 
-pub some_both : (one other : List Piece) → ¬ (one ≡ []) → ¬ (one ++ other ≡ [])
-some_both [] other some e = some refl
-some_both (piece ∷ one) other some e = cc
+pub some_append : (one other : List Piece) → ¬ (one ≡ []) → ¬ (one ++ other ≡ [])
+some_append [] other some e = some refl
+some_append (piece ∷ one) other some e = cc
 
 pub same_outcome : {one other : List Lexeme} {fault end : Option (Spanned Fault)} → one ≡ other → fault ≡ end → ◌≡◌ {A = Outcome} (record { lexemes = one; fault = fault }) (record { lexemes = other; fault = end })
 same_outcome e f = rw (e, f) refl
@@ -170,7 +170,7 @@ module _ (text more : Text) (first : Piece) (pieces : List Piece) (here : Cut te
   pub longest : IsLongestReading language nothing (text ++ more) (both.pieces' ++ there.pieces) there.last
   longest =
       let left : drop (pieces_len both.pieces') (text ++ more) ≡ drop first.len more = ap (λ n. drop n (text ++ more)) both.len ∙ drop-append-add text more first.len in
-      longest_both language nothing (text ++ more) both.pieces' there.pieces there.last both.reads
+      longest_append language nothing (text ++ more) both.pieces' there.pieces there.last both.reads
       (subst (λ (t : Text). IsLongestReading language (after_all nothing both.pieces') t there.pieces there.last) (sym left)
       (subst (λ (past : History). IsLongestReading language past (drop first.len more) there.pieces there.last) (sym both.past)
       (longest_after language (after_all nothing pieces) (after nothing first) (drop first.len more) there.pieces there.last here.is_settled there.longest)))
@@ -180,22 +180,22 @@ module _ (text more : Text) (first : Piece) (pieces : List Piece) (here : Cut te
   joined_is = sym (outcome_only language (text ++ more) _ (record { pieces = both.pieces' ++ there.pieces; last = there.last; longest = longest; same = refl }))
 
   total : pieces_len (both.pieces' ++ there.pieces) ≡ length text + pieces_len (first ∷ there.pieces)
-  total = omega (arith, pieces_both both.pieces' there.pieces, both.len, sum_by-cons (λ (piece : Piece). piece.len) first there.pieces)
+  total = omega (arith, pieces_append both.pieces' there.pieces, both.len, sum_by-cons (λ (piece : Piece). piece.len) first there.pieces)
 
   lexemes : lexemes_along 0 (both.pieces' ++ there.pieces) ≡ lexemes_along 0 pieces ++ map (moved (length text)) (lexemes_along 0 (first ∷ there.pieces))
   lexemes =
       let start : 0 + pieces_len both.pieces' ≡ length text + (0 + first.len) = omega (arith, both.len) in
-      along_both 0 both.pieces' there.pieces
+      along_append 0 both.pieces' there.pieces
       ∙ ap (λ ls. ls ++ lexemes_along (0 + pieces_len both.pieces') there.pieces) (both.lexemes 0)
       ∙ append_assoc (lexemes_along 0 pieces) (map (moved (0 + length text)) first.lexemes) (lexemes_along (0 + pieces_len both.pieces') there.pieces)
       ∙ ap (λ ls. lexemes_along 0 pieces ++ ls)
       (ap (λ n. map (moved (0 + length text)) first.lexemes ++ lexemes_along n there.pieces) start
       ∙ ap (λ ls. map (moved (0 + length text)) first.lexemes ++ ls) (along_later (length text) (0 + first.len) there.pieces)
       ∙ ap (λ ls. ls ++ map (moved (length text)) (lexemes_along (0 + first.len) there.pieces)) (sym (all_moved (length text) 0 (0 + length text) first.lexemes (omega arith)))
-      ∙ sym (map_both (moved (length text)) (map (moved 0) first.lexemes) (lexemes_along (0 + first.len) there.pieces)))
+      ∙ sym (map-append (moved (length text)) (map (moved 0) first.lexemes) (lexemes_along (0 + first.len) there.pieces)))
 
   pub past : after_all nothing (both.pieces' ++ there.pieces) ≡ remainder (after_all nothing pieces) (after_all nothing (first ∷ there.pieces))
-  past = past_both nothing both.pieces' there.pieces ∙ ap (λ (h : History). after_all h there.pieces) both.past ∙ all_after (after_all nothing pieces) (after nothing first) there.pieces
+  past = past_append nothing both.pieces' there.pieces ∙ ap (λ (h : History). after_all h there.pieces) both.past ∙ all_after (after_all nothing pieces) (after nothing first) there.pieces
 
   cut_lexemes : (other : List Lexeme) → lexemes_along 0 pieces ++ map (moved (length text)) other ≡ joined (length text) (outcome text).lexemes other
   cut_lexemes other = ap (λ ls. ls ++ map (moved (length text)) other)
@@ -211,14 +211,14 @@ module _ (text more : Text) (first : Piece) (pieces : List Piece) (here : Cut te
       ∙ ap (λ ls. lexemes_along 0 (both.pieces' ++ there.pieces) ++ ls) (closing_later (length text) end (after_all nothing pieces) last here.is_settled)
       ∙ ap (λ ls. ls ++ map (moved (length text)) (closing end last)) lexemes
       ∙ append_assoc (lexemes_along 0 pieces) (map (moved (length text)) (lexemes_along 0 (first ∷ there.pieces))) (map (moved (length text)) (closing end last))
-      ∙ ap (λ ls. lexemes_along 0 pieces ++ ls) (sym (map_both (moved (length text)) (lexemes_along 0 (first ∷ there.pieces)) (closing end last)))
+      ∙ ap (λ ls. lexemes_along 0 pieces ++ ls) (sym (map-append (moved (length text)) (lexemes_along 0 (first ∷ there.pieces)) (closing end last)))
       ∙ cut_lexemes (lexemes_along 0 (first ∷ there.pieces) ++ closing end last)
 
   -- what the joined text comes to, by what stands last
   by_last : (last : Step) → outcome_of (text ++ more) (both.pieces' ++ there.pieces) last
       ≡ record { lexemes = joined (length text) (outcome text).lexemes (outcome_of more (first ∷ there.pieces) last).lexemes; fault = option_map (moved (length text)) (outcome_of more (first ∷ there.pieces) last).fault }
   by_last (Fails fault) =
-      same_outcome (some_before (text ++ more) (both.pieces' ++ there.pieces) (some_both both.pieces' there.pieces both.some) ∙ lexemes ∙ cut_lexemes (lexemes_along 0 (first ∷ there.pieces)))
+      same_outcome (some_before (text ++ more) (both.pieces' ++ there.pieces) (some_append both.pieces' there.pieces both.some) ∙ lexemes ∙ cut_lexemes (lexemes_along 0 (first ∷ there.pieces)))
       (ap Some (sym (moved_both (length text) (pieces_len (first ∷ there.pieces)) (pieces_len (both.pieces' ++ there.pieces)) fault (sym total))))
   by_last (Stands piece) = same_outcome to_end refl
   by_last Ends = same_outcome to_end refl

@@ -49,14 +49,14 @@ ends_line_of (b ∷ c ∷ bs) h =
 -- Words
 
 -- no front that is longer than a text has a class, where none that goes on from it has one
-front_followed : {C : Type 0} (class_of : Text → Option C) (b : ℕ) (bs more : Text) → ((c : ℕ) (word : Text) → class_of ((b ∷ bs) ++ c ∷ word) ≡ None) → longest_front class_of ((b ∷ bs) ++ more) ≡ longest_front class_of (b ∷ bs)
+front_append : {C : Type 0} (class_of : Text → Option C) (b : ℕ) (bs more : Text) → ((c : ℕ) (word : Text) → class_of ((b ∷ bs) ++ c ∷ word) ≡ None) → longest_front class_of ((b ∷ bs) ++ more) ≡ longest_front class_of (b ∷ bs)
 unfolding longest_front
-front_followed {C} class_of b [] more h = rw (none more) refl
+front_append {C} class_of b [] more h = rw (none more) refl
   where
     none : (more : Text) → longest_front (λ word. class_of (b ∷ word)) more ≡ None
     none [] = refl
     none (c ∷ more) = front_none (λ word. class_of (b ∷ word)) c more (h c)
-front_followed class_of b (c ∷ bs) more h = rw (front_followed (λ word. class_of (b ∷ word)) c bs more h) refl
+front_append class_of b (c ∷ bs) more h = rw (front_append (λ word. class_of (b ∷ word)) c bs more h) refl
 
 -- an LF inside
 feed_inside : (b : ℕ) (bs : Text) (c : ℕ) (word : Text) → ends_line (b ∷ bs) ≡ true → feed_last ((b ∷ bs) ++ c ∷ word) ≡ false
@@ -69,6 +69,6 @@ words_end [] c word h = cc
 words_end (b ∷ bs) c word h = feed_ends ((b ∷ bs) ++ c ∷ word) (feed_inside b bs c word h)
 
 -- The longest word at the front of a text that ends with an LF stays the longest, whatever follows.
-pub longest_followed : (text more : Text) → ends_line text ≡ true → longest_front (class_in language) (text ++ more) ≡ longest_front (class_in language) text
-longest_followed [] more h = cc
-longest_followed (b ∷ bs) more h = front_followed (class_in language) b bs more (λ c word. words_end (b ∷ bs) c word h)
+pub longest_front_append : (text more : Text) → ends_line text ≡ true → longest_front (class_in language) (text ++ more) ≡ longest_front (class_in language) text
+longest_front_append [] more h = cc
+longest_front_append (b ∷ bs) more h = front_append (class_in language) b bs more (λ c word. words_end (b ∷ bs) c word h)

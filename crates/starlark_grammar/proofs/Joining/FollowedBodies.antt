@@ -35,11 +35,11 @@ other_byte b c h k =
     go false h = refl
 
 -- what a text that ends with an LF begins with, where no LF is in that, …
-pub starts_followed : (text needle more : Text) → ends_line text ≡ true → in_line needle ≡ true → starts_with nat_eq (text ++ more) needle ≡ starts_with nat_eq text needle
-starts_followed text [] more h k = refl
-starts_followed [] (c ∷ cs) more h k = cc
-starts_followed (b ∷ []) (c ∷ cs) more h k = rw (other_byte b c h (and_parts (is_in_line c) (in_line cs) k).0) refl
-starts_followed (b ∷ d ∷ bs) (c ∷ cs) more h k = rw (starts_followed (d ∷ bs) cs more h (and_parts (is_in_line c) (in_line cs) k).1) refl
+pub starts_append : (text needle more : Text) → ends_line text ≡ true → in_line needle ≡ true → starts_with nat_eq (text ++ more) needle ≡ starts_with nat_eq text needle
+starts_append text [] more h k = refl
+starts_append [] (c ∷ cs) more h k = cc
+starts_append (b ∷ []) (c ∷ cs) more h k = rw (other_byte b c h (and_parts (is_in_line c) (in_line cs) k).0) refl
+starts_append (b ∷ d ∷ bs) (c ∷ cs) more h k = rw (starts_append (d ∷ bs) cs more h (and_parts (is_in_line c) (in_line cs) k).1) refl
 
 -- … and that it is longer
 pub starts_inside : (text needle : Text) → ends_line text ≡ true → in_line needle ≡ true → starts_with nat_eq text needle ≡ true → length needle < length text
@@ -87,25 +87,25 @@ numbered_followed whole len true n other h = by_test (λ found. FoundFollowed wh
 numbered_followed whole len false n other h = by_test (λ found. FoundFollowed whole found other) (is_character n) (goes len (encode_utf8 n)) (broken len []) (λ yes less. h less ∙ rw yes refl) (λ no. tt)
 
 -- a run that ends before the end
-pub prefix_followed : (test : ℕ → Bool) (most : ℕ) (text more : Text) → prefix_len test (take most text) < length text → prefix_len test (take most (text ++ more)) ≡ prefix_len test (take most text)
-prefix_followed test zero text more h = refl
-prefix_followed test (suc most) [] more h = absurd (omega arith)
-prefix_followed test (suc most) (b ∷ bs) more h = go (test b) (prefix_followed test most bs more) h
+pub prefix_append : (test : ℕ → Bool) (most : ℕ) (text more : Text) → prefix_len test (take most text) < length text → prefix_len test (take most (text ++ more)) ≡ prefix_len test (take most text)
+prefix_append test zero text more h = refl
+prefix_append test (suc most) [] more h = absurd (omega arith)
+prefix_append test (suc most) (b ∷ bs) more h = go (test b) (prefix_append test most bs more) h
   where
     go : (passes : Bool) → (prefix_len test (take most bs) < length bs → prefix_len test (take most (bs ++ more)) ≡ prefix_len test (take most bs))
         → cond passes (1 + prefix_len test (take most bs)) 0 < length (b ∷ bs) → cond passes (1 + prefix_len test (take most (bs ++ more))) 0 ≡ cond passes (1 + prefix_len test (take most bs)) 0
     go true rest h = ap (λ n. 1 + n) (rest (omega arith))
     go false rest h = refl
 
-hexadecimal_followed : (wanted : ℕ) (is_byte : Bool) (text more : Text) → FoundFollowed (2 + length text) (hexadecimal wanted is_byte text) (hexadecimal wanted is_byte (text ++ more))
-hexadecimal_followed wanted is_byte text more = go (prefix_len is_ascii_hexdigit (take wanted text)) refl
+hexadecimal_append : (wanted : ℕ) (is_byte : Bool) (text more : Text) → FoundFollowed (2 + length text) (hexadecimal wanted is_byte text) (hexadecimal wanted is_byte (text ++ more))
+hexadecimal_append wanted is_byte text more = go (prefix_len is_ascii_hexdigit (take wanted text)) refl
   where
     by : ℕ → Text → Found
     by n text = if n == wanted then numbered (2 + n) is_byte (digits_value 16 (take n text)) else broken (2 + n) (drop n text)
 
     equal : (n : ℕ) → prefix_len is_ascii_hexdigit (take wanted text) ≡ n → (n == wanted) ≡ true → 2 + n < 2 + length text → hexadecimal wanted is_byte (text ++ more) ≡ numbered (2 + n) is_byte (digits_value 16 (take n text))
     equal n e full inside =
-        let again : prefix_len is_ascii_hexdigit (take wanted (text ++ more)) ≡ n = prefix_followed is_ascii_hexdigit wanted text more (omega arith) ∙ e in
+        let again : prefix_len is_ascii_hexdigit (take wanted (text ++ more)) ≡ n = prefix_append is_ascii_hexdigit wanted text more (omega arith) ∙ e in
         ap (λ n. by n (text ++ more)) again ∙ rw (full, take-append-le n text more (omega arith)) refl
 
     go : (n : ℕ) → prefix_len is_ascii_hexdigit (take wanted text) ≡ n → FoundFollowed (2 + length text) (by n text) (hexadecimal wanted is_byte (text ++ more))
@@ -120,73 +120,73 @@ octal_by is_byte n text = numbered (1 + n) is_byte (digits_value 8 (take n text)
 -- one that ends before the end
 pub octal_onward : (is_byte : Bool) (text more : Text) (n : ℕ) → prefix_len is_octal_digit (take 3 text) ≡ n → 1 + n < 1 + length text → octal is_byte (text ++ more) ≡ octal_by is_byte n text
 octal_onward is_byte text more n e inside =
-    let again : prefix_len is_octal_digit (take 3 (text ++ more)) ≡ n = prefix_followed is_octal_digit 3 text more (omega (arith, e, inside)) ∙ e in
+    let again : prefix_len is_octal_digit (take 3 (text ++ more)) ≡ n = prefix_append is_octal_digit 3 text more (omega (arith, e, inside)) ∙ e in
     ap (λ n. octal_by is_byte n (text ++ more)) again ∙ ap (λ (digits : Text). numbered (1 + n) is_byte (digits_value 8 digits)) (take-append-le n text more (omega (arith, inside)))
 
-octal_followed : (is_byte : Bool) (text more : Text) → FoundFollowed (1 + length text) (octal is_byte text) (octal is_byte (text ++ more))
-octal_followed is_byte text more = numbered_followed (1 + length text) _ is_byte _ _ (octal_onward is_byte text more (prefix_len is_octal_digit (take 3 text)) refl)
+octal_append : (is_byte : Bool) (text more : Text) → FoundFollowed (1 + length text) (octal is_byte text) (octal is_byte (text ++ more))
+octal_append is_byte text more = numbered_followed (1 + length text) _ is_byte _ _ (octal_onward is_byte text more (prefix_len is_octal_digit (take 3 text)) refl)
 
-escaped_feed_followed : (len : ℕ) (text more : Text) → FoundFollowed len (escaped_newline text) (escaped_newline (text ++ more))
-escaped_feed_followed len [] more = tt
-escaped_feed_followed len (b ∷ bs) more = both (FoundFollowed len) (b == byte "\n") _ _ _ _ (λ e. same_followed len (goes 3 [])) (λ e. broken_followed len 2 (b ∷ bs) (broken 2 (b ∷ (bs ++ more))))
+escaped_feed_append : (len : ℕ) (text more : Text) → FoundFollowed len (escaped_newline text) (escaped_newline (text ++ more))
+escaped_feed_append len [] more = tt
+escaped_feed_append len (b ∷ bs) more = both (FoundFollowed len) (b == byte "\n") _ _ _ _ (λ e. same_followed len (goes 3 [])) (λ e. broken_followed len 2 (b ∷ bs) (broken 2 (b ∷ (bs ++ more))))
 
-pub character_followed : (text more : Text) → length (first_character text) < length text → first_character (text ++ more) ≡ first_character text
-character_followed [] more inside = absurd (omega arith)
-character_followed (b ∷ bs) more inside = ap (λ (rest : Text). b ∷ rest) (take-append-le (continuation_len b) bs more (omega (arith, length-take (continuation_len b) bs)))
+pub character_append : (text more : Text) → length (first_character text) < length text → first_character (text ++ more) ≡ first_character text
+character_append [] more inside = absurd (omega arith)
+character_append (b ∷ bs) more inside = ap (λ (rest : Text). b ∷ rest) (take-append-le (continuation_len b) bs more (omega (arith, length-take (continuation_len b) bs)))
 
 simple_followed : (len : ℕ) (value : Option ℕ) (one other : Text) → (1 + length one < len → other ≡ one) → FoundFollowed len (simple value one) (simple value other)
 simple_followed len (Some value) one other h = λ inside. refl
 simple_followed len None one other h = λ inside. ap (simple None) (h inside)
 
-pub escape_followed : (kind : Kind) (text more : Text) → FoundFollowed (1 + length text) (escape kind text) (escape kind (text ++ more))
+pub escape_append : (kind : Kind) (text more : Text) → FoundFollowed (1 + length text) (escape kind text) (escape kind (text ++ more))
 unfolding escape
-escape_followed kind [] more = tt
-escape_followed kind (b ∷ bs) more =
+escape_append kind [] more = tt
+escape_append kind (b ∷ bs) more =
     let len : ℕ = 1 + length (b ∷ bs) in
     let two : 2 + length bs ≡ 1 + length (b ∷ bs) = omega arith in
     let P : Found → Found → Type 0 = FoundFollowed (1 + length (b ∷ bs)) in
     both P (b == byte "\n") _ _ _ _ (λ e. same_followed _ (goes 2 [])) (λ e.
-    both P (b == byte "\r") _ _ _ _ (λ e. escaped_feed_followed _ bs more) (λ e.
-    both P (b == byte "x") _ _ _ _ (λ e. subst (λ n. FoundFollowed n (hexadecimal 2 (is_of_bytes kind) bs) (hexadecimal 2 (is_of_bytes kind) (bs ++ more))) two (hexadecimal_followed 2 (is_of_bytes kind) bs more)) (λ e.
-    both P (b == byte "u") _ _ _ _ (λ e. subst (λ n. FoundFollowed n (hexadecimal 4 false bs) (hexadecimal 4 false (bs ++ more))) two (hexadecimal_followed 4 false bs more)) (λ e.
-    both P (b == byte "U") _ _ _ _ (λ e. subst (λ n. FoundFollowed n (hexadecimal 8 false bs) (hexadecimal 8 false (bs ++ more))) two (hexadecimal_followed 8 false bs more)) (λ e.
-    both P (is_octal_digit b) _ _ _ _ (λ e. octal_followed (is_of_bytes kind) (b ∷ bs) more) (λ e.
-    simple_followed _ (lookup (nat_eq b) simple_escapes) (first_character (b ∷ bs)) (first_character (b ∷ (bs ++ more))) (λ inside. character_followed (b ∷ bs) more (omega arith))))))))
+    both P (b == byte "\r") _ _ _ _ (λ e. escaped_feed_append _ bs more) (λ e.
+    both P (b == byte "x") _ _ _ _ (λ e. subst (λ n. FoundFollowed n (hexadecimal 2 (is_of_bytes kind) bs) (hexadecimal 2 (is_of_bytes kind) (bs ++ more))) two (hexadecimal_append 2 (is_of_bytes kind) bs more)) (λ e.
+    both P (b == byte "u") _ _ _ _ (λ e. subst (λ n. FoundFollowed n (hexadecimal 4 false bs) (hexadecimal 4 false (bs ++ more))) two (hexadecimal_append 4 false bs more)) (λ e.
+    both P (b == byte "U") _ _ _ _ (λ e. subst (λ n. FoundFollowed n (hexadecimal 8 false bs) (hexadecimal 8 false (bs ++ more))) two (hexadecimal_append 8 false bs more)) (λ e.
+    both P (is_octal_digit b) _ _ _ _ (λ e. octal_append (is_of_bytes kind) (b ∷ bs) more) (λ e.
+    simple_followed _ (lookup (nat_eq b) simple_escapes) (first_character (b ∷ bs)) (first_character (b ∷ (bs ++ more))) (λ inside. character_append (b ∷ bs) more (omega arith))))))))
 
-pub raw_pair_followed : (kind : Kind) (quote : Quote) (text more : Text) → FoundFollowed (1 + length text) (raw_pair kind quote text) (raw_pair kind quote (text ++ more))
+pub raw_pair_append : (kind : Kind) (quote : Quote) (text more : Text) → FoundFollowed (1 + length text) (raw_pair kind quote text) (raw_pair kind quote (text ++ more))
 unfolding raw_pair
-raw_pair_followed kind quote [] more = tt
-raw_pair_followed kind quote (b ∷ bs) more = λ inside.
-    ap (λ (character : Text). goes (1 + length character) (if drops_backslash kind quote b then character else byte "\\" ∷ character)) (character_followed (b ∷ bs) more (omega arith))
+raw_pair_append kind quote [] more = tt
+raw_pair_append kind quote (b ∷ bs) more = λ inside.
+    ap (λ (character : Text). goes (1 + length character) (if drops_backslash kind quote b then character else byte "\\" ∷ character)) (character_append (b ∷ bs) more (omega arith))
 
 -- no brace stands alone at the end
-brace_followed : (literal : Literal) (b : ℕ) (bs more : Text) → ends_line (b ∷ bs) ≡ true → is_brace literal.kind b ≡ true → FoundFollowed (length (b ∷ bs)) (brace b bs) (brace b (bs ++ more))
-brace_followed literal b [] more h e = go literal.kind (subst (λ n. is_brace literal.kind n ≡ true) (eqb-true b 10 h) e)
+brace_append : (literal : Literal) (b : ℕ) (bs more : Text) → ends_line (b ∷ bs) ≡ true → is_brace literal.kind b ≡ true → FoundFollowed (length (b ∷ bs)) (brace b bs) (brace b (bs ++ more))
+brace_append literal b [] more h e = go literal.kind (subst (λ n. is_brace literal.kind n ≡ true) (eqb-true b 10 h) e)
   where
     go : (kind : Kind) → is_brace kind 10 ≡ true → FoundFollowed 1 (brace b []) (brace b more)
     go OfText e = cc
     go OfBytes e = cc
     go OfFString e = cc
-brace_followed literal b (c ∷ cs) more h e = same_followed (length (b ∷ c ∷ cs)) (brace b (c ∷ cs))
+brace_append literal b (c ∷ cs) more h e = same_followed (length (b ∷ c ∷ cs)) (brace b (c ∷ cs))
 
 -- the same test twice
 pub both_equal : (P : Found → Found → Type 0) (test again : Bool) (x y v w : Found) → again ≡ test → P x v → P y w → P (if test then x else y) (if again then v else w)
 both_equal P test again x y v w e hit miss = subst (λ (again : Bool). P (if test then x else y) (if again then v else w)) (sym e) (both P test x y v w (λ f. hit) (λ f. miss))
 
 -- What stands at a place of a body: an item that ends before the text does stays, and so do all stops but a bad escape.
-pub found_followed : (literal : Literal) (text more : Text) → ends_line text ≡ true → FoundFollowed (length text) (found_at literal text) (found_at literal (text ++ more))
+pub found_append : (literal : Literal) (text more : Text) → ends_line text ≡ true → FoundFollowed (length text) (found_at literal text) (found_at literal (text ++ more))
 unfolding found_at
-found_followed literal [] more h = cc
-found_followed literal (b ∷ bs) more h =
+found_append literal [] more h = cc
+found_append literal (b ∷ bs) more h =
     let P : Found → Found → Type 0 = FoundFollowed (length (b ∷ bs)) in
     let one : 1 + length bs ≡ length (b ∷ bs) = omega arith in
-    both_equal P (starts_with nat_eq (b ∷ bs) (closing_quotes literal.opening)) (starts_with nat_eq (b ∷ (bs ++ more)) (closing_quotes literal.opening)) _ _ _ _ (starts_followed (b ∷ bs) (closing_quotes literal.opening) more h (closing_in_line literal.opening)) refl
+    both_equal P (starts_with nat_eq (b ∷ bs) (closing_quotes literal.opening)) (starts_with nat_eq (b ∷ (bs ++ more)) (closing_quotes literal.opening)) _ _ _ _ (starts_append (b ∷ bs) (closing_quotes literal.opening) more h (closing_in_line literal.opening)) refl
     (both P (b == byte "\n" && not literal.opening.is_triple) _ _ _ _ (λ e. refl) (λ e.
     both P (b == byte "\r") _ _ _ _ (λ e. same_followed _ (goes 1 [])) (λ e.
-    both P (b == byte "\\" && literal.opening.is_raw) _ _ _ _ (λ e. subst (λ n. FoundFollowed n (raw_pair literal.kind literal.opening.quote bs) (raw_pair literal.kind literal.opening.quote (bs ++ more))) one (raw_pair_followed literal.kind literal.opening.quote bs more)) (λ e.
-    both P (b == byte "\\") _ _ _ _ (λ e. subst (λ n. FoundFollowed n (escape literal.kind bs) (escape literal.kind (bs ++ more))) one (escape_followed literal.kind bs more)) (λ e.
-    both P (is_brace literal.kind b) _ _ _ _ (λ e. brace_followed literal b bs more h e) (λ e.
-    λ inside. ap (λ (character : Text). goes (length character) character) (character_followed (b ∷ bs) more inside)))))))
+    both P (b == byte "\\" && literal.opening.is_raw) _ _ _ _ (λ e. subst (λ n. FoundFollowed n (raw_pair literal.kind literal.opening.quote bs) (raw_pair literal.kind literal.opening.quote (bs ++ more))) one (raw_pair_append literal.kind literal.opening.quote bs more)) (λ e.
+    both P (b == byte "\\") _ _ _ _ (λ e. subst (λ n. FoundFollowed n (escape literal.kind bs) (escape literal.kind (bs ++ more))) one (escape_append literal.kind bs more)) (λ e.
+    both P (is_brace literal.kind b) _ _ _ _ (λ e. brace_append literal b bs more h e) (λ e.
+    λ inside. ap (λ (character : Text). goes (length character) character) (character_append (b ∷ bs) more inside)))))))
 
 -- Bodies
 
@@ -212,15 +212,15 @@ closed_inside literal (suc passed) [] h = cc
 closed_inside literal zero (b ∷ bs) h = omega arith
 closed_inside literal (suc passed) (b ∷ bs) h = let more = closed_inside literal passed bs h in omega arith
 
-pub body_from_followed : (literal : Literal) (passed : ℕ) (text more : Text) → ends_line text ≡ true → is_closed (body_from literal passed text).stop ≡ true → body_from literal passed (text ++ more) ≡ body_from literal passed text
+pub body_from_append : (literal : Literal) (passed : ℕ) (text more : Text) → ends_line text ≡ true → is_closed (body_from literal passed text).stop ≡ true → body_from literal passed (text ++ more) ≡ body_from literal passed text
 unfolding body_from
-body_from_followed literal zero [] more h closed = cc
-body_from_followed literal (suc passed) [] more h closed = cc
-body_from_followed literal (suc passed) (b ∷ bs) more h closed =
+body_from_append literal zero [] more h closed = cc
+body_from_append literal (suc passed) [] more h closed = cc
+body_from_append literal (suc passed) (b ∷ bs) more h closed =
     let inside = closed_inside literal passed bs closed in
-    body_from_followed literal passed bs more (ends_line_rest b bs (omega arith) h) closed
-body_from_followed literal zero (b ∷ bs) more h closed =
-    go (found_at literal (b ∷ bs)) (found_at literal (b ∷ (bs ++ more))) (found_followed literal (b ∷ bs) more h) (found_fits literal (b ∷ bs)) (λ passed. body_from_followed literal passed bs more) closed
+    body_from_append literal passed bs more (ends_line_rest b bs (omega arith) h) closed
+body_from_append literal zero (b ∷ bs) more h closed =
+    go (found_at literal (b ∷ bs)) (found_at literal (b ∷ (bs ++ more))) (found_append literal (b ∷ bs) more h) (found_fits literal (b ∷ bs)) (λ passed. body_from_append literal passed bs more) closed
   where
     again : ℕ → Body
     again passed = body_from literal passed (bs ++ more)
@@ -237,6 +237,6 @@ body_from_followed literal zero (b ∷ bs) more h closed =
         ap (λ (found : Found). body_onward found again) found ∙ ap (λ (rest : Body). record { items = item ∷ rest.items; stop = rest.stop }) remainder
 
 -- A body that is closed stays.
-pub body_followed : (literal : Literal) (text more : Text) → ends_line text ≡ true → is_closed (body_at literal text).stop ≡ true → body_at literal (text ++ more) ≡ body_at literal text
+pub body_append : (literal : Literal) (text more : Text) → ends_line text ≡ true → is_closed (body_at literal text).stop ≡ true → body_at literal (text ++ more) ≡ body_at literal text
 unfolding body_at
-body_followed literal text more h closed = body_from_followed literal 0 text more h closed
+body_append literal text more h closed = body_from_append literal 0 text more h closed

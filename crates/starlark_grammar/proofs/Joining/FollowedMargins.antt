@@ -31,11 +31,11 @@ no_line b bs = go (is_lf b) (lines bs)
     go false [] e = cc
     go false (l ∷ m) e = cc
 
-pub lines_followed : (text more : Text) → has_whole_lines text ≡ true → lines (text ++ more) ≡ lines text ++ lines more
+pub lines_append : (text more : Text) → has_whole_lines text ≡ true → lines (text ++ more) ≡ lines text ++ lines more
 unfolding lines
-lines_followed [] more h = refl
-lines_followed (b ∷ []) more h = rw h refl
-lines_followed (b ∷ c ∷ bs) more h = go (is_lf b) (lines (c ∷ bs)) (no_line c bs) (lines_followed (c ∷ bs) more h)
+lines_append [] more h = refl
+lines_append (b ∷ []) more h = rw h refl
+lines_append (b ∷ c ∷ bs) more h = go (is_lf b) (lines (c ∷ bs)) (no_line c bs) (lines_append (c ∷ bs) more h)
   where
     go : (feed : Bool) (m : List Text) → (m ≡ [] → ⊥) → lines ((c ∷ bs) ++ more) ≡ m ++ lines more
         → (if feed then (b ∷ []) ∷ lines ((c ∷ bs) ++ more) else onto_first b (lines ((c ∷ bs) ++ more))) ≡ (if feed then (b ∷ []) ∷ m else onto_first b m) ++ lines more
@@ -97,9 +97,9 @@ whole_after (suc n) (b ∷ []) h = whole_after n [] refl
 whole_after (suc n) (b ∷ c ∷ bs) h = whole_after n (c ∷ bs) h
 
 -- the blanks of a line that isn't blank to its end
-blanks_followed : (b : ℕ) (bs more : Text) → has_whole_lines (b ∷ bs) ≡ true → blanks_len ((b ∷ bs) ++ more) ≡ blanks_len (b ∷ bs)
-blanks_followed b [] more h = let feed : b ≡ 10 = eqb-true b 10 h in rw feed refl
-blanks_followed b (c ∷ bs) more h = ap (λ n. cond (is_blank b) (1 + n) 0) (blanks_followed c bs more h)
+blanks_append : (b : ℕ) (bs more : Text) → has_whole_lines (b ∷ bs) ≡ true → blanks_len ((b ∷ bs) ++ more) ≡ blanks_len (b ∷ bs)
+blanks_append b [] more h = let feed : b ≡ 10 = eqb-true b 10 h in rw feed refl
+blanks_append b (c ∷ bs) more h = ap (λ n. cond (is_blank b) (1 + n) 0) (blanks_append c bs more h)
 
 blanks_less : (b : ℕ) (bs : Text) → has_whole_lines (b ∷ bs) ≡ true → blanks_len (b ∷ bs) < length (b ∷ bs)
 blanks_less b [] h = let feed : b ≡ 10 = eqb-true b 10 h in rw feed (omega arith)
@@ -122,11 +122,11 @@ comments_later n at (line ∷ ls) =
     let next : n + at + length line ≡ n + (at + length line) = omega arith in
     rw (comment_later n at line, next, comments_later n (at + length line) ls) refl
 
-comments_both : (at : ℕ) (xs ys : List Text) → comments_from at (xs ++ ys) ≡ comments_from at xs ++ comments_from (at + lines_sum xs) ys
-comments_both at [] ys = let same : at ≡ at + lines_sum [] = omega arith in ap (λ n. comments_from n ys) same
-comments_both at (line ∷ xs) ys =
+comments_append : (at : ℕ) (xs ys : List Text) → comments_from at (xs ++ ys) ≡ comments_from at xs ++ comments_from (at + lines_sum xs) ys
+comments_append at [] ys = let same : at ≡ at + lines_sum [] = omega arith in ap (λ n. comments_from n ys) same
+comments_append at (line ∷ xs) ys =
     let next : at + length line + lines_sum xs ≡ at + lines_sum (line ∷ xs) = omega (arith, sum_by-cons (λ (line : Text). length line) line xs) in
-    ap (λ ls. comment_of at line ∷ ls) (comments_both (at + length line) xs ys ∙ ap (λ n. comments_from (at + length line) xs ++ comments_from n ys) next)
+    ap (λ ls. comment_of at line ∷ ls) (comments_append (at + length line) xs ys ∙ ap (λ n. comments_from (at + length line) xs ++ comments_from n ys) next)
 
 -- a margin after so many bytes of comment-only lines
 abbrev pub margin_after : ℕ → List Lexeme → Margin → Margin
@@ -137,13 +137,13 @@ pub data Followed (text more : Text) : Type 0 where
   Whole : margin_of text ≡ record { comments = (margin_of text).comments; at = length text; blanks = []; remainder = [] } → margin_of (text ++ more) ≡ margin_after (length text) (margin_of text).comments (margin_of more) → Followed text more
   Within : 0 < length (margin_of text).remainder → margin_len (margin_of text) < length text → margin_of (text ++ more) ≡ record { comments = (margin_of text).comments; at = (margin_of text).at; blanks = (margin_of text).blanks; remainder = (margin_of text).remainder ++ more } → Followed text more
 
-from_followed : (passed : List Text) (at b : ℕ) (bs more : Text) → has_whole_lines (b ∷ bs) ≡ true
+from_append : (passed : List Text) (at b : ℕ) (bs more : Text) → has_whole_lines (b ∷ bs) ≡ true
     → margin_from passed at ((b ∷ bs) ++ more) ≡ record { comments = (margin_from passed at (b ∷ bs)).comments; at = at; blanks = (margin_from passed at (b ∷ bs)).blanks; remainder = (margin_from passed at (b ∷ bs)).remainder ++ more }
-from_followed passed at b bs more ends =
+from_append passed at b bs more ends =
     let less = blanks_less b bs ends in
     let taken : take (blanks_len (b ∷ bs)) ((b ∷ bs) ++ more) ≡ take (blanks_len (b ∷ bs)) (b ∷ bs) = take-append-le (blanks_len (b ∷ bs)) (b ∷ bs) more (omega (arith, less)) in
     let left : drop (blanks_len (b ∷ bs)) ((b ∷ bs) ++ more) ≡ drop (blanks_len (b ∷ bs)) (b ∷ bs) ++ more = drop-append-le (blanks_len (b ∷ bs)) (b ∷ bs) more (omega (arith, less)) in
-    ap (λ n. record { comments = comments_from 0 passed; at = at; blanks = take n ((b ∷ bs) ++ more); remainder = drop n ((b ∷ bs) ++ more) }) (blanks_followed b bs more ends)
+    ap (λ n. record { comments = comments_from 0 passed; at = at; blanks = take n ((b ∷ bs) ++ more); remainder = drop n ((b ∷ bs) ++ more) }) (blanks_append b bs more ends)
     ∙ parts taken left
   where
     parts : {blanks remainder blanks' remainder' : Text} → blanks ≡ blanks' → remainder ≡ remainder' → ◌≡◌ {A = Margin} (record { comments = comments_from 0 passed; at = at; blanks = blanks; remainder = remainder }) (record { comments = comments_from 0 passed; at = at; blanks = blanks'; remainder = remainder' })
@@ -151,7 +151,7 @@ from_followed passed at b bs more ends =
 
 module _ (text more : Text) (whole : has_whole_lines text ≡ true) where
   private_lines : comment_lines (text ++ more) ≡ take_while is_comment_only (lines text ++ lines more)
-  private_lines = ap (take_while is_comment_only) (lines_followed text more whole)
+  private_lines = ap (take_while is_comment_only) (lines_append text more whole)
 
   all_lines : list_all is_comment_only (lines text) ≡ true → Followed text more
   unfolding margin_of
@@ -164,7 +164,7 @@ module _ (text more : Text) (whole : has_whole_lines text ≡ true) where
       let left : drop (lines_sum (comment_lines (text ++ more))) (text ++ more) ≡ drop (lines_sum (comment_lines more)) more = ap (λ n. drop n (text ++ more)) total ∙ drop-append-add text more (lines_sum (comment_lines more)) in
       let start : 0 + lines_sum (lines text) ≡ length text + 0 = omega (arith, lines_len text) in
       let comments : comments_from 0 (comment_lines (text ++ more)) ≡ comments_from 0 (comment_lines text) ++ map (moved (length text)) (comments_from 0 (comment_lines more)) =
-      ap (comments_from 0) there ∙ comments_both 0 (lines text) (comment_lines more)
+      ap (comments_from 0) there ∙ comments_append 0 (lines text) (comment_lines more)
       ∙ ap (λ n. comments_from 0 (lines text) ++ comments_from n (comment_lines more)) start
       ∙ ap (λ ls. comments_from 0 (lines text) ++ ls) (comments_later (length text) 0 (comment_lines more))
       ∙ ap (λ (ls : List Text). comments_from 0 ls ++ map (moved (length text)) (comments_from 0 (comment_lines more))) (sym here) in
@@ -184,7 +184,7 @@ module _ (text more : Text) (whole : has_whole_lines text ≡ true) where
       go : (rest : Text) (passed : List Text) (at : ℕ) → has_whole_lines rest ≡ true → 0 < length rest
           → (0 < length (margin_from passed at rest).remainder) × (length (margin_from passed at rest).blanks < length rest) × (margin_from passed at (rest ++ more) ≡ record { comments = (margin_from passed at rest).comments; at = at; blanks = (margin_from passed at rest).blanks; remainder = (margin_from passed at rest).remainder ++ more })
       go [] passed at ends some = absurd (omega (arith, some))
-      go (b ∷ bs) passed at ends some = let less = blanks_less b bs ends in (omega (arith, less, length-drop (blanks_len (b ∷ bs)) (b ∷ bs)), omega (arith, less, length-take (blanks_len (b ∷ bs)) (b ∷ bs)), from_followed passed at b bs more ends)
+      go (b ∷ bs) passed at ends some = let less = blanks_less b bs ends in (omega (arith, less, length-drop (blanks_len (b ∷ bs)) (b ∷ bs)), omega (arith, less, length-take (blanks_len (b ∷ bs)) (b ∷ bs)), from_append passed at b bs more ends)
 
   pub followed : Followed text more
   followed = go (list_all is_comment_only (lines text)) refl

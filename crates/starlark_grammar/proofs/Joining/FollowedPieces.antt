@@ -19,8 +19,8 @@ use Rattle.starlark_grammar.specs.Pieces.{Before, Nothing, Layout, Gap, Other, P
 use Rattle.starlark_grammar.proofs.Words.Fronts.{front_sound}
 use Rattle.starlark_grammar.proofs.Reading.Steps.{is_nothing}
 use Rattle.starlark_grammar.proofs.WordNewlines.{in_line, line_fits, language_lines}
-use Rattle.starlark_grammar.proofs.Joining.Followed.{ends_line, ends_line_drop, longest_followed}
-use Rattle.starlark_grammar.proofs.Joining.FollowedBodies.{is_closed, body_followed, starts_followed, starts_inside}
+use Rattle.starlark_grammar.proofs.Joining.Followed.{ends_line, ends_line_drop, longest_front_append}
+use Rattle.starlark_grammar.proofs.Joining.FollowedBodies.{is_closed, body_append, starts_append, starts_inside}
 
 -- Texts of f-strings
 
@@ -33,12 +33,12 @@ chunk_by_followed opening text other body (BadEscape read last) piece e = cc
 chunk_by_followed opening text other body Line piece e = cc
 chunk_by_followed opening text other body Ended piece e = cc
 
-pub chunk_followed : (opening : Opening) (text more : Text) (piece : Piece) → ends_line text ≡ true → chunk opening text ≡ Stands piece → chunk opening (text ++ more) ≡ Stands piece
+pub chunk_append : (opening : Opening) (text more : Text) (piece : Piece) → ends_line text ≡ true → chunk opening text ≡ Stands piece → chunk opening (text ++ more) ≡ Stands piece
 unfolding chunk
-chunk_followed opening text more piece h e =
+chunk_append opening text more piece h e =
     let body : Body = body_at (record { kind = OfFString; opening = opening }) text in
     let stands = chunk_by_followed opening text (text ++ more) (body_at (record { kind = OfFString; opening = opening }) text) _ piece e in
-    ap (λ (body : Body). chunk_by opening (text ++ more) body body.stop) (body_followed (record { kind = OfFString; opening = opening }) text more h stands.0) ∙ stands.1
+    ap (λ (body : Body). chunk_by opening (text ++ more) body body.stop) (body_append (record { kind = OfFString; opening = opening }) text more h stands.0) ∙ stands.1
 
 -- Literals
 
@@ -54,19 +54,19 @@ literal_by_followed mode kind opening len remainder other body (BadEscape read l
 literal_by_followed mode kind opening len remainder other body Line piece e = cc
 literal_by_followed mode kind opening len remainder other body Ended piece e = cc
 
-pub literal_followed : (mode : Mode) (kind : Kind) (opening : Opening) (len : ℕ) (remainder more : Text) (piece : Piece) → ends_line remainder ≡ true → literal mode kind opening len remainder ≡ Stands piece → literal mode kind opening len (remainder ++ more) ≡ Stands piece
-literal_followed mode kind opening len remainder more piece h e =
+pub literal_append : (mode : Mode) (kind : Kind) (opening : Opening) (len : ℕ) (remainder more : Text) (piece : Piece) → ends_line remainder ≡ true → literal mode kind opening len remainder ≡ Stands piece → literal mode kind opening len (remainder ++ more) ≡ Stands piece
+literal_append mode kind opening len remainder more piece h e =
     let stands = literal_by_followed mode kind opening len remainder (remainder ++ more) (body_at (record { kind = kind; opening = opening }) remainder) _ piece e in
-    ap (λ (body : Body). literal_by mode kind opening len (remainder ++ more) body body.stop) (body_followed (record { kind = kind; opening = opening }) remainder more h stands.0) ∙ stands.1
+    ap (λ (body : Body). literal_by mode kind opening len (remainder ++ more) body body.stop) (body_append (record { kind = kind; opening = opening }) remainder more h stands.0) ∙ stands.1
 
 literal_after : (mode : Mode) (kind : Kind) (opening : Opening) (len quotes : ℕ) (remainder more : Text) (piece : Piece) → ends_line remainder ≡ true → quotes < length remainder → literal mode kind opening len (drop quotes remainder) ≡ Stands piece → literal mode kind opening len (drop quotes (remainder ++ more)) ≡ Stands piece
 literal_after mode kind opening len quotes remainder more piece h inside e =
-    subst (λ (t : Text). literal mode kind opening len t ≡ Stands piece) (sym (drop-append-le quotes remainder more (omega arith))) (literal_followed mode kind opening len (drop quotes remainder) more piece (ends_line_drop quotes remainder inside h) e)
+    subst (λ (t : Text). literal mode kind opening len t ≡ Stands piece) (sym (drop-append-le quotes remainder more (omega arith))) (literal_append mode kind opening len (drop quotes remainder) more piece (ends_line_drop quotes remainder inside h) e)
 
-opener_followed : (mode : Mode) (kind : Kind) (opening : Opening) (len : ℕ) (remainder more : Text) (piece : Piece) → ends_line remainder ≡ true → more_quotes opening < length remainder → opener mode kind opening len remainder ≡ Stands piece → opener mode kind opening len (remainder ++ more) ≡ Stands piece
-opener_followed mode OfFString opening len remainder more piece h inside e = e
-opener_followed mode OfText opening len remainder more piece h inside e = literal_after mode OfText opening (len + more_quotes opening) (more_quotes opening) remainder more piece h inside e
-opener_followed mode OfBytes opening len remainder more piece h inside e = literal_after mode OfBytes opening (len + more_quotes opening) (more_quotes opening) remainder more piece h inside e
+opener_append : (mode : Mode) (kind : Kind) (opening : Opening) (len : ℕ) (remainder more : Text) (piece : Piece) → ends_line remainder ≡ true → more_quotes opening < length remainder → opener mode kind opening len remainder ≡ Stands piece → opener mode kind opening len (remainder ++ more) ≡ Stands piece
+opener_append mode OfFString opening len remainder more piece h inside e = e
+opener_append mode OfText opening len remainder more piece h inside e = literal_after mode OfText opening (len + more_quotes opening) (more_quotes opening) remainder more piece h inside e
+opener_append mode OfBytes opening len remainder more piece h inside e = literal_after mode OfBytes opening (len + more_quotes opening) (more_quotes opening) remainder more piece h inside e
 
 pub quotes_in_line : (quote : Quote) → in_line (quote_byte quote ∷ quote_byte quote ∷ []) ≡ true
 quotes_in_line SingleQuote = refl
@@ -83,9 +83,9 @@ opening_inside is_raw quote remainder h = go (starts_with nat_eq remainder (quot
     go true inside = inside refl
     go false inside = some_inside remainder h
 
-pub opening_followed : (is_raw : Bool) (quote : Quote) (remainder more : Text) → ends_line remainder ≡ true → opening_of is_raw quote (remainder ++ more) ≡ opening_of is_raw quote remainder
-opening_followed is_raw quote remainder more h =
-    ap (λ (triple : Bool). let opening : Opening = record { is_raw = is_raw; quote = quote; is_triple = triple } in opening) (starts_followed remainder (quote_byte quote ∷ quote_byte quote ∷ []) more h (quotes_in_line quote))
+pub opening_append : (is_raw : Bool) (quote : Quote) (remainder more : Text) → ends_line remainder ≡ true → opening_of is_raw quote (remainder ++ more) ≡ opening_of is_raw quote remainder
+opening_append is_raw quote remainder more h =
+    ap (λ (triple : Bool). let opening : Opening = record { is_raw = is_raw; quote = quote; is_triple = triple } in opening) (starts_append remainder (quote_byte quote ∷ quote_byte quote ∷ []) more h (quotes_in_line quote))
 
 -- Words
 
@@ -135,8 +135,8 @@ word_followed s word.LineEnd front remainder more piece ends fits e = go (counts
     go false f e = inl e
 word_followed s (word.Opener kind is_raw quote) front remainder more piece ends fits e =
     let h = ends fits in
-    inl (ap (λ (opening : Opening). opener s.mode kind opening (length front) (remainder ++ more)) (opening_followed is_raw quote remainder more h)
-    ∙ opener_followed s.mode kind (opening_of is_raw quote remainder) (length front) remainder more piece h (opening_inside is_raw quote remainder h) e)
+    inl (ap (λ (opening : Opening). opener s.mode kind opening (length front) (remainder ++ more)) (opening_append is_raw quote remainder more h)
+    ∙ opener_append s.mode kind (opening_of is_raw quote remainder) (length front) remainder more piece h (opening_inside is_raw quote remainder h) e)
 word_followed s word.Reserved front remainder more piece ends fits e = inl e
 word_followed s word.Identifier front remainder more piece ends fits e = inl e
 word_followed s word.Decimal front remainder more piece ends fits e = inl e
@@ -166,10 +166,10 @@ front_goes_on s text more front h found =
     }
 
 -- what a longest word at the front comes to
-front_followed : (s : Situation) (text more : Text) (found : Option (Class × ℕ)) (piece : Piece) → ends_line text ≡ true → longest_front (class_in language) text ≡ found → front_step s text found ≡ Stands piece
+front_append : (s : Situation) (text more : Text) (found : Option (Class × ℕ)) (piece : Piece) → ends_line text ≡ true → longest_front (class_in language) text ≡ found → front_step s text found ≡ Stands piece
     → (front_step s (text ++ more) found ≡ Stands piece) ⊎ CountedLineEnd s text more (front_step s text found) (front_step s (text ++ more) found)
-front_followed s text more None piece h found e = cc
-front_followed s text more (Some front) piece h found e = go (word_followed s front.0 (take front.1 text) (drop front.1 text) more piece goes.ends (language_lines (take front.1 text) front.0 goes.sound.2) e)
+front_append s text more None piece h found e = cc
+front_append s text more (Some front) piece h found e = go (word_followed s front.0 (take front.1 text) (drop front.1 text) more piece goes.ends (language_lines (take front.1 text) front.0 goes.sound.2) e)
   where
     goes : FrontGoesOn s text more front
     goes = front_goes_on s text more front h found
@@ -186,31 +186,31 @@ front_followed s text more (Some front) piece h found e = go (word_followed s fr
       followed = goes.again ∙ counted.3 ∙ ap (λ n. line_end n s.levels (drop front.1 text ++ more)) goes.len;
     })
 
-pub bang_followed : (b : ℕ) (bs more : Text) → ends_line (b ∷ bs) ≡ true → is_bang (b ∷ (bs ++ more)) ≡ is_bang (b ∷ bs)
-bang_followed b [] more h = subst (λ n. is_bang (n ∷ more) ≡ is_bang (n ∷ [])) (sym (eqb-true b 10 h)) (go more)
+pub bang_append : (b : ℕ) (bs more : Text) → ends_line (b ∷ bs) ≡ true → is_bang (b ∷ (bs ++ more)) ≡ is_bang (b ∷ bs)
+bang_append b [] more h = subst (λ n. is_bang (n ∷ more) ≡ is_bang (n ∷ [])) (sym (eqb-true b 10 h)) (go more)
   where
     go : (more : Text) → is_bang (10 ∷ more) ≡ is_bang (10 ∷ [])
     go [] = refl
     go (c ∷ more) = refl
-bang_followed b (c ∷ bs) more h = refl
+bang_append b (c ∷ bs) more h = refl
 
 -- what code comes to, by whether a bang stands there
 abbrev pub code_step : Situation → (bang : Bool) → Text → Option (Class × ℕ) → Step
 code_step s bang text front = if bang then token 1 FStringBang else front_step s text front
 
 pub bang_stays : (s : Situation) (b : ℕ) (bs more : Text) → ends_line (b ∷ bs) ≡ true → (takes_bang s.mode s.before && is_bang (b ∷ (bs ++ more))) ≡ (takes_bang s.mode s.before && is_bang (b ∷ bs))
-bang_stays s b bs more h = ap (λ bang. takes_bang s.mode s.before && bang) (bang_followed b bs more h)
+bang_stays s b bs more h = ap (λ bang. takes_bang s.mode s.before && bang) (bang_append b bs more h)
 
 -- A piece of code stays, or it is a line end that counts.
-pub code_followed : (s : Situation) (text more : Text) (piece : Piece) → ends_line text ≡ true → in_code language s text ≡ Stands piece
+pub code_append : (s : Situation) (text more : Text) (piece : Piece) → ends_line text ≡ true → in_code language s text ≡ Stands piece
     → (in_code language s (text ++ more) ≡ Stands piece) ⊎ CountedLineEnd s text more (in_code language s text) (in_code language s (text ++ more))
-code_followed s [] more piece h e = cc
-code_followed s (b ∷ bs) more piece h e = go (takes_bang s.mode s.before && is_bang (b ∷ bs)) (bang_stays s b bs more h) (longest_front (class_in language) (b ∷ bs)) refl (longest_followed (b ∷ bs) more h) e
+code_append s [] more piece h e = cc
+code_append s (b ∷ bs) more piece h e = go (takes_bang s.mode s.before && is_bang (b ∷ bs)) (bang_stays s b bs more h) (longest_front (class_in language) (b ∷ bs)) refl (longest_front_append (b ∷ bs) more h) e
   where
     once : (bang : Bool) (front : Option (Class × ℕ)) → longest_front (class_in language) (b ∷ bs) ≡ front → code_step s bang (b ∷ bs) front ≡ Stands piece
         → (code_step s bang (b ∷ (bs ++ more)) front ≡ Stands piece) ⊎ CountedLineEnd s (b ∷ bs) more (code_step s bang (b ∷ bs) front) (code_step s bang (b ∷ (bs ++ more)) front)
     once true front known e = inl e
-    once false front known e = front_followed s (b ∷ bs) more front piece h known e
+    once false front known e = front_append s (b ∷ bs) more front piece h known e
 
     go : (bang : Bool) → (takes_bang s.mode s.before && is_bang (b ∷ (bs ++ more))) ≡ bang → (front : Option (Class × ℕ)) → longest_front (class_in language) (b ∷ bs) ≡ front → longest_front (class_in language) (b ∷ (bs ++ more)) ≡ front
         → code_step s bang (b ∷ bs) front ≡ Stands piece
@@ -219,17 +219,17 @@ code_followed s (b ∷ bs) more piece h e = go (takes_bang s.mode s.before && is
     go bang again front known found e = rw (again, found) (once bang front known e)
 
 -- So does what stands at a place that isn't the text's begin.
-pub step_followed : (s : Situation) (text more : Text) (piece : Piece) → is_nothing s.before ≡ false → ends_line text ≡ true → step_at language s text ≡ Stands piece
+pub step_append : (s : Situation) (text more : Text) (piece : Piece) → is_nothing s.before ≡ false → ends_line text ≡ true → step_at language s text ≡ Stands piece
     → (step_at language s (text ++ more) ≡ Stands piece) ⊎ CountedLineEnd s text more (step_at language s text) (step_at language s (text ++ more))
 unfolding step_at
-step_followed s text more piece some h e = before s.before some e
+step_append s text more piece some h e = before s.before some e
   where
     at : (mode : Mode) → by_mode language s mode text ≡ Stands piece
         → (by_mode language s mode (text ++ more) ≡ Stands piece) ⊎ CountedLineEnd s text more (by_mode language s mode text) (by_mode language s mode (text ++ more))
-    at Outside e = code_followed s text more piece h e
-    at (InText opening) e = inl (chunk_followed opening text more piece h e)
-    at AtTop e = code_followed s text more piece h e
-    at Deeper e = code_followed s text more piece h e
+    at Outside e = code_append s text more piece h e
+    at (InText opening) e = inl (chunk_append opening text more piece h e)
+    at AtTop e = code_append s text more piece h e
+    at Deeper e = code_append s text more piece h e
 
     before : (before : Before) → is_nothing before ≡ false → by_before language s before text ≡ Stands piece
         → (by_before language s before (text ++ more) ≡ Stands piece) ⊎ CountedLineEnd s text more (by_before language s before text) (by_before language s before (text ++ more))

@@ -3,7 +3,7 @@ use Rattle.std.proofs.Common.{◌≡◌, ℕ, ◌+◌, ◌<◌, Bool, true, fals
 use Rattle.std.specs.Prelude.{⊤, ◌&&◌, if◌then◌else◌, nat_lt, option_to_list}
 use Rattle.std.proofs.lemmas.Bool.{both_ways}
 use Rattle.std.proofs.lemmas.List.Sums.{sum_by-cons}
-use Rattle.std.proofs.lemmas.List.{drop-append-le, take-append-le, length-drop, length-take}
+use Rattle.std.proofs.lemmas.List.{drop-append-le, take-append-le, length-drop, length-take, map-append}
 use Rattle.starlark_grammar.specs.declared.class.Class.TheVariants as word
 use Rattle.starlark_grammar.specs.Words.{Text, class_in, language}
 use Rattle.starlark_grammar.specs.declared.class.LiteralKind.{LiteralKind as Kind}
@@ -22,10 +22,10 @@ use Rattle.starlark_grammar.proofs.Literals.LiteralSteps.{chunk_holds, opener_ho
 use Rattle.starlark_grammar.proofs.Words.Fronts.{longest_front_is}
 use Rattle.starlark_grammar.proofs.Reading.Readings.{none_next, started, piece_fits}
 use Rattle.starlark_grammar.proofs.Reading.Steps.{is_nothing}
-use Rattle.starlark_grammar.proofs.Joining.Followed.{ends_line, ends_line_drop, longest_followed}
-use Rattle.starlark_grammar.proofs.Joining.FollowedPieces.{CountedLineEnd, step_followed}
+use Rattle.starlark_grammar.proofs.Joining.Followed.{ends_line, ends_line_drop, longest_front_append}
+use Rattle.starlark_grammar.proofs.Joining.FollowedPieces.{CountedLineEnd, step_append}
 use Rattle.starlark_grammar.proofs.Joining.FollowedMargins.{whole_after, Followed, Whole, Within, margin_after, followed, has_whole_lines}
-use Rattle.starlark_grammar.proofs.Joining.Settled.{Settled, remainder, onto_append}
+use Rattle.starlark_grammar.proofs.Joining.Settled.{Settled, remainder, onto_earlier}
 
 -- Margins and line ends
 
@@ -34,16 +34,16 @@ whole_from_ends [] h = refl
 whole_from_ends (b ∷ []) h = h
 whole_from_ends (b ∷ c ∷ bs) h = whole_from_ends (c ∷ bs) h
 
-pub content_followed : (text more : Text) → 0 < length text → is_content (text ++ more) ≡ is_content text
-content_followed [] more some = absurd (omega (arith, some))
-content_followed (b ∷ bs) more some = refl
+pub content_append : (text more : Text) → 0 < length text → is_content (text ++ more) ≡ is_content text
+content_append [] more some = absurd (omega (arith, some))
+content_append (b ∷ bs) more some = refl
 
 -- where the margin ends inside of the text
 pub step_within : (len : ℕ) (lexemes : List Lexeme) (levels : List ℕ) (text more : Text) → 0 < length (margin_of text).remainder
     → margin_of (text ++ more) ≡ record { comments = (margin_of text).comments; at = (margin_of text).at; blanks = (margin_of text).blanks; remainder = (margin_of text).remainder ++ more }
     → margin_step len lexemes levels (margin_of (text ++ more)) ≡ margin_step len lexemes levels (margin_of text)
 unfolding margin_step indentation
-step_within len lexemes levels text more some e = rw (e, content_followed (margin_of text).remainder more some) refl
+step_within len lexemes levels text more some e = rw (e, content_append (margin_of text).remainder more some) refl
 
 pub moved_both : {A : Type 0} (a b c : ℕ) (x : Rattle.starlark_grammar.specs.Tokens.Spanned A) → a + b ≡ c → moved a (moved b x) ≡ moved c x
 moved_both a b c x e =
@@ -65,10 +65,6 @@ unmoved (x ∷ xs) =
     let begin : 0 + x.begin ≡ x.begin = omega arith in
     let end : 0 + x.end ≡ x.end = omega arith in
     rw (begin, end, unmoved xs) refl
-
-pub map_both : {A B : Type 0} (f : A → B) (xs ys : List A) → map f (xs ++ ys) ≡ map f xs ++ map f ys
-map_both f [] ys = refl
-map_both f (x ∷ xs) ys = ap (λ zs. f x ∷ zs) (map_both f xs ys)
 
 -- where the text is all comment-only lines: what the margin is then
 abbrev pub joined_piece : ℕ → List Lexeme → Piece → Piece
@@ -106,8 +102,8 @@ step_after len lexemes n comments margin first e =
     same indents width =
         let total : len + (n + margin.at + length margin.blanks) ≡ len + n + (0 + (margin.at + length margin.blanks)) = omega arith in
         let lists : lexemes ++ map (moved len) ((comments ++ map (moved n) margin.comments) ++ map (moved n) indents) ≡ (lexemes ++ map (moved len) comments) ++ map (moved (len + n)) (map (moved 0) (margin.comments ++ indents)) =
-        ap (λ ls. lexemes ++ map (moved len) ls) (append_assoc comments (map (moved n) margin.comments) (map (moved n) indents) ∙ ap (λ ls. comments ++ ls) (sym (map_both (moved n) margin.comments indents)))
-        ∙ ap (λ ls. lexemes ++ ls) (map_both (moved len) comments (map (moved n) (margin.comments ++ indents)))
+        ap (λ ls. lexemes ++ map (moved len) ls) (append_assoc comments (map (moved n) margin.comments) (map (moved n) indents) ∙ ap (λ ls. comments ++ ls) (sym (map-append (moved n) margin.comments indents)))
+        ∙ ap (λ ls. lexemes ++ ls) (map-append (moved len) comments (map (moved n) (margin.comments ++ indents)))
         ∙ sym (append_assoc lexemes (map (moved len) comments) (map (moved len) (map (moved n) (margin.comments ++ indents))))
         ∙ ap (λ ls. (lexemes ++ map (moved len) comments) ++ ls) (all_moved len n (len + n) (margin.comments ++ indents) refl ∙ sym (all_moved (len + n) 0 (len + n) (margin.comments ++ indents) (omega arith))) in
         rw (total, lists) refl
@@ -253,7 +249,7 @@ last_line_end s text more piece ends laid started stands = counted (counted_end 
     counted end (b ∷ bs) same =
         let n = end.len in
         let inside = (longest_front_is (class_in language) text word.LineEnd n end.front).inside in
-        let front : longest_front (class_in language) ((b ∷ bs) ++ more) ≡ Some (word.LineEnd, n) = subst (λ (t : Text). longest_front (class_in language) (t ++ more) ≡ Some (word.LineEnd, n)) same (longest_followed text more ends ∙ end.front) in
+        let front : longest_front (class_in language) ((b ∷ bs) ++ more) ≡ Some (word.LineEnd, n) = subst (λ (t : Text). longest_front (class_in language) (t ++ more) ≡ Some (word.LineEnd, n)) same (longest_front_append text more ends ∙ end.front) in
         let step = subst (λ (t : Text). step_at language s (t ++ more) ≡ line_end (length (take n (t ++ more))) s.levels (drop n (t ++ more))) (sym same) (counted_step s b (bs ++ more) n started end.counted front) in
         let taken : take n (text ++ more) ≡ take n text = take-append-le n text more inside in
         let left : drop n (text ++ more) ≡ drop n text ++ more = drop-append-le n text more inside in
@@ -309,10 +305,10 @@ joined_margin len lexemes text more piece first whole stands reach begins = go (
     go (Within some less f) = absurd (omega (arith, less, reach, margin_step_len len lexemes [] (margin_of text) piece stands))
 
 -- a situation that is read for the first time, or not
-pub last_joined : (s : Situation) (text more : Text) (piece first : Piece) → ends_line text ≡ true → s.levels ≡ [] → is_layout piece.sort ≡ true → piece.len ≡ length text → step_at language s text ≡ Stands piece → first_margin more ≡ Stands first
+pub last_append : (s : Situation) (text more : Text) (piece first : Piece) → ends_line text ≡ true → s.levels ≡ [] → is_layout piece.sort ≡ true → piece.len ≡ length text → step_at language s text ≡ Stands piece → first_margin more ≡ Stands first
     → (step_at language s (text ++ more) ≡ Stands (joined_piece (length text) piece.lexemes first)) × (piece.width ≡ None)
 unfolding step_at
-last_joined s text more piece first ends levels laid reach stands begins = go s.before refl stands
+last_append s text more piece first ends levels laid reach stands begins = go s.before refl stands
   where
     Claim : Before → Type 0
     Claim before = (by_before language s before (text ++ more) ≡ Stands (joined_piece (length text) piece.lexemes first)) × (piece.width ≡ None)
@@ -344,12 +340,12 @@ margin_stays len lexemes levels text more piece whole stands less = go (followed
     go (Within some inside f) = step_within len lexemes levels text more some f ∙ stands
 
 -- A piece that ends before its text does stays where the text goes on.
-stands_followed : (s : Situation) (text more : Text) (piece : Piece) → ends_line text ≡ true → piece.len < length text → step_at language s text ≡ Stands piece → step_at language s (text ++ more) ≡ Stands piece
+stands_append : (s : Situation) (text more : Text) (piece : Piece) → ends_line text ≡ true → piece.len < length text → step_at language s text ≡ Stands piece → step_at language s (text ++ more) ≡ Stands piece
 unfolding step_at
-stands_followed s text more piece ends less stands = go s.before refl stands
+stands_append s text more piece ends less stands = go s.before refl stands
   where
     later : is_nothing s.before ≡ false → step_at language s (text ++ more) ≡ Stands piece
-    later started = by (step_followed s text more piece started ends stands)
+    later started = by (step_append s text more piece started ends stands)
       where
         by : (step_at language s (text ++ more) ≡ Stands piece) ⊎ CountedLineEnd s text more (step_at language s text) (step_at language s (text ++ more)) → step_at language s (text ++ more) ≡ Stands piece
         by (inl same) = same
@@ -366,7 +362,7 @@ stands_followed s text more piece ends less stands = go s.before refl stands
 
 pub next_stays : (history : History) (text more : Text) (piece : Piece) → ends_line text ≡ true → piece.len < length text → next_step language history text ≡ Stands piece → next_step language history (text ++ more) ≡ Stands piece
 unfolding next_step situation
-next_stays history text more piece ends less stands = stands_followed (situation history) text more piece ends less stands
+next_stays history text more piece ends less stands = stands_append (situation history) text more piece ends less stands
 
 -- The reading of a settled text with a text after it whose first margin stands.
 pub record Joined (history settled : History) (text more : Text) (pieces : List Piece) (first : Piece) : Type 0 where
@@ -377,9 +373,9 @@ pub record Joined (history settled : History) (text more : Text) (pieces : List 
   pub past : after_all history pieces' ≡ remainder settled (after nothing first)
   pub lexemes : (at : ℕ) → lexemes_along at pieces' ≡ lexemes_along at pieces ++ map (moved (at + length text)) first.lexemes
 
-onto_both : (tokens : List Token) (one other : List Lexeme) → tokens_onto tokens (one ++ other) ≡ tokens_onto (tokens_onto tokens one) other
-onto_both tokens [] other = refl
-onto_both tokens (lexeme ∷ one) other = onto_both (lexeme.node ∷ tokens) one other
+pub onto_append : (tokens : List Token) (one other : List Lexeme) → tokens_onto tokens (one ++ other) ≡ tokens_onto (tokens_onto tokens one) other
+onto_append tokens [] other = refl
+onto_append tokens (lexeme ∷ one) other = onto_append (lexeme.node ∷ tokens) one other
 
 onto_moved : (tokens : List Token) (n : ℕ) (lexemes : List Lexeme) → tokens_onto tokens (map (moved n) lexemes) ≡ tokens_onto tokens lexemes
 onto_moved tokens n [] = refl
@@ -422,12 +418,12 @@ join_last history text more piece first ends stands reach settled begins =
     let width = last_width (situation history) text piece ends settled.layout reach stands in
     let widths : history.widths ++ option_to_list piece.width ≡ history.widths = ap (λ w. history.widths ++ option_to_list w) width ∙ append-nil history.widths in
     let levels : open_widths history.widths ≡ [] = ap open_widths (sym widths) ∙ settled.no_width in
-    let joined = last_joined (situation history) text more piece first ends levels settled.layout reach stands begins in
+    let joined = last_append (situation history) text more piece first ends levels settled.layout reach stands begins in
     let last = joined_piece (length text) piece.lexemes first in
     let tokens : tokens_onto history.tokens last.lexemes ≡ tokens_onto [] first.lexemes ++ tokens_onto history.tokens piece.lexemes =
-    onto_both history.tokens piece.lexemes (map (moved (length text)) first.lexemes)
+    onto_append history.tokens piece.lexemes (map (moved (length text)) first.lexemes)
     ∙ onto_moved (tokens_onto history.tokens piece.lexemes) (length text) first.lexemes
-    ∙ onto_append [] (tokens_onto history.tokens piece.lexemes) first.lexemes in
+    ∙ onto_earlier [] (tokens_onto history.tokens piece.lexemes) first.lexemes in
     record {
       pieces' = last ∷ [];
       some = λ e. no_cons last [] e;
@@ -435,7 +431,7 @@ join_last history text more piece first ends stands reach settled begins =
       len = omega (arith, sum_by-cons (λ (piece : Piece). piece.len) last []);
       past = ap (λ ts. record { tokens = ts; widths = history.widths ++ option_to_list first.width; before = first.sort }) tokens
           ∙ ap (λ ws. record { tokens = tokens_onto [] first.lexemes ++ tokens_onto history.tokens piece.lexemes; widths = ws ++ option_to_list first.width; before = first.sort }) (sym widths);
-      lexemes = λ at. append-nil (map (moved at) last.lexemes) ∙ map_both (moved at) piece.lexemes (map (moved (length text)) first.lexemes)
+      lexemes = λ at. append-nil (map (moved at) last.lexemes) ∙ map-append (moved at) piece.lexemes (map (moved (length text)) first.lexemes)
           ∙ ap (λ ls. map (moved at) piece.lexemes ++ ls) (all_moved at (length text) (at + length text) first.lexemes refl)
           ∙ ap (λ ls. ls ++ map (moved (at + length text)) first.lexemes) (sym (append-nil (map (moved at) piece.lexemes)));
     }

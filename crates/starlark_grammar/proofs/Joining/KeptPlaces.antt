@@ -14,9 +14,9 @@ use Rattle.starlark_grammar.specs.Laws.{Begins}
 use Rattle.starlark_grammar.proofs.Choices.{either}
 use Rattle.starlark_grammar.proofs.Reading.Readings.{read_is, reading_fits, readings_agree}
 use Rattle.starlark_grammar.proofs.Reading.Steps.{Each, lines_len}
-use Rattle.starlark_grammar.proofs.Joining.CleanCuts.{along_both, pieces_both}
+use Rattle.starlark_grammar.proofs.Joining.CleanCuts.{along_append, pieces_append}
 use Rattle.starlark_grammar.proofs.Joining.Followed.{ends_line_of}
-use Rattle.starlark_grammar.proofs.Joining.FollowedMargins.{lines_followed, lines_sum, while_all, whole_after}
+use Rattle.starlark_grammar.proofs.Joining.FollowedMargins.{lines_append, lines_sum, while_all, whole_after}
 use Rattle.starlark_grammar.proofs.Joining.Joined.{whole_from_ends}
 use Rattle.starlark_grammar.proofs.Joining.LaidCuts.{AfterComments, First, IsFlat, IsLaid, LaysOut, clean_laid, MarginAt, comments_count, first_laid, laid_lexemes, line_count, line_laid, line_of, split_last}
 use Rattle.starlark_grammar.proofs.Joining.LineCuts.{next_reads, reads_more}
@@ -36,7 +36,7 @@ margin_stands text at laid reach = go (readings_agree language nothing text laid
 
     go : Begins laid.pieces (read language text).pieces ⊎ Begins (read language text).pieces laid.pieces → (piece : Piece) × (next_step language (after_all nothing laid.pieces) (drop (pieces_len laid.pieces) text) ≡ Stands piece)
     go (inl more) = further more.0 more.1
-    go (inr more) = absurd (omega (arith, ap pieces_len more.1, pieces_both (read language text).pieces more.0, laid.some, reach))
+    go (inr more) = absurd (omega (arith, ap pieces_len more.1, pieces_append (read language text).pieces more.0, laid.some, reach))
 
 -- A margin has its line end's lexemes and its comments at least.
 abbrev HasAtLeast : ℕ → Piece → Type 0
@@ -85,7 +85,7 @@ module _ (text : Text) (at : ℕ) (laid : IsLaid text at) where
   front_lines : comment_lines margin_text ≡ lines lines_before ++ take_while is_comment_only (lines (drop at text))
   front_lines =
       let whole = whole_after laid.n _ (whole_after (pieces_len laid.pieces) _ (whole_from_ends (take at text) (ends_line_of (take at text) laid.ends))) in
-      ap comment_lines parts ∙ ap (take_while is_comment_only) (lines_followed lines_before (drop at text) whole) ∙ while_all is_comment_only (lines lines_before) (lines (drop at text)) laid.comments
+      ap comment_lines parts ∙ ap (take_while is_comment_only) (lines_append lines_before (drop at text) whole) ∙ while_all is_comment_only (lines lines_before) (lines (drop at text)) laid.comments
 
   all_lines : length (lines lines_before) ≤ length (comment_lines margin_text)
   all_lines = omega (arith, ap length front_lines, length-append (lines lines_before) (take_while is_comment_only (lines (drop at text))))
@@ -148,8 +148,8 @@ no_more one other [] p q e = inl (last_same one other p q (e ∙ append-nil (oth
 no_more one other (x ∷ more) p q e =
     let cut = split_last (x ∷ more) (λ k. cc) in
     let same : one ≡ (other ++ q ∷ []) ++ cut.0 = last_same one ((other ++ q ∷ []) ++ cut.0) p cut.1 (e ∙ ap (λ ps. (other ++ q ∷ []) ++ ps) cut.2 ∙ sym (append_assoc (other ++ q ∷ []) cut.0 (cut.1 ∷ []))) in
-    let all = ap length (ap (lexemes_along 0) same ∙ along_both 0 (other ++ q ∷ []) cut.0) in
-    let two = ap length (along_both 0 other (q ∷ [])) in
+    let all = ap length (ap (lexemes_along 0) same ∙ along_append 0 (other ++ q ∷ []) cut.0) in
+    let two = ap length (along_append 0 other (q ∷ [])) in
     inr (omega (
       arith,
       all,
@@ -219,7 +219,7 @@ cut_few text at clean reach = go (readings_agree language nothing text (laid.pie
           arith,
           laid_lexemes text at laid,
           laid_least text at laid margin.0 margin.1,
-          ap length (along_both 0 laid.pieces (margin.0 ∷ [])),
+          ap length (along_append 0 laid.pieces (margin.0 ∷ [])),
           length-append (lexemes_along 0 laid.pieces) (lexemes_along (0 + pieces_len laid.pieces) (margin.0 ∷ [])),
           length-append (map (moved (0 + pieces_len laid.pieces)) margin.0.lexemes) [],
           length-map margin.0.lexemes (moved (0 + pieces_len laid.pieces)),
@@ -237,7 +237,7 @@ cut_few text at clean reach = go (readings_agree language nothing text (laid.pie
           arith,
           with_margin,
           ap (λ ps. length (lexemes_along 0 ps)) more.1,
-          ap length (along_both 0 (laid.pieces ++ margin.0 ∷ []) more.0),
+          ap length (along_append 0 (laid.pieces ++ margin.0 ∷ []) more.0),
           length-append (lexemes_along 0 (laid.pieces ++ margin.0 ∷ [])) (lexemes_along (0 + pieces_len (laid.pieces ++ margin.0 ∷ [])) more.0),
         )
     go (inr more) = beyond more.0 more.1

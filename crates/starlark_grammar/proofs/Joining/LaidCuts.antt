@@ -21,12 +21,12 @@ use Rattle.starlark_grammar.proofs.Lists.{drop-sum}
 use Rattle.starlark_grammar.proofs.Words.Fronts.{front_sound}
 use Rattle.starlark_grammar.proofs.Reading.Steps.{is_nothing, lines_len}
 use Rattle.starlark_grammar.proofs.Reading.Readings.{one_least, one_longest, piece_fits, read_is, started, longest_onward, stops_here}
-use Rattle.starlark_grammar.proofs.Joining.CleanCuts.{Cut, along_both, but_last, cut, longest_both, past_both, pieces_both}
+use Rattle.starlark_grammar.proofs.Joining.CleanCuts.{Cut, along_append, but_last, cut, longest_append, past_append, pieces_append}
 use Rattle.starlark_grammar.proofs.Joining.Laws.{clean_by}
 use Rattle.starlark_grammar.proofs.Joining.Tabs.{first_step}
-use Rattle.starlark_grammar.proofs.Joining.Followed.{longest_followed, ends_line, ends_line_drop, ends_line_of}
+use Rattle.starlark_grammar.proofs.Joining.Followed.{longest_front_append, ends_line, ends_line_drop, ends_line_of}
 use Rattle.starlark_grammar.proofs.Joining.FollowedMargins.{Followed, Whole, Within, has_whole_lines, lines_sum, some_line, some_lines, while_all, while_less, whole_after}
-use Rattle.starlark_grammar.proofs.Joining.Joined.{next_stays, blank_step, counted_end, counted_step, margin_step_len, outside, whole_from_ends}
+use Rattle.starlark_grammar.proofs.Joining.Joined.{next_stays, blank_step, counted_end, counted_step, margin_step_len, outside, whole_from_ends, onto_append}
 use Rattle.starlark_grammar.proofs.Joining.Settled.{Settled, outside_none}
 use Rattle.starlark_grammar.proofs.Joining.ShortenedPieces.{next_shortened}
 
@@ -97,16 +97,12 @@ comments_stand : (history : History) (rest : Text) (n : ℕ) (line : List Lexeme
 comments_stand history rest n line laid h =
     laid.step ∙ ap (margin_step n line (open_widths history.widths)) (comments_margin (drop n rest) h) ∙ blank_step n line (open_widths history.widths) (comments_from 0 (lines (drop n rest))) (length (drop n rest))
 
-onto_both : (tokens : List Token) (xs ys : List Lexeme) → tokens_onto tokens (xs ++ ys) ≡ tokens_onto (tokens_onto tokens xs) ys
-onto_both tokens [] ys = refl
-onto_both tokens (x ∷ xs) ys = onto_both (x.node ∷ tokens) xs ys
-
 flat_after : (history : History) (rest remainder : Text) (n : ℕ) (line : List Lexeme) → LaysOut history rest n line → IsFlat history → IsFlat (after history (comments_piece n line remainder))
 unfolding after is_balanced
 flat_after history rest remainder n line laid flat =
     let whole : map (moved n) (comments_from 0 (lines remainder) ++ []) ≡ map (moved n) (comments_from 0 (lines remainder)) = ap (map (moved n)) (append-nil (comments_from 0 (lines remainder))) in
     let both : tokens_onto history.tokens (line ++ map (moved n) (comments_from 0 (lines remainder) ++ [])) ≡ tokens_onto (tokens_onto history.tokens line) (map (moved n) (comments_from 0 (lines remainder))) =
-    ap (λ ls. tokens_onto history.tokens (line ++ ls)) whole ∙ onto_both history.tokens line (map (moved n) (comments_from 0 (lines remainder))) in
+    ap (λ ls. tokens_onto history.tokens (line ++ ls)) whole ∙ onto_append history.tokens line (map (moved n) (comments_from 0 (lines remainder))) in
     let now = comments_flat n 0 (lines remainder) (tokens_onto history.tokens line) (laid.quiet history.tokens (flat.none_open, eqb-true _ _ flat.balanced)) in
     record {
       none_open = ap (open_fstring 0) both ∙ now.0;
@@ -153,11 +149,11 @@ module _ (text : Text) (pieces : List Piece) (n : ℕ) (line : List Lexeme) (end
       let reach : length lines_text ≤ lines_piece.len = omega (arith, laid.inside, length-drop n lines_text) in
       let none : drop lines_piece.len lines_text ≡ [] = drop_of_length-le lines_text reach in
       let over = stops_here language (after before_lines lines_piece) (drop lines_piece.len lines_text) Ends (ap (next_step language (after before_lines lines_piece)) none ∙ flat_ends (after before_lines lines_piece) flat_now refl) (λ piece e. cc) in
-      longest_both language nothing text pieces (lines_piece ∷ []) Ends reads (longest_onward language before_lines lines_text lines_piece [] Ends stands over)
+      longest_append language nothing text pieces (lines_piece ∷ []) Ends reads (longest_onward language before_lines lines_text lines_piece [] Ends stands over)
 
   -- … and the text is a clean cut, …
   pub laid_cut : is_clean_cut text ≡ true
-  laid_cut = clean_by text (pieces ++ lines_piece ∷ []) Ends whole_reading ∙ rw (past_both nothing pieces (lines_piece ∷ []), settled_now, ends) refl
+  laid_cut = clean_by text (pieces ++ lines_piece ∷ []) Ends whole_reading ∙ rw (past_append nothing pieces (lines_piece ∷ []), settled_now, ends) refl
 
   -- … of so many lexemes.
   pub laid_count : length (without_closing (outcome text).lexemes) ≡ length (lexemes_along 0 pieces) + (length line + length (lines (drop n lines_text)))
@@ -166,7 +162,7 @@ module _ (text : Text) (pieces : List Piece) (n : ℕ) (line : List Lexeme) (end
       let same = (one_longest language nothing text _ _ _ _ (read_is language text) whole_reading).0 in
       let kept : without_closing (outcome text).lexemes ≡ lexemes_along 0 (pieces ++ lines_piece ∷ []) =
       ap without_closing all ∙ but_last (lexemes_along 0 (read language text).pieces) (record { begin = length text; node = Newline; end = length text }) ∙ ap (lexemes_along 0) same in
-      let parts = ap length (kept ∙ along_both 0 pieces (lines_piece ∷ [])) ∙ length-append (lexemes_along 0 pieces) (lexemes_along (0 + pieces_len pieces) (lines_piece ∷ [])) in
+      let parts = ap length (kept ∙ along_append 0 pieces (lines_piece ∷ [])) ∙ length-append (lexemes_along 0 pieces) (lexemes_along (0 + pieces_len pieces) (lines_piece ∷ [])) in
       let one = length-append (map (moved (0 + pieces_len pieces)) lines_piece.lexemes) [] in
       omega (
         arith,
@@ -303,7 +299,7 @@ front_of text at laid =
     go : (margin : MarginAt text pieces laid.n) → (line : List Lexeme) × (length line ≡ line_count margin) × LaysOut (after_all nothing pieces) (drop (pieces_len pieces) front) laid.n line
     go (First none zero_len) = ([], refl, subst (λ (ps : List Piece). LaysOut (after_all nothing ps) (drop (pieces_len ps) front) laid.n []) (sym none) (subst (λ k. LaysOut nothing front k []) (sym zero_len) (first_laid front)))
     go (AfterComments begun counted found) =
-        let again = sym (longest_followed (drop (pieces_len pieces) front) remainder (ends_line_drop (pieces_len pieces) front before ends)) ∙ ap (longest_front (class_in language)) (sym left) ∙ found in
+        let again = sym (longest_front_append (drop (pieces_len pieces) front) remainder (ends_line_drop (pieces_len pieces) front before ends)) ∙ ap (longest_front (class_in language)) (sym left) ∙ found in
         (line_of laid.n, refl, line_laid (after_all nothing pieces) (drop (pieces_len pieces) front) laid.n begun counted again)
 
 -- There the text in front is a clean cut, …
@@ -399,7 +395,7 @@ laid_by text at (piece ∷ pieces) last inside ends reads stands end total =
       pieces = piece ∷ pieces;
       n = here.n;
       reads = subst (λ (t : Text). IsReading language nothing t (piece ∷ pieces)) whole (reading_stays nothing front (drop at text) (piece ∷ pieces) line reads before);
-      margin = AfterComments begun here.counted (ap (longest_front (class_in language)) left ∙ longest_followed (drop reached front) (drop at text) (ends_line_drop reached front before line) ∙ here.front);
+      margin = AfterComments begun here.counted (ap (longest_front (class_in language)) left ∙ longest_front_append (drop reached front) (drop at text) (ends_line_drop reached front before line) ∙ here.front);
       flat = record { none_open = here.none_open; balanced = here.balanced; no_width = sym (ap (λ (width : Option ℕ). open_widths (history.widths ++ option_to_list width)) here.width ∙ ap open_widths (append-nil history.widths)) ∙ end.no_width };
       order = omega (arith, here.inside, len, before, length-drop reached front);
       inside = inside;
@@ -437,7 +433,7 @@ clean_laid text at inside h = laid_by text at parts.0 last inside (clean_ends fr
     reads = read_last nothing front parts.0 last (subst (IsReading language nothing front) parts.2 here.reads)
 
     end : Settled (after (after_all nothing parts.0) last)
-    end = subst Settled (ap (after_all nothing) parts.2 ∙ past_both nothing parts.0 (last ∷ [])) here.is_settled
+    end = subst Settled (ap (after_all nothing) parts.2 ∙ past_append nothing parts.0 (last ∷ [])) here.is_settled
 
     total : pieces_len parts.0 + last.len ≡ length front
-    total = omega (arith, ap pieces_len parts.2, pieces_both parts.0 (last ∷ []), sum_by-cons (λ (piece : Piece). piece.len) last [], here.reach)
+    total = omega (arith, ap pieces_len parts.2, pieces_append parts.0 (last ∷ []), sum_by-cons (λ (piece : Piece). piece.len) last [], here.reach)

@@ -21,7 +21,7 @@ use Rattle.starlark_grammar.proofs.Words.Classes.{line_end_fits}
 use Rattle.starlark_grammar.proofs.Words.Fronts.{front_sound}
 use Rattle.starlark_grammar.proofs.Order.OrderedLexemes.{is_line}
 use Rattle.starlark_grammar.proofs.Reading.Readings.{read_is, readings_agree}
-use Rattle.starlark_grammar.proofs.Joining.CleanCuts.{cut, cuts_join, pieces_both}
+use Rattle.starlark_grammar.proofs.Joining.CleanCuts.{cut, cuts_join, pieces_append}
 use Rattle.starlark_grammar.proofs.Joining.Laws.{cuts_of_joined}
 use Rattle.starlark_grammar.proofs.Joining.LaidCuts.{IsLaid, laid_clean, laid_lexemes, laid_alone}
 
@@ -141,5 +141,5 @@ reading_reach text pieces reads = go (readings_agree language nothing text piece
     stuck (piece ∷ more) e = absurd (longest.no_piece piece (sym longest.stands_last ∙ next_reads nothing text (read language text).pieces piece more (subst (IsReading language nothing text) e reads)))
 
     go : Begins pieces (read language text).pieces ⊎ Begins (read language text).pieces pieces → pieces_len pieces ≤ pieces_len (read language text).pieces
-    go (inl more) = omega (arith, ap pieces_len more.1, pieces_both pieces more.0)
+    go (inl more) = omega (arith, ap pieces_len more.1, pieces_append pieces more.0)
     go (inr more) = stuck more.0 more.1

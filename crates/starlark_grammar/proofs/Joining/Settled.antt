@@ -104,13 +104,13 @@ unfolding situation mode_after
 situation_after earlier history h =
     rw (open_settled earlier.tokens h.none_open 0 history.tokens, balanced_settled history.tokens earlier.tokens h.balanced, widths_settled earlier.widths history.widths h.no_width) refl
 
-pub onto_append : (tokens earlier : List Token) (lexemes : List Lexeme) → tokens_onto (tokens ++ earlier) lexemes ≡ tokens_onto tokens lexemes ++ earlier
-onto_append tokens earlier [] = refl
-onto_append tokens earlier (lexeme ∷ lexemes) = onto_append (lexeme.node ∷ tokens) earlier lexemes
+pub onto_earlier : (tokens earlier : List Token) (lexemes : List Lexeme) → tokens_onto (tokens ++ earlier) lexemes ≡ tokens_onto tokens lexemes ++ earlier
+onto_earlier tokens earlier [] = refl
+onto_earlier tokens earlier (lexeme ∷ lexemes) = onto_earlier (lexeme.node ∷ tokens) earlier lexemes
 
 pub after_onto : (earlier history : History) (piece : Piece) → after (remainder earlier history) piece ≡ remainder earlier (after history piece)
 unfolding after
-after_onto earlier history piece = rw (onto_append history.tokens earlier.tokens piece.lexemes, append_assoc earlier.widths history.widths (option_to_list piece.width)) refl
+after_onto earlier history piece = rw (onto_earlier history.tokens earlier.tokens piece.lexemes, append_assoc earlier.widths history.widths (option_to_list piece.width)) refl
 
 pub next_after : (table : Table) (earlier history : History) (text : Text) → Settled earlier → next_step table (remainder earlier history) text ≡ next_step table history text
 unfolding next_step

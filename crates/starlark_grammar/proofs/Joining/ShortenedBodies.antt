@@ -18,7 +18,7 @@ use Rattle.starlark_grammar.specs.FrontCharacter.{first_character}
 use Rattle.starlark_grammar.proofs.Choices.{by_test}
 use Rattle.starlark_grammar.proofs.Literals.Bodies.{found_fits, FoundFits}
 use Rattle.starlark_grammar.proofs.Joining.Followed.{ends_line, ends_line_rest}
-use Rattle.starlark_grammar.proofs.Joining.FollowedBodies.{both, both_equal, closing_in_line, is_closed, starts_followed, octal_by}
+use Rattle.starlark_grammar.proofs.Joining.FollowedBodies.{both, both_equal, closing_in_line, is_closed, starts_append, octal_by}
 
 -- What is found in a text is found in its front, where an item ends before the front does, or a body is closed.
 abbrev pub FoundShortened : ℕ → Found → Found → Type 0
@@ -134,7 +134,7 @@ found_shortened literal [] more h = cc
 found_shortened literal (b ∷ bs) more h =
     let P : Found → Found → Type 0 = FoundShortened (length (b ∷ bs)) in
     let one : 1 + length bs ≡ length (b ∷ bs) = omega arith in
-    both_equal P (starts_with nat_eq (b ∷ (bs ++ more)) (closing_quotes literal.opening)) (starts_with nat_eq (b ∷ bs) (closing_quotes literal.opening)) _ _ _ _ (sym (starts_followed (b ∷ bs) (closing_quotes literal.opening) more h (closing_in_line literal.opening))) (λ closed. refl)
+    both_equal P (starts_with nat_eq (b ∷ (bs ++ more)) (closing_quotes literal.opening)) (starts_with nat_eq (b ∷ bs) (closing_quotes literal.opening)) _ _ _ _ (sym (starts_append (b ∷ bs) (closing_quotes literal.opening) more h (closing_in_line literal.opening))) (λ closed. refl)
     (both P (b == byte "\n" && not literal.opening.is_triple) _ _ _ _ (λ e. same_shortened (length (b ∷ bs)) (Stops Line)) (λ e.
     both P (b == byte "\r") _ _ _ _ (λ e. same_shortened (length (b ∷ bs)) (goes 1 [])) (λ e.
     both P (b == byte "\\" && literal.opening.is_raw) _ _ _ _ (λ e. subst (λ n. FoundShortened n (raw_pair literal.kind literal.opening.quote (bs ++ more)) (raw_pair literal.kind literal.opening.quote bs)) one (raw_pair_shortened literal.kind literal.opening.quote bs more (after_backslash b bs h (eqb-true b 92 (left_true (b == byte "\\") literal.opening.is_raw e))))) (λ e.

@@ -15,10 +15,10 @@ use Rattle.starlark_grammar.specs.Margins.{margin_of, margin_len}
 use Rattle.starlark_grammar.specs.Pieces.{Before, Nothing, Layout, Gap, Other, Piece, Step, Stands, Situation, margin_step, line_end, opening_of, more_quotes, escape_fault, literal_by, literal, opener, chunk_by, chunk, counts, word_step, front_step, takes_bang, is_bang, in_code, by_mode, by_before, step_at}
 use Rattle.starlark_grammar.specs.Reading.{History, situation, next_step}
 use Rattle.starlark_grammar.proofs.WordNewlines.{in_line, line_fits, language_lines}
-use Rattle.starlark_grammar.proofs.Joining.Followed.{ends_line, ends_line_drop, longest_followed}
+use Rattle.starlark_grammar.proofs.Joining.Followed.{ends_line, ends_line_drop, longest_front_append}
 use Rattle.starlark_grammar.proofs.Joining.FollowedBodies.{is_closed}
 use Rattle.starlark_grammar.proofs.Joining.FollowedMargins.{Followed, Whole, Within, followed, has_whole_lines, whole_after}
-use Rattle.starlark_grammar.proofs.Joining.FollowedPieces.{FrontGoesOn, bang_stays, code_step, front_goes_on, opening_followed, opening_inside}
+use Rattle.starlark_grammar.proofs.Joining.FollowedPieces.{FrontGoesOn, bang_stays, code_step, front_goes_on, opening_append, opening_inside}
 use Rattle.starlark_grammar.proofs.Joining.Joined.{margin_step_len, step_within, whole_from_ends}
 use Rattle.starlark_grammar.proofs.Joining.ShortenedBodies.{body_shortened}
 
@@ -109,7 +109,7 @@ word_shortened s word.LineEnd front remainder more piece ends whole fits e insid
 word_shortened s (word.Opener kind is_raw quote) front remainder more piece ends whole fits e inside =
     let h = ends fits in
     opener_shortened s.mode kind (opening_of is_raw quote remainder) (length front) remainder more piece h (opening_inside is_raw quote remainder h)
-    (sym (ap (λ (opening : Opening). opener s.mode kind opening (length front) (remainder ++ more)) (opening_followed is_raw quote remainder more h)) ∙ e) inside
+    (sym (ap (λ (opening : Opening). opener s.mode kind opening (length front) (remainder ++ more)) (opening_append is_raw quote remainder more h)) ∙ e) inside
 word_shortened s class front remainder more piece ends whole fits e inside = e
 
 front_shortened : (s : Situation) (text more : Text) (found : Option (Class × ℕ)) (piece : Piece) → ends_line text ≡ true → longest_front (class_in language) text ≡ found → front_step s (text ++ more) found ≡ Stands piece → piece.len < length text → front_step s text found ≡ Stands piece
@@ -123,7 +123,7 @@ front_shortened s text more (Some front) piece h found e inside =
 
 code_shortened : (s : Situation) (text more : Text) (piece : Piece) → ends_line text ≡ true → in_code language s (text ++ more) ≡ Stands piece → piece.len < length text → in_code language s text ≡ Stands piece
 code_shortened s [] more piece h e inside = absurd (omega (arith, inside))
-code_shortened s (b ∷ bs) more piece h e inside = go (takes_bang s.mode s.before && is_bang (b ∷ bs)) (bang_stays s b bs more h) (longest_front (class_in language) (b ∷ bs)) refl (longest_followed (b ∷ bs) more h) e
+code_shortened s (b ∷ bs) more piece h e inside = go (takes_bang s.mode s.before && is_bang (b ∷ bs)) (bang_stays s b bs more h) (longest_front (class_in language) (b ∷ bs)) refl (longest_front_append (b ∷ bs) more h) e
   where
     once : (bang : Bool) (front : Option (Class × ℕ)) → longest_front (class_in language) (b ∷ bs) ≡ front → code_step s bang (b ∷ (bs ++ more)) front ≡ Stands piece → code_step s bang (b ∷ bs) front ≡ Stands piece
     once true front known e = e

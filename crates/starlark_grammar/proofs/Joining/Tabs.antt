@@ -21,7 +21,7 @@ use Rattle.starlark_grammar.proofs.Joining.Followed.{ends_line, ends_line_drop}
 use Rattle.starlark_grammar.proofs.Joining.FollowedMargins.{whole_after, Followed, Whole, Within, margin_after, followed, has_whole_lines}
 use Rattle.starlark_grammar.proofs.Joining.Settled.{Settled}
 use Rattle.starlark_grammar.proofs.Joining.Joined.{whole_from_ends, last_line_end, margin_step_len, blank_step, next_stays, inside, all_moved, reads_on}
-use Rattle.starlark_grammar.proofs.Joining.CleanCuts.{Cut, cut, along_both, pieces_both, but_last}
+use Rattle.starlark_grammar.proofs.Joining.CleanCuts.{Cut, cut, along_append, pieces_append, but_last}
 
 -- First margins
 
@@ -279,13 +279,13 @@ module _ (text more : Text) (has : HasTab (margin_of more)) where
       let last : lexemes_along (0 + pieces_len (first ∷ rest.front)) (rest.last ∷ []) ≡ record { begin = 0 + pieces_len (first ∷ rest.front) + 0; node = Newline; end = 0 + pieces_len (first ∷ rest.front) + rest.line.len } ∷ map (moved (0 + pieces_len (first ∷ rest.front))) rest.line.comments =
       append-nil (map (moved (0 + pieces_len (first ∷ rest.front))) rest.last.lexemes) ∙ ap (map (moved (0 + pieces_len (first ∷ rest.front)))) rest.line.lexemes in
       let same : without_closing (outcome text).lexemes ≡ lexemes_along 0 (first ∷ rest.front) ++ (record { begin = 0 + pieces_len (first ∷ rest.front) + 0; node = Newline; end = 0 + pieces_len (first ∷ rest.front) + rest.line.len } ∷ map (moved (0 + pieces_len (first ∷ rest.front))) rest.line.comments) =
-      kept (first ∷ pieces) here ∙ ap (λ ps. lexemes_along 0 (first ∷ ps)) rest.split ∙ along_both 0 (first ∷ rest.front) (rest.last ∷ []) ∙ ap (λ ls. lexemes_along 0 (first ∷ rest.front) ++ ls) last in
+      kept (first ∷ pieces) here ∙ ap (λ ps. lexemes_along 0 (first ∷ ps)) rest.split ∙ along_append 0 (first ∷ rest.front) (rest.last ∷ []) ∙ ap (λ ls. lexemes_along 0 (first ∷ rest.front) ++ ls) last in
       let found = last_found (lexemes_along 0 (first ∷ rest.front)) line remainder refl (none_moved (0 + pieces_len (first ∷ rest.front)) rest.line.comments rest.line.none) in
       let at : 0 + pieces_len (first ∷ rest.front) + 0 ≡ pieces_len (first ∷ rest.front) + 0 = omega arith in
       record {
         front = first ∷ rest.front;
         longest = longest;
-        less = omega (arith, here.reach, sum_by-cons (λ (piece : Piece). piece.len) first pieces, total, ap pieces_len rest.split, pieces_both rest.front (rest.last ∷ []), sum_by-cons (λ (piece : Piece). piece.len) rest.last [], rest.some);
+        less = omega (arith, here.reach, sum_by-cons (λ (piece : Piece). piece.len) first pieces, total, ap pieces_len rest.split, pieces_append rest.front (rest.last ∷ []), sum_by-cons (λ (piece : Piece). piece.len) rest.last [], rest.some);
         is = outcome_by (text ++ more) (first ∷ rest.front) (Fails tab) longest ∙ ap (tab_at (lexemes_along 0 (first ∷ rest.front))) (sym at)
             ∙ sym (ap (λ ls. tabbed (length text) ls (margin_of more).comments) same ∙ rw found refl);
       }

@@ -12,16 +12,16 @@ use Rattle.starlark_grammar.specs.Margins.{is_blank, is_lf, blanks_len, lines, b
 use Rattle.starlark_grammar.specs.Pieces.{Layout, Piece, Stands, Fails, margin_step}
 use Rattle.starlark_grammar.proofs.MarginComments.{margin_holds}
 use Rattle.starlark_grammar.proofs.Lists.{drop-sum}
-use Rattle.starlark_grammar.proofs.LineEnds.Texts.{crlf, no_return, crlf_both}
+use Rattle.starlark_grammar.proofs.LineEnds.Texts.{crlf, no_return, crlf_append}
 use Rattle.starlark_grammar.proofs.LineEnds.Bodies.{form_other}
 
 -- the tokens of lexemes
 abbrev pub nodes : List Lexeme → List Token
 nodes lexemes = map (λ (lexeme : Lexeme). lexeme.node) lexemes
 
-pub nodes_both : (one other : List Lexeme) → nodes (one ++ other) ≡ nodes one ++ nodes other
-nodes_both [] other = refl
-nodes_both (lexeme ∷ one) other = ap (λ ts. lexeme.node ∷ ts) (nodes_both one other)
+pub nodes_append : (one other : List Lexeme) → nodes (one ++ other) ≡ nodes one ++ nodes other
+nodes_append [] other = refl
+nodes_append (lexeme ∷ one) other = ap (λ ts. lexeme.node ∷ ts) (nodes_append one other)
 
 pub nodes_moved : (n : ℕ) (lexemes : List Lexeme) → nodes (map (moved n) lexemes) ≡ nodes lexemes
 nodes_moved n [] = refl
@@ -207,13 +207,13 @@ flat_lines (b ∷ bs) = by (is_lf b) (lines bs) (flat_lines bs)
     by false [] e = ap (λ (t : Text). b ∷ t) e
     by false (l ∷ ls) e = ap (λ (t : Text). b ∷ t) e
 
-flat_both : (one other : List Text) → flat (one ++ other) ≡ flat one ++ flat other
-flat_both [] other = refl
-flat_both (l ∷ one) other = ap (λ (t : Text). l ++ t) (flat_both one other) ∙ sym (append_assoc l (flat one) (flat other))
+flat_append : (one other : List Text) → flat (one ++ other) ≡ flat one ++ flat other
+flat_append [] other = refl
+flat_append (l ∷ one) other = ap (λ (t : Text). l ++ t) (flat_append one other) ∙ sym (append_assoc l (flat one) (flat other))
 
 flat_crlf : (ls : List Text) → crlf (flat ls) ≡ flat (map crlf ls)
 flat_crlf [] = refl
-flat_crlf (l ∷ ls) = crlf_both l (flat ls) ∙ ap (λ (t : Text). crlf l ++ t) (flat_crlf ls)
+flat_crlf (l ∷ ls) = crlf_append l (flat ls) ∙ ap (λ (t : Text). crlf l ++ t) (flat_crlf ls)
 
 flat_len : (ls : List Text) → length (flat ls) ≡ sum_by (λ (line : Text). length line) ls
 flat_len [] = refl
@@ -224,13 +224,13 @@ after_comments text =
     let first : List Text = comment_lines text in
     let rest : List Text = drop (prefix_len is_comment_only (lines text)) (lines text) in
     let whole : text ≡ flat (comment_lines text) ++ flat (drop (prefix_len is_comment_only (lines text)) (lines text)) =
-    sym (flat_lines text) ∙ ap flat (sym (take-append-drop (prefix_len is_comment_only (lines text)) (lines text))) ∙ flat_both (comment_lines text) (drop (prefix_len is_comment_only (lines text)) (lines text)) in
+    sym (flat_lines text) ∙ ap flat (sym (take-append-drop (prefix_len is_comment_only (lines text)) (lines text))) ∙ flat_append (comment_lines text) (drop (prefix_len is_comment_only (lines text)) (lines text)) in
     let len : sum_by (λ (line : Text). length line) (map crlf (comment_lines text)) ≡ length (crlf (flat (comment_lines text))) = sym (flat_len (map crlf (comment_lines text))) ∙ ap (λ (t : Text). length t) (sym (flat_crlf (comment_lines text))) in
     let here : drop (sum_by (λ (line : Text). length line) (comment_lines text)) text ≡ flat (drop (prefix_len is_comment_only (lines text)) (lines text)) =
     ap (λ n. drop n text) (sym (flat_len (comment_lines text))) ∙ ap (drop (length (flat (comment_lines text)))) whole ∙ drop-append_seam (flat (comment_lines text)) (flat (drop (prefix_len is_comment_only (lines text)) (lines text))) in
     ap (λ n. drop n (crlf text)) len
     ∙ ap (λ (t : Text). drop (length (crlf (flat (comment_lines text)))) (crlf t)) whole
-    ∙ ap (drop (length (crlf (flat (comment_lines text))))) (crlf_both (flat (comment_lines text)) (flat (drop (prefix_len is_comment_only (lines text)) (lines text))))
+    ∙ ap (drop (length (crlf (flat (comment_lines text))))) (crlf_append (flat (comment_lines text)) (flat (drop (prefix_len is_comment_only (lines text)) (lines text))))
     ∙ drop-append_seam (crlf (flat (comment_lines text))) (crlf (flat (drop (prefix_len is_comment_only (lines text)) (lines text))))
     ∙ ap crlf (sym here)
 
@@ -332,9 +332,9 @@ is_neutral token = false
 abbrev pub neutral : List Lexeme → Bool
 neutral lexemes = list_all is_neutral (nodes lexemes)
 
-neutral_both : (one other : List Lexeme) → neutral one ≡ true → neutral other ≡ true → neutral (one ++ other) ≡ true
-neutral_both [] other h k = k
-neutral_both (lexeme ∷ one) other h k = let parts = and_parts (is_neutral lexeme.node) (neutral one) h in rw (parts.0) (neutral_both one other parts.1 k)
+neutral_append : (one other : List Lexeme) → neutral one ≡ true → neutral other ≡ true → neutral (one ++ other) ≡ true
+neutral_append [] other h k = k
+neutral_append (lexeme ∷ one) other h k = let parts = and_parts (is_neutral lexeme.node) (neutral one) h in rw (parts.0) (neutral_append one other parts.1 k)
 
 neutral_margin : (text : Text) → neutral (margin_of text).comments ≡ true
 neutral_margin = margin_holds (λ ls. neutral ls ≡ true) refl (λ at line rest h. h)
@@ -366,12 +366,12 @@ margin_stands at len line before levels text piece h same stands calm =
 
     alike : (one other : List Lexeme) → nodes other ≡ nodes one → nodes (before ++ map (moved len) ((margin_of (crlf text)).comments ++ other)) ≡ nodes (line ++ map (moved at) ((margin_of text).comments ++ one))
     alike one other e =
-        nodes_both before (map (moved len) ((margin_of (crlf text)).comments ++ other))
+        nodes_append before (map (moved len) ((margin_of (crlf text)).comments ++ other))
         ∙ ap (λ ts. ts ++ nodes (map (moved len) ((margin_of (crlf text)).comments ++ other))) same
-        ∙ ap (λ ts. nodes line ++ ts) (nodes_moved len ((margin_of (crlf text)).comments ++ other) ∙ nodes_both (margin_of (crlf text)).comments other
+        ∙ ap (λ ts. nodes line ++ ts) (nodes_moved len ((margin_of (crlf text)).comments ++ other) ∙ nodes_append (margin_of (crlf text)).comments other
         ∙ ap (λ ts. ts ++ nodes other) both.comments ∙ ap (λ ts. nodes (margin_of text).comments ++ ts) e
-        ∙ sym (nodes_both (margin_of text).comments one) ∙ sym (nodes_moved at ((margin_of text).comments ++ one)))
-        ∙ sym (nodes_both line (map (moved at) ((margin_of text).comments ++ one)))
+        ∙ sym (nodes_append (margin_of text).comments one) ∙ sym (nodes_moved at ((margin_of text).comments ++ one)))
+        ∙ sym (nodes_append line (map (moved at) ((margin_of text).comments ++ one)))
 
     made : (one other : List Lexeme) (width : Option ℕ) → nodes other ≡ nodes one → Stands (here one width) ≡ Stands piece → margin_step len before levels (margin_of (crlf text)) ≡ Stands (there other width) → (is_content (margin_of text).remainder ≡ false → one ≡ []) → MarginStands len before levels text at piece
     made one other width e f g none =
@@ -381,8 +381,8 @@ margin_stands at len line before levels text piece h same stands calm =
           stands = g;
           like = record { same = alike one other e; width = refl; sort = refl };
           sort = refl;
-          outside = λ blank. neutral_both line (map (moved at) ((margin_of text).comments ++ one)) calm (ap (λ ts. list_all is_neutral ts) (nodes_moved at ((margin_of text).comments ++ one))
-              ∙ neutral_both (margin_of text).comments one (neutral_margin text) (ap neutral (none blank)));
+          outside = λ blank. neutral_append line (map (moved at) ((margin_of text).comments ++ one)) calm (ap (λ ts. list_all is_neutral ts) (nodes_moved at ((margin_of text).comments ++ one))
+              ∙ neutral_append (margin_of text).comments one (neutral_margin text) (ap neutral (none blank)));
           len_is = refl;
           form_len = refl;
           left = both.left;

@@ -29,7 +29,7 @@ use Rattle.starlark_grammar.proofs.Joining.FollowedPieces.{quotes_in_line}
 use Rattle.starlark_grammar.proofs.Joining.Joined.{outside}
 use Rattle.starlark_grammar.proofs.LineEnds.Texts.{crlf, no_return, no_return_drop, crlf_line, starts_crlf, after_crlf}
 use Rattle.starlark_grammar.proofs.LineEnds.Bodies.{apart, apart_plain, BodyCrlf, RawApart, holds_drop, body_crlf}
-use Rattle.starlark_grammar.proofs.LineEnds.Margins.{nodes, nodes_both, neutral, Left, Whole, AfterComments, PieceCrlf, margin_stands}
+use Rattle.starlark_grammar.proofs.LineEnds.Margins.{nodes, nodes_append, neutral, Left, Whole, AfterComments, PieceCrlf, margin_stands}
 
 -- How the form of a text goes on after a piece: by the form of what is left, or from an LF on, after a line end that counts.
 pub data LeftAt (mode : Mode) (piece : Piece) (text other : Text) : Type 0 where
@@ -357,9 +357,9 @@ chunk_crlf opening text piece h more raw e = by (chunk_closed opening text (body
       where
         tokens : (one other : Body) → body_value one ≡ body_value other → nodes (made_chunk one node k).lexemes ≡ nodes (made_chunk other node k).lexemes
         tokens one other e =
-            nodes_both (chunk_text (body_len one) (body_value one)) (record { begin = body_len one; node = node; end = body_len one + k } ∷ [])
+            nodes_append (chunk_text (body_len one) (body_value one)) (record { begin = body_len one; node = node; end = body_len one + k } ∷ [])
             ∙ ap (λ ts. ts ++ node ∷ []) (ap (λ (v : Text). nodes (chunk_text (body_len one) v)) e ∙ chunk_nodes (body_len one) (body_len other) (body_value other))
-            ∙ sym (nodes_both (chunk_text (body_len other) (body_value other)) (record { begin = body_len other; node = node; end = body_len other + k } ∷ []))
+            ∙ sym (nodes_append (chunk_text (body_len other) (body_value other)) (record { begin = body_len other; node = node; end = body_len other + k } ∷ []))
 
     by : (((body_at (record { kind = OfFString; opening = opening }) text).stop ≡ OpeningBrace) × (made_chunk (body_at (record { kind = OfFString; opening = opening }) text) FStringExprStart 1 ≡ piece))
         ⊎ (((body_at (record { kind = OfFString; opening = opening }) text).stop ≡ Closing) × (made_chunk (body_at (record { kind = OfFString; opening = opening }) text) FStringEnd (length (closing_quotes opening)) ≡ piece))

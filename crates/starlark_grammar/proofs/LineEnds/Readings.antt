@@ -29,10 +29,10 @@ use Rattle.starlark_grammar.proofs.Reading.Readings.{started, piece_fits, read_i
 use Rattle.starlark_grammar.proofs.Order.WholeTexts.{word_edge, piece_bounded}
 use Rattle.starlark_grammar.proofs.Joining.Settled.{outside_none}
 use Rattle.starlark_grammar.proofs.Joining.Tabs.{first_step, never_ends, outcome_by}
-use Rattle.starlark_grammar.proofs.LineEnds.Texts.{crlf, crlf_is, crlf_both, no_return, no_return_of, no_return_drop}
+use Rattle.starlark_grammar.proofs.LineEnds.Texts.{crlf, crlf_is, crlf_append, no_return, no_return_of, no_return_drop}
 use Rattle.starlark_grammar.proofs.LineEnds.Fronts.{front_crlf}
 use Rattle.starlark_grammar.proofs.LineEnds.Bodies.{apart, utf8_apart, form_other}
-use Rattle.starlark_grammar.proofs.LineEnds.Margins.{nodes, nodes_both, nodes_moved, is_neutral, neutral, Left, Whole, AfterComments, PieceCrlf, margin_stands, replicate_nodes}
+use Rattle.starlark_grammar.proofs.LineEnds.Margins.{nodes, nodes_append, nodes_moved, is_neutral, neutral, Left, Whole, AfterComments, PieceCrlf, margin_stands, replicate_nodes}
 use Rattle.starlark_grammar.proofs.LineEnds.Pieces.{LeftAt, AtWhole, AtFeed, StandsCrlf, alike, is_raw_class, line_end_crlf, word_crlf, chunk_crlf}
 
 -- Code
@@ -78,7 +78,7 @@ front_stands s text (Some front) piece h utf8 known raw e =
     let more : apart 0 (drop front.1 text) ≡ true = utf8_apart (drop front.1 text) (IsUtf8-drop text front.1 utf8 (word_edge text front.0 front.1 utf8 known)) in
     let found = word_crlf s front.0 (take front.1 text) (drop front.1 text) piece (language_lines (take front.1 text) front.0 sound.2) (no_return_drop front.1 text h) more
     (λ k. subst (λ (t : Text). holds_escaped_newline (take piece.len t) ≡ false) (sym whole) (raw (opens_raw_of front.0 front.1 k))) e in
-    let form : crlf text ≡ crlf (take front.1 text) ++ crlf (drop front.1 text) = ap crlf (sym whole) ∙ crlf_both (take front.1 text) (drop front.1 text) in
+    let form : crlf text ≡ crlf (take front.1 text) ++ crlf (drop front.1 text) = ap crlf (sym whole) ∙ crlf_append (take front.1 text) (drop front.1 text) in
     let len : ℕ = length (crlf (take front.1 text)) in
     let taken : take (length (crlf (take front.1 text))) (crlf text) ≡ crlf (take front.1 text) = ap (take (length (crlf (take front.1 text)))) form ∙ take-append_seam (crlf (take front.1 text)) (crlf (drop front.1 text)) in
     let left : drop (length (crlf (take front.1 text))) (crlf text) ≡ crlf (drop front.1 text) = ap (drop (length (crlf (take front.1 text)))) form ∙ drop-append_seam (crlf (take front.1 text)) (crlf (drop front.1 text)) in
@@ -275,10 +275,10 @@ raw_parts history text piece pieces h =
 
 along_nodes : (at mode : ℕ) (piece form : Piece) (pieces forms : List Piece) → PieceCrlf piece form → nodes (lexemes_along (mode + form.len) forms) ≡ nodes (lexemes_along (at + piece.len) pieces) → nodes (lexemes_along mode (form ∷ forms)) ≡ nodes (lexemes_along at (piece ∷ pieces))
 along_nodes at mode piece form pieces forms like more =
-    nodes_both (map (moved mode) form.lexemes) (lexemes_along (mode + form.len) forms)
+    nodes_append (map (moved mode) form.lexemes) (lexemes_along (mode + form.len) forms)
     ∙ ap (λ ts. ts ++ nodes (lexemes_along (mode + form.len) forms)) (nodes_moved mode form.lexemes ∙ like.same ∙ sym (nodes_moved at piece.lexemes))
     ∙ ap (λ ts. nodes (map (moved at) piece.lexemes) ++ ts) more
-    ∙ sym (nodes_both (map (moved at) piece.lexemes) (lexemes_along (at + piece.len) pieces))
+    ∙ sym (nodes_append (map (moved at) piece.lexemes) (lexemes_along (at + piece.len) pieces))
 
 onward : (history : History) (text other : Text) (piece : Piece) (pieces : List Piece) (found : StandsCrlf (situation history).mode text other (next_step language history other) piece) → ReadingCrlf (after history piece) (drop found.form.len other) pieces → ReadingCrlf history other (piece ∷ pieces)
 onward history text other piece pieces found rest =
@@ -348,10 +348,10 @@ closing_nodes at mode history = ap (λ ts. Newline ∷ ts) (replicate_nodes (len
 ending : (text other : Text) (pieces forms : List Piece) → after_all nothing forms ≡ after_all nothing pieces → nodes (lexemes_along 0 forms) ≡ nodes (lexemes_along 0 pieces)
     → nodes (outcome_of other forms Ends).lexemes ≡ nodes (outcome_of text pieces Ends).lexemes
 ending text other pieces forms past same =
-    nodes_both (lexemes_along 0 forms) (closing (pieces_len forms) (after_all nothing forms))
+    nodes_append (lexemes_along 0 forms) (closing (pieces_len forms) (after_all nothing forms))
     ∙ ap (λ ts. ts ++ nodes (closing (pieces_len forms) (after_all nothing forms))) same
     ∙ ap (λ ts. nodes (lexemes_along 0 pieces) ++ ts) (ap (λ (history : History). nodes (closing (pieces_len forms) history)) past ∙ closing_nodes (pieces_len pieces) (pieces_len forms) (after_all nothing pieces))
-    ∙ sym (nodes_both (lexemes_along 0 pieces) (closing (pieces_len pieces) (after_all nothing pieces)))
+    ∙ sym (nodes_append (lexemes_along 0 pieces) (closing (pieces_len pieces) (after_all nothing pieces)))
 
 -- the reading of a text without fault
 record Faultless (text : Text) : Type 0 where

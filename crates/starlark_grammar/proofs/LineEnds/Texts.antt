@@ -48,9 +48,9 @@ no_return_drop zero text h = h
 no_return_drop (suc n) [] h = h
 no_return_drop (suc n) (b ∷ bs) h = no_return_drop n bs (and_parts (not (b == 13)) (no_return bs) h).1
 
-pub crlf_both : (one other : Text) → crlf (one ++ other) ≡ crlf one ++ crlf other
-crlf_both [] other = refl
-crlf_both (b ∷ one) other = go (is_lf b) (crlf_both one other)
+pub crlf_append : (one other : Text) → crlf (one ++ other) ≡ crlf one ++ crlf other
+crlf_append [] other = refl
+crlf_append (b ∷ one) other = go (is_lf b) (crlf_append one other)
   where
     go : (feed : Bool) → crlf (one ++ other) ≡ crlf one ++ crlf other → (if feed then 13 ∷ 10 ∷ crlf (one ++ other) else b ∷ crlf (one ++ other)) ≡ (if feed then 13 ∷ 10 ∷ crlf one else b ∷ crlf one) ++ crlf other
     go true more = ap (λ (t : Text). 13 ∷ 10 ∷ t) more
@@ -74,7 +74,7 @@ crlf_line (b ∷ bs) h =
 pub crlf_front : (n : ℕ) (text : Text) → n ≤ length text → in_line (take n text) ≡ true → (take n (crlf text) ≡ take n text) × (drop n (crlf text) ≡ crlf (drop n text))
 crlf_front n text inside h =
     let whole : crlf text ≡ take n text ++ crlf (drop n text) =
-    ap crlf (sym (take-append-drop n text)) ∙ crlf_both (take n text) (drop n text) ∙ ap (λ (t : Text). t ++ crlf (drop n text)) (crlf_line (take n text) h) in
+    ap crlf (sym (take-append-drop n text)) ∙ crlf_append (take n text) (drop n text) ∙ ap (λ (t : Text). t ++ crlf (drop n text)) (crlf_line (take n text) h) in
     let len : length (take n text) ≡ n = length-take-le n text inside in (
       ap (take n) whole ∙ ap (λ k. take k (take n text ++ crlf (drop n text))) (sym len) ∙ take-append_seam (take n text) (crlf (drop n text)),
       ap (drop n) whole ∙ ap (λ k. drop k (take n text ++ crlf (drop n text))) (sym len) ∙ drop-append_seam (take n text) (crlf (drop n text)),
@@ -104,7 +104,7 @@ starts_crlf (b ∷ bs) (c ∷ cs) h = go (is_lf b) refl (starts_crlf bs cs)
 pub after_crlf : (text needle : Text) → in_line needle ≡ true → starts_with nat_eq text needle ≡ true → drop (length needle) (crlf text) ≡ crlf (drop (length needle) text)
 after_crlf text needle h starts =
     ap (λ (t : Text). drop (length needle) (crlf t)) (starts_split text needle starts)
-    ∙ ap (drop (length needle)) (crlf_both needle (drop (length needle) text) ∙ ap (λ (t : Text). t ++ crlf (drop (length needle) text)) (crlf_line needle h))
+    ∙ ap (drop (length needle)) (crlf_append needle (drop (length needle) text) ∙ ap (λ (t : Text). t ++ crlf (drop (length needle) text)) (crlf_line needle h))
     ∙ drop-append_seam needle (crlf (drop (length needle) text))
 
 -- runs of bytes that are neither CR nor LF

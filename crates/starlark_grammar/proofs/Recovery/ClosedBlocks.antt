@@ -5,7 +5,7 @@ use Rattle.std.specs.List.{list_all, onto_first}
 use Rattle.std.specs.Str.{byte}
 use Rattle.std.proofs.lemmas.Bool.{and_parts, both_ways}
 use Rattle.std.proofs.lemmas.Bool.Decides.{nat_tests}
-use Rattle.std.proofs.lemmas.List.{length-drop}
+use Rattle.std.proofs.lemmas.List.{length-drop, map-append}
 use Rattle.std.proofs.lemmas.List.Folds.{list_all-append}
 use Rattle.std.proofs.lemmas.List.Sums.{sum_by-cons}
 use Rattle.starlark_grammar.specs.Words.{Text, language}
@@ -21,7 +21,7 @@ use Rattle.starlark_grammar.proofs.Reading.Readings.{started, piece_fits}
 use Rattle.starlark_grammar.proofs.Reading.Steps.{is_nothing}
 use Rattle.starlark_grammar.proofs.Joining.Followed.{ends_line, ends_line_drop}
 use Rattle.starlark_grammar.proofs.Joining.FollowedMargins.{whole_after, Followed, Whole, Within, margin_after, followed, has_whole_lines}
-use Rattle.starlark_grammar.proofs.Joining.Joined.{whole_from_ends, map_both, last_line_end, margin_step_len, blank_step, inside, reads_on}
+use Rattle.starlark_grammar.proofs.Joining.Joined.{whole_from_ends, last_line_end, margin_step_len, blank_step, inside, reads_on, onto_append}
 use Rattle.starlark_grammar.specs.Joining.{begins_plainly}
 
 -- The first margin of a text that begins plainly
@@ -101,7 +101,7 @@ closed_margin len lexemes levels text more piece whole stands reach begins posit
 
     lists : (count : ℕ) (comments : List Lexeme) → lexemes ++ map (moved len) (comments ++ dedents count (length text + 0)) ≡ (lexemes ++ map (moved len) comments) ++ dedents count (len + (length text + 0))
     lists count comments =
-        ap (λ ls. lexemes ++ ls) (map_both (moved len) comments (dedents count (length text + 0)))
+        ap (λ ls. lexemes ++ ls) (map-append (moved len) comments (dedents count (length text + 0)))
         ∙ sym (append_assoc lexemes (map (moved len) comments) (map (moved len) (dedents count (length text + 0))))
         ∙ ap (λ ls. (lexemes ++ map (moved len) comments) ++ ls) (dedents_moved len count (length text + 0))
 
@@ -176,10 +176,6 @@ onto_dedents : (tokens : List Token) (count at : ℕ) → tokens_onto tokens (de
 onto_dedents tokens zero at = refl
 onto_dedents tokens (suc count) at = onto_dedents (Dedent ∷ tokens) count at
 
-onto_both : (tokens : List Token) (one other : List Lexeme) → tokens_onto tokens (one ++ other) ≡ tokens_onto (tokens_onto tokens one) other
-onto_both tokens [] other = refl
-onto_both tokens (lexeme ∷ one) other = onto_both (lexeme.node ∷ tokens) one other
-
 -- They open and close nothing.
 pub none_open_dedents : (count : ℕ) (tokens : List Token) → open_fstring 0 tokens ≡ None → open_fstring 0 (with_dedents count tokens) ≡ None
 unfolding open_fstring
@@ -231,7 +227,7 @@ close_last history text more piece ends stands reach laid fresh begins =
     let count = length (open_widths history.widths) in
     let last = closing_piece count piece in
     let tokens : tokens_onto history.tokens last.lexemes ≡ with_dedents count (tokens_onto history.tokens piece.lexemes) =
-    onto_both history.tokens piece.lexemes (dedents count piece.len) ∙ onto_dedents (tokens_onto history.tokens piece.lexemes) count piece.len in
+    onto_append history.tokens piece.lexemes (dedents count piece.len) ∙ onto_dedents (tokens_onto history.tokens piece.lexemes) count piece.len in
     record {
       pieces' = last ∷ [];
       some = λ e. no_cons last [] e;
@@ -239,7 +235,7 @@ close_last history text more piece ends stands reach laid fresh begins =
       len = omega (arith, reach, sum_by-cons (λ (piece : Piece). piece.len) last []);
       past = ap (λ ts. record { tokens = ts; widths = history.widths ++ 0 ∷ []; before = Layout }) tokens
           ∙ ap (λ (ws : List ℕ). record { tokens = with_dedents (length (open_widths ws)) (tokens_onto history.tokens piece.lexemes); widths = ws ++ 0 ∷ []; before = Layout }) widths;
-      lexemes = λ at. append-nil (map (moved at) last.lexemes) ∙ map_both (moved at) piece.lexemes (dedents count piece.len)
+      lexemes = λ at. append-nil (map (moved at) last.lexemes) ∙ map-append (moved at) piece.lexemes (dedents count piece.len)
           ∙ ap (λ ls. map (moved at) piece.lexemes ++ ls) (dedents_moved at count piece.len)
           ∙ ap (λ n. map (moved at) piece.lexemes ++ dedents count (at + n)) reach
           ∙ ap (λ (ws : List ℕ). map (moved at) piece.lexemes ++ dedents (length (open_widths ws)) (at + length text)) widths

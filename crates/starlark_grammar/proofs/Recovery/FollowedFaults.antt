@@ -21,10 +21,10 @@ use Rattle.starlark_grammar.specs.Longest.{IsReading}
 use Rattle.starlark_grammar.proofs.Lists.{drop-sum}
 use Rattle.starlark_grammar.proofs.WordNewlines.{in_line, line_fits, language_lines}
 use Rattle.starlark_grammar.proofs.Literals.Bodies.{StopFits, body_fits}
-use Rattle.starlark_grammar.proofs.Joining.Followed.{ends_line, ends_line_drop, longest_followed}
-use Rattle.starlark_grammar.proofs.Joining.FollowedBodies.{character_followed}
+use Rattle.starlark_grammar.proofs.Joining.Followed.{ends_line, ends_line_drop, longest_front_append}
+use Rattle.starlark_grammar.proofs.Joining.FollowedBodies.{character_append}
 use Rattle.starlark_grammar.proofs.Joining.FollowedMargins.{Followed, Whole, Within, followed, has_whole_lines, whole_after}
-use Rattle.starlark_grammar.proofs.Joining.FollowedPieces.{FrontGoesOn, bang_stays, code_step, front_goes_on, opening_followed, opening_inside}
+use Rattle.starlark_grammar.proofs.Joining.FollowedPieces.{FrontGoesOn, bang_stays, code_step, front_goes_on, opening_append, opening_inside}
 use Rattle.starlark_grammar.proofs.Joining.Joined.{blank_step, next_stays, step_within, whole_from_ends}
 use Rattle.starlark_grammar.proofs.Recovery.FollowedStops.{StopInside, body_single, body_stays}
 
@@ -68,17 +68,17 @@ plain_ends opening (b ∷ []) h single =
 plain_ends opening (b ∷ c ∷ bs) h single = and_right _ (is_plain opening (c ∷ bs)) (plain_ends opening (c ∷ bs) h single)
 
 -- what an unfinished literal of one line is
-pub unfinished_followed : (mode : Mode) (kind : Kind) (opening : Opening) (remainder more : Text) → ends_line remainder ≡ true → opening.is_triple ≡ false → unfinished mode kind opening (remainder ++ more) ≡ unfinished mode kind opening remainder
-unfinished_followed Outside kind opening remainder more h single = refl
-unfinished_followed (InText other) OfText opening remainder more h single = rw (not_plain opening remainder more h single, plain_ends opening remainder h single) refl
-unfinished_followed AtTop OfText opening remainder more h single = rw (not_plain opening remainder more h single, plain_ends opening remainder h single) refl
-unfinished_followed Deeper OfText opening remainder more h single = rw (not_plain opening remainder more h single, plain_ends opening remainder h single) refl
-unfinished_followed (InText other) OfBytes opening remainder more h single = refl
-unfinished_followed AtTop OfBytes opening remainder more h single = refl
-unfinished_followed Deeper OfBytes opening remainder more h single = refl
-unfinished_followed (InText other) OfFString opening remainder more h single = refl
-unfinished_followed AtTop OfFString opening remainder more h single = refl
-unfinished_followed Deeper OfFString opening remainder more h single = refl
+pub unfinished_append : (mode : Mode) (kind : Kind) (opening : Opening) (remainder more : Text) → ends_line remainder ≡ true → opening.is_triple ≡ false → unfinished mode kind opening (remainder ++ more) ≡ unfinished mode kind opening remainder
+unfinished_append Outside kind opening remainder more h single = refl
+unfinished_append (InText other) OfText opening remainder more h single = rw (not_plain opening remainder more h single, plain_ends opening remainder h single) refl
+unfinished_append AtTop OfText opening remainder more h single = rw (not_plain opening remainder more h single, plain_ends opening remainder h single) refl
+unfinished_append Deeper OfText opening remainder more h single = rw (not_plain opening remainder more h single, plain_ends opening remainder h single) refl
+unfinished_append (InText other) OfBytes opening remainder more h single = refl
+unfinished_append AtTop OfBytes opening remainder more h single = refl
+unfinished_append Deeper OfBytes opening remainder more h single = refl
+unfinished_append (InText other) OfFString opening remainder more h single = refl
+unfinished_append AtTop OfFString opening remainder more h single = refl
+unfinished_append Deeper OfFString opening remainder more h single = refl
 
 escape_end : (begin : ℕ) (text : Text) (found : Spanned Fault) → escape_fault begin text ≡ Fails found → found.end ≡ begin + 1 + length text
 escape_end begin [] found e = let end = fault_end _ found e in omega (arith, end)
@@ -107,7 +107,7 @@ module _ (mode : Mode) (kind : Kind) (opening : Opening) (len : ℕ) (remainder 
 
   literal_same : (stop : Stop) → StopFits opening (drop (body_len body) remainder) stop → ends_line remainder ≡ true → (stop ≡ Line → opening.is_triple ≡ false) → literal_by mode kind opening len remainder body stop ≡ Fails found → found.end < len + length remainder → literal_by mode kind opening len (remainder ++ more) body stop ≡ Fails found
   literal_same Closing fits h single e less = e
-  literal_same Line fits h single e less = ap (λ (node : Fault). fault 0 node (len + body_len body)) (unfinished_followed mode kind opening remainder more h (single refl)) ∙ e
+  literal_same Line fits h single e less = ap (λ (node : Fault). fault 0 node (len + body_len body)) (unfinished_append mode kind opening remainder more h (single refl)) ∙ e
   literal_same OpeningBrace fits h single e less = absurd (omega (arith, less, fault_end _ found e))
   literal_same ClosingBrace fits h single e less = absurd (omega (arith, less, fault_end _ found e))
   literal_same Ended fits h single e less = absurd (omega (arith, less, fault_end _ found e))
@@ -172,14 +172,14 @@ word_fails s word.LineEnd front remainder more found ends fits whole e less = go
     go false e = e
 word_fails s (word.Opener kind is_raw quote) front remainder more found ends fits whole e less =
     let h = ends fits in
-    ap (λ (opening : Opening). opener s.mode kind opening (length front) (remainder ++ more)) (opening_followed is_raw quote remainder more h)
+    ap (λ (opening : Opening). opener s.mode kind opening (length front) (remainder ++ more)) (opening_append is_raw quote remainder more h)
     ∙ opener_fails s.mode kind (opening_of is_raw quote remainder) (length front) remainder more found h (opening_inside is_raw quote remainder h) e less
 word_fails s class front remainder more found ends fits whole e less = e
 
 front_fails : (s : Situation) (text more : Text) (front : Option (Class × ℕ)) (found : Spanned Fault) → ends_line text ≡ true → longest_front (class_in language) text ≡ front → front_step s text front ≡ Fails found → found.end < length text → front_step s (text ++ more) front ≡ Fails found
 front_fails s text more None found h known e less =
     let end : length (first_character text) ≡ found.end = fault_end _ found e in
-    ap (λ (t : Text). fault 0 (InvalidInput t) (length t)) (character_followed text more (omega (arith, less, end))) ∙ e
+    ap (λ (t : Text). fault 0 (InvalidInput t) (length t)) (character_append text more (omega (arith, less, end))) ∙ e
 front_fails s text more (Some front) found h known e less =
     goes.again ∙ word_fails s front.0 (take front.1 text) (drop front.1 text) more found goes.ends (language_lines (take front.1 text) front.0 goes.sound.2) (whole_after front.1 text (whole_from_ends text h)) e (omega (arith, less, goes.len, length-drop front.1 text, goes.sound.1))
   where
@@ -189,7 +189,7 @@ front_fails s text more (Some front) found h known e less =
 code_fails : (s : Situation) (text more : Text) (found : Spanned Fault) → ends_line text ≡ true → in_code language s text ≡ Fails found → found.end < length text → in_code language s (text ++ more) ≡ Fails found
 code_fails s [] more found h e less = cc
 code_fails s (b ∷ bs) more found h e less =
-    ap (λ (front : Option (Class × ℕ)). code_step s (takes_bang s.mode s.before && is_bang (b ∷ (bs ++ more))) (b ∷ (bs ++ more)) front) (longest_followed (b ∷ bs) more h)
+    ap (λ (front : Option (Class × ℕ)). code_step s (takes_bang s.mode s.before && is_bang (b ∷ (bs ++ more))) (b ∷ (bs ++ more)) front) (longest_front_append (b ∷ bs) more h)
     ∙ ap (λ bang. code_step s bang (b ∷ (bs ++ more)) (longest_front (class_in language) (b ∷ bs))) (bang_stays s b bs more h)
     ∙ go (takes_bang s.mode s.before && is_bang (b ∷ bs)) e
   where

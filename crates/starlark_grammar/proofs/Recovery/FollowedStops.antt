@@ -18,7 +18,7 @@ use Rattle.starlark_grammar.proofs.Choices.{either, by_test}
 use Rattle.starlark_grammar.proofs.Lists.{drop-nil}
 use Rattle.starlark_grammar.proofs.Literals.Bodies.{found_fits, FoundFits}
 use Rattle.starlark_grammar.proofs.Joining.Followed.{ends_line, ends_line_rest}
-use Rattle.starlark_grammar.proofs.Joining.FollowedBodies.{FoundFollowed, StopFollowed, both, both_equal, character_followed, closing_in_line, found_followed, prefix_followed, starts_followed, octal_onward}
+use Rattle.starlark_grammar.proofs.Joining.FollowedBodies.{FoundFollowed, StopFollowed, both, both_equal, character_append, closing_in_line, found_append, prefix_append, starts_append, octal_onward}
 
 -- Bad escapes
 
@@ -29,7 +29,7 @@ BadFollowed whole found other = ⊤
 
 broken_bad : (good : ℕ) (text more : Text) → BadFollowed (good + length text) (broken good text) (broken good (text ++ more))
 broken_bad good [] more = λ inside. absurd (omega (arith, inside))
-broken_bad good (b ∷ bs) more = λ inside. ap (broken_by good) (character_followed (b ∷ bs) more (omega (arith, inside)))
+broken_bad good (b ∷ bs) more = λ inside. ap (broken_by good) (character_append (b ∷ bs) more (omega (arith, inside)))
 
 numbered_bad : (whole len : ℕ) (is_byte : Bool) (n : ℕ) (other : Found) → (len < whole → other ≡ numbered len is_byte n) → BadFollowed whole (numbered len is_byte n) other
 numbered_bad whole len true n other h = by_test (λ found. BadFollowed whole found other) (nat_lt n 256) (goes len (n ∷ [])) (broken len []) (λ yes. tt) (λ no less. h less ∙ rw no refl)
@@ -48,7 +48,7 @@ hexadecimal_bad wanted is_byte text more = go (prefix_len is_ascii_hexdigit (tak
 
     again : (n : ℕ) → prefix_len is_ascii_hexdigit (take wanted text) ≡ n → n < length text → hexadecimal wanted is_byte (text ++ more) ≡ by n (text ++ more)
     again n e inside =
-        let same : prefix_len is_ascii_hexdigit (take wanted (text ++ more)) ≡ n = prefix_followed is_ascii_hexdigit wanted text more (omega (arith, inside, e)) ∙ e in
+        let same : prefix_len is_ascii_hexdigit (take wanted (text ++ more)) ≡ n = prefix_append is_ascii_hexdigit wanted text more (omega (arith, inside, e)) ∙ e in
         ap (λ n. by n (text ++ more)) same
 
     equal : (n : ℕ) → prefix_len is_ascii_hexdigit (take wanted text) ≡ n → (n == wanted) ≡ true → 2 + n < 2 + length text → hexadecimal wanted is_byte (text ++ more) ≡ numbered (2 + n) is_byte (digits_value 16 (take n text))
@@ -104,13 +104,13 @@ brace_bad whole b (c ∷ cs) other =
     either (λ (found : Found). BadFollowed whole found other) (b == c) (goes 2 (b ∷ [])) (Stops (if b == byte "{" then OpeningBrace else ClosingBrace)) tt
     (either (λ (stop : Stop). BadFollowed whole (Stops stop) other) (b == byte "{") OpeningBrace ClosingBrace tt tt)
 
-bad_followed : (literal : Literal) (text more : Text) → ends_line text ≡ true → BadFollowed (length text) (found_at literal text) (found_at literal (text ++ more))
+bad_append : (literal : Literal) (text more : Text) → ends_line text ≡ true → BadFollowed (length text) (found_at literal text) (found_at literal (text ++ more))
 unfolding found_at
-bad_followed literal [] more h = cc
-bad_followed literal (b ∷ bs) more h =
+bad_append literal [] more h = cc
+bad_append literal (b ∷ bs) more h =
     let P : Found → Found → Type 0 = BadFollowed (length (b ∷ bs)) in
     let one : 1 + length bs ≡ length (b ∷ bs) = omega arith in
-    both_equal P (starts_with nat_eq (b ∷ bs) (closing_quotes literal.opening)) (starts_with nat_eq (b ∷ (bs ++ more)) (closing_quotes literal.opening)) _ _ _ _ (starts_followed (b ∷ bs) (closing_quotes literal.opening) more h (closing_in_line literal.opening)) tt
+    both_equal P (starts_with nat_eq (b ∷ bs) (closing_quotes literal.opening)) (starts_with nat_eq (b ∷ (bs ++ more)) (closing_quotes literal.opening)) _ _ _ _ (starts_append (b ∷ bs) (closing_quotes literal.opening) more h (closing_in_line literal.opening)) tt
     (both P (b == byte "\n" && not literal.opening.is_triple) _ _ _ _ (λ e. tt) (λ e.
     both P (b == byte "\r") _ _ _ _ (λ e. tt) (λ e.
     both P (b == byte "\\" && literal.opening.is_raw) _ _ _ _ (λ e. raw_pair_bad _ literal.kind literal.opening.quote bs _) (λ e.
@@ -164,7 +164,7 @@ body_from_stays literal (suc passed) (b ∷ bs) more h inside =
     let less = passed_inside literal passed bs rest in
     body_from_stays literal passed bs more (ends_line_rest b bs (omega (arith, less)) h) rest
 body_from_stays literal zero (b ∷ bs) more h inside =
-    go (found_at literal (b ∷ bs)) (found_at literal (b ∷ (bs ++ more))) (found_followed literal (b ∷ bs) more h) (bad_followed literal (b ∷ bs) more h) (found_fits literal (b ∷ bs)) (λ passed. body_from_stays literal passed bs more) inside
+    go (found_at literal (b ∷ bs)) (found_at literal (b ∷ (bs ++ more))) (found_append literal (b ∷ bs) more h) (bad_append literal (b ∷ bs) more h) (found_fits literal (b ∷ bs)) (λ passed. body_from_stays literal passed bs more) inside
   where
     again : ℕ → Body
     again passed = body_from literal passed (bs ++ more)

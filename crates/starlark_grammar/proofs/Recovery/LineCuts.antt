@@ -1,4 +1,5 @@
 -- Cuts between lines, and what they and a text after them are together.
+use Rattle.std.proofs.lemmas.List.{map-append}
 use Rattle.std.proofs.Common.{◌≡◌, ℕ, zero, suc, ◌+◌, ◌<◌, Bool, true, false, List, [], ◌∷◌, ◌++◌, length, drop, map, refl, ap, ◌∙◌, sym, subst, Some, None, arith, append_assoc, append-nil}
 use Rattle.std.specs.Prelude.{◌&&◌, ◌||◌, codes, nat_eq, option_map}
 use Rattle.std.specs.List.{ends_with}
@@ -17,8 +18,8 @@ use Rattle.starlark_grammar.proofs.Reading.Readings.{one_longest, longest_onward
 use Rattle.starlark_grammar.proofs.Reading.Steps.{is_nothing}
 use Rattle.starlark_grammar.proofs.Joining.Followed.{ends_line, ends_line_of, ends_line_some}
 use Rattle.starlark_grammar.proofs.Joining.Settled.{Settled, outside_none, remainder, widths_settled, situation_after, after_onto, next_after, all_after}
-use Rattle.starlark_grammar.proofs.Joining.Joined.{moved_both, map_both}
-use Rattle.starlark_grammar.proofs.Joining.CleanCuts.{CharacterStarts, along_both, begun, faultless_reading, longest_both, past_both, pieces_both, along_later, same_outcome, some_before, some_both}
+use Rattle.starlark_grammar.proofs.Joining.Joined.{moved_both}
+use Rattle.starlark_grammar.proofs.Joining.CleanCuts.{CharacterStarts, along_append, begun, faultless_reading, longest_append, past_append, pieces_append, along_later, same_outcome, some_before, some_append}
 use Rattle.starlark_grammar.proofs.Joining.Tabs.{first_step, outcome_by}
 use Rattle.starlark_grammar.proofs.Joining.Laws.{ends_after}
 use Rattle.starlark_grammar.specs.Joining.{is_between_lines, is_line_cut, has_newline, without_last_newline, begins_plainly, LineCutsJoin, LineCutsOfJoined}
@@ -235,7 +236,7 @@ module _ (text more : Text) (pieces : List Piece) (here : LineCut text pieces) (
   pub longest : IsLongestReading language nothing (text ++ more) (closed.pieces' ++ there.pieces) there.last
   longest =
       let left : drop (pieces_len closed.pieces') (text ++ more) ≡ more = ap (λ n. drop n (text ++ more)) (closed.len ∙ sym (add_none (length text))) ∙ drop-append-add text more 0 in
-      longest_both language nothing (text ++ more) closed.pieces' there.pieces there.last closed.reads
+      longest_append language nothing (text ++ more) closed.pieces' there.pieces there.last closed.reads
       (subst (λ (t : Text). IsLongestReading language (after_all nothing closed.pieces') t there.pieces there.last) (sym left)
       (subst (λ (past : History). IsLongestReading language past more there.pieces there.last) (sym (closed.past ∙ closed_alone (after_all nothing pieces)))
       (longest_between line_alone (closed_after (after_all nothing pieces)) margin_alone more there.pieces there.last line_settled all_closed starts)))
@@ -248,13 +249,13 @@ module _ (text more : Text) (pieces : List Piece) (here : LineCut text pieces) (
   joined_is = sym (outcome_only language (text ++ more) _ (record { pieces = closed.pieces' ++ there.pieces; last = there.last; longest = longest; same = refl }))
 
   total : pieces_len (closed.pieces' ++ there.pieces) ≡ length text + pieces_len there.pieces
-  total = omega (arith, pieces_both closed.pieces' there.pieces, closed.len)
+  total = omega (arith, pieces_append closed.pieces' there.pieces, closed.len)
 
   lexemes : lexemes_along 0 (closed.pieces' ++ there.pieces) ≡ without_last_newline (outcome text).lexemes ++ map (moved (length text)) (lexemes_along 0 there.pieces)
   lexemes =
       let start : 0 + pieces_len closed.pieces' ≡ length text + 0 = omega (arith, closed.len) in
       let at : 0 + length text ≡ length text = omega arith in
-      along_both 0 closed.pieces' there.pieces
+      along_append 0 closed.pieces' there.pieces
       ∙ ap (λ ls. ls ++ lexemes_along (0 + pieces_len closed.pieces') there.pieces) (closed.lexemes 0 ∙ ap (λ n. lexemes_along 0 pieces ++ dedents (open_count (after_all nothing pieces)) n) at ∙ sym (line_cut_lexemes text pieces here))
       ∙ ap (λ n. without_last_newline (outcome text).lexemes ++ lexemes_along n there.pieces) start
       ∙ ap (λ ls. without_last_newline (outcome text).lexemes ++ ls) (along_later (length text) 0 there.pieces)
@@ -262,7 +263,7 @@ module _ (text more : Text) (pieces : List Piece) (here : LineCut text pieces) (
   -- what is read of both, and what is read of the second text alone
   pub past : after_all nothing (closed.pieces' ++ there.pieces) ≡ remainder (closed_after (after_all nothing pieces)) (after_all margin_alone there.pieces)
   past =
-      past_both nothing closed.pieces' there.pieces
+      past_append nothing closed.pieces' there.pieces
       ∙ ap (λ (h : History). after_all h there.pieces) (closed.past ∙ closed_alone (after_all nothing pieces))
       ∙ all_after (closed_after (after_all nothing pieces)) margin_alone there.pieces
 
@@ -287,7 +288,7 @@ module _ (text more : Text) (pieces : List Piece) (here : LineCut text pieces) (
       ∙ ap (λ ls. lexemes_along 0 (closed.pieces' ++ there.pieces) ++ ls) closings
       ∙ ap (λ ls. ls ++ map (moved (length text)) closes) lexemes
       ∙ append_assoc kept (map (moved (length text)) along) (map (moved (length text)) closes)
-      ∙ ap (λ ls. kept ++ ls) (sym (map_both (moved (length text)) along closes))
+      ∙ ap (λ ls. kept ++ ls) (sym (map-append (moved (length text)) along closes))
 
   first_len : pieces_len (plain_piece ∷ there.pieces) ≡ pieces_len there.pieces
   first_len = omega (arith, sum_by-cons (λ (piece : Piece). piece.len) plain_piece there.pieces)
@@ -299,7 +300,7 @@ module _ (text more : Text) (pieces : List Piece) (here : LineCut text pieces) (
   by_last : (last : Step) → outcome_of (text ++ more) (closed.pieces' ++ there.pieces) last
       ≡ record { lexemes = without_last_newline (outcome text).lexemes ++ map (moved (length text)) (outcome_of more (plain_piece ∷ there.pieces) last).lexemes; fault = option_map (moved (length text)) (outcome_of more (plain_piece ∷ there.pieces) last).fault }
   by_last (Fails fault) =
-      same_outcome (some_before (text ++ more) (closed.pieces' ++ there.pieces) (some_both closed.pieces' there.pieces closed.some) ∙ lexemes)
+      same_outcome (some_before (text ++ more) (closed.pieces' ++ there.pieces) (some_append closed.pieces' there.pieces closed.some) ∙ lexemes)
       (ap Some (sym (moved_both (length text) (pieces_len (plain_piece ∷ there.pieces)) (pieces_len (closed.pieces' ++ there.pieces)) fault (omega (arith, total, first_len)))))
   by_last (Stands piece) = same_outcome (to_end ∙ alone) refl
   by_last Ends = same_outcome (to_end ∙ alone) refl

@@ -22,8 +22,8 @@ use Rattle.starlark_grammar.proofs.Lists.{drop-sum}
 use Rattle.starlark_grammar.proofs.Words.Fronts.{front_sound}
 use Rattle.starlark_grammar.proofs.Reading.Steps.{is_nothing}
 use Rattle.starlark_grammar.proofs.Reading.Readings.{longest_onward, stops_here}
-use Rattle.starlark_grammar.proofs.Joining.CleanCuts.{along_both, longest_both, past_both, pieces_both}
-use Rattle.starlark_grammar.proofs.Joining.Followed.{ends_line_drop, ends_line_of, longest_followed}
+use Rattle.starlark_grammar.proofs.Joining.CleanCuts.{along_append, longest_append, past_append, pieces_append}
+use Rattle.starlark_grammar.proofs.Joining.Followed.{ends_line_drop, ends_line_of, longest_front_append}
 use Rattle.starlark_grammar.proofs.Joining.Joined.{blank_step, outside}
 use Rattle.starlark_grammar.proofs.Joining.LaidCuts.{line_laid, line_of, reading_shortened}
 use Rattle.starlark_grammar.proofs.Joining.Laws.{ends_after}
@@ -104,7 +104,7 @@ module _ (text : Text) (pieces : List Piece) (n : ℕ) (reads : IsReading langua
   found_short =
       let left : drop (pieces_len pieces) text ≡ drop (pieces_len pieces) so_far ++ drop (pieces_len pieces + n) text =
       ap (drop (pieces_len pieces)) (sym whole) ∙ drop-append-le (pieces_len pieces) so_far (drop (pieces_len pieces + n) text) (omega (arith, before)) in
-      sym (longest_followed (drop (pieces_len pieces) so_far) (drop (pieces_len pieces + n) text) (ends_line_drop (pieces_len pieces) so_far before (ends_line_of so_far ends))) ∙ ap (longest_front (class_in language)) (sym left) ∙ found
+      sym (longest_front_append (drop (pieces_len pieces) so_far) (drop (pieces_len pieces + n) text) (ends_line_drop (pieces_len pieces) so_far before (ends_line_of so_far ends))) ∙ ap (longest_front (class_in language)) (sym left) ∙ found
 
   stands_short : next_step language before_line (drop (pieces_len pieces) so_far) ≡ Stands (last_piece n)
   stands_short =
@@ -126,11 +126,11 @@ module _ (text : Text) (pieces : List Piece) (n : ℕ) (reads : IsReading langua
   longest =
       let none : drop (last_piece n).len (drop (pieces_len pieces) so_far) ≡ [] = drop_of_length-le (drop (pieces_len pieces) so_far) (omega (arith, line_len)) in
       let over = stops_here language (after before_line (last_piece n)) (drop (last_piece n).len (drop (pieces_len pieces) so_far)) Ends (ap (next_step language (after before_line (last_piece n))) none ∙ line_ends before_line n none_open) (λ piece e. cc) in
-      longest_both language nothing so_far pieces (last_piece n ∷ []) Ends reads_short (longest_onward language before_line (drop (pieces_len pieces) so_far) (last_piece n) [] Ends stands_short over)
+      longest_append language nothing so_far pieces (last_piece n ∷ []) Ends reads_short (longest_onward language before_line (drop (pieces_len pieces) so_far) (last_piece n) [] Ends stands_short over)
 
   pub is_cut : is_line_cut so_far ≡ true
   is_cut =
-      let between = ap is_between_lines (past_both nothing pieces (last_piece n ∷ [])) ∙ line_between before_line n none_open balanced in
+      let between = ap is_between_lines (past_append nothing pieces (last_piece n ∷ [])) ∙ line_between before_line n none_open balanced in
       line_cut_by so_far (pieces ++ last_piece n ∷ []) Ends longest ∙ rw (between, ends) refl
 
   pub no_fault : (outcome so_far).fault ≡ None
@@ -148,11 +148,11 @@ module _ (text : Text) (pieces : List Piece) (n : ℕ) (reads : IsReading langua
   open_count = length (open_widths before_line.widths)
 
   closed_len : pieces_len closed_pieces ≡ end
-  closed_len = omega (arith, pieces_both pieces (last_piece n ∷ []), sum_by-cons (λ (piece : Piece). piece.len) (last_piece n) [])
+  closed_len = omega (arith, pieces_append pieces (last_piece n ∷ []), sum_by-cons (λ (piece : Piece). piece.len) (last_piece n) [])
 
   closed_widths : (after_all nothing closed_pieces).widths ≡ before_line.widths
   unfolding after
-  closed_widths = ap (λ (h : History). h.widths) (past_both nothing pieces (last_piece n ∷ [])) ∙ append-nil before_line.widths
+  closed_widths = ap (λ (h : History). h.widths) (past_append nothing pieces (last_piece n ∷ [])) ∙ append-nil before_line.widths
 
   closing_is : closing (pieces_len closed_pieces) (after_all nothing closed_pieces) ≡ record { begin = end; node = Newline; end = end } ∷ replicate open_count (dedent_at end)
   closing_is =
@@ -166,7 +166,7 @@ module _ (text : Text) (pieces : List Piece) (n : ℕ) (reads : IsReading langua
       ap (λ (o : Outcome). o.lexemes) (outcome_by so_far closed_pieces Ends longest) in
       ap without_last_newline (all ∙ ap (λ ls. lexemes_along 0 closed_pieces ++ ls) closing_is)
       ∙ last_left_out (lexemes_along 0 closed_pieces) (record { begin = end; node = Newline; end = end }) (replicate open_count (dedent_at end)) refl (none_repeated open_count (dedent_at end) refl)
-      ∙ ap (λ ls. ls ++ replicate open_count (dedent_at end)) (along_both 0 pieces (last_piece n ∷ []))
+      ∙ ap (λ ls. ls ++ replicate open_count (dedent_at end)) (along_append 0 pieces (last_piece n ∷ []))
       ∙ append_assoc (lexemes_along 0 pieces) (line ∷ []) (replicate open_count (dedent_at end))
 
 -- A line that begins plainly

@@ -40,9 +40,9 @@ or_none : (one other : Bool) → (one || other) ≡ false → (one ≡ false) ×
 or_none true other h = cc
 or_none false other h = (refl, h)
 
-none_both : (xs ys : List Lexeme) → has_newline xs ≡ false → has_newline ys ≡ false → has_newline (xs ++ ys) ≡ false
-none_both [] ys h k = k
-none_both (x ∷ xs) ys h k = let parts = or_none (is_newline x.node) (has_newline xs) h in rw (parts.0) (none_both xs ys parts.1 k)
+none_append : (xs ys : List Lexeme) → has_newline xs ≡ false → has_newline ys ≡ false → has_newline (xs ++ ys) ≡ false
+none_append [] ys h k = k
+none_append (x ∷ xs) ys h k = let parts = or_none (is_newline x.node) (has_newline xs) h in rw (parts.0) (none_append xs ys parts.1 k)
 
 none_moved : (n : ℕ) (xs : List Lexeme) → has_newline xs ≡ false → has_newline (map (moved n) xs) ≡ false
 none_moved n [] h = refl
@@ -209,7 +209,7 @@ margin_lexemes len line levels margin piece comments e = go (not (is_content mar
     stands : (indents : List Lexeme) (width : Option ℕ) → has_newline indents ≡ false → Stands (made indents width) ≡ Stands piece → LineLexemes line piece.lexemes
     stands indents width h e =
         let same : made indents width ≡ piece = cc in
-        record { others = map (moved len) (margin.comments ++ indents); whole = sym (ap (λ (p : Piece). p.lexemes) same); none = none_moved len (margin.comments ++ indents) (none_both margin.comments indents comments h) }
+        record { others = map (moved len) (margin.comments ++ indents); whole = sym (ap (λ (p : Piece). p.lexemes) same); none = none_moved len (margin.comments ++ indents) (none_append margin.comments indents comments h) }
 
     go : (blank tab fitting : Bool) (indents : List Lexeme) → has_newline indents ≡ false
         → (if blank then Stands (made [] None) else (if tab then Fails (record { begin = 0; node = InvalidTab; end = 0 }) else (if fitting then Stands (made indents (Some (width_of margin))) else Fails (record { begin = 0; node = Indentation; end = len + margin_len margin })))) ≡ Stands piece → LineLexemes line piece.lexemes

@@ -19,9 +19,9 @@ pub order_sooner : {A : Type 0} (a b to : ℕ) (xs : List (Spanned A)) → a ≤
 order_sooner a b to [] less order = omega (arith, less, order)
 order_sooner a b to (x ∷ xs) less order = let first = order.0 in (omega (arith, less, first), order.1, order.2)
 
-pub order_both : {A : Type 0} (a b to : ℕ) (xs ys : List (Spanned A)) → AreInOrder a xs b → AreInOrder b ys to → AreInOrder a (xs ++ ys) to
-order_both a b to [] ys one other = order_sooner a b to ys one other
-order_both a b to (x ∷ xs) ys one other = (one.0, one.1, order_both x.end b to xs ys one.2 other)
+pub order_append : {A : Type 0} (a b to : ℕ) (xs ys : List (Spanned A)) → AreInOrder a xs b → AreInOrder b ys to → AreInOrder a (xs ++ ys) to
+order_append a b to [] ys one other = order_sooner a b to ys one other
+order_append a b to (x ∷ xs) ys one other = (one.0, one.1, order_append x.end b to xs ys one.2 other)
 
 -- spans of a rest, moved to where it begins
 pub order_later : {A : Type 0} (at : ℕ) (text rest : Text) (xs : List (Spanned A)) → at + length rest ≡ length text → AreInOrder 0 xs (length rest) → AreInOrder at (map (moved at) xs) (length text)

@@ -19,7 +19,7 @@ use Rattle.starlark_grammar.proofs.Lists.{drop-sum}
 use Rattle.starlark_grammar.proofs.Reading.Steps.{is_nothing}
 use Rattle.starlark_grammar.proofs.Order.OrderedLexemes.{Split, first_line}
 use Rattle.starlark_grammar.proofs.Joining.Followed.{ends_line, ends_line_made}
-use Rattle.starlark_grammar.proofs.Joining.FollowedMargins.{has_whole_lines, lines_followed}
+use Rattle.starlark_grammar.proofs.Joining.FollowedMargins.{has_whole_lines, lines_append}
 use Rattle.starlark_grammar.proofs.Joining.Joined.{margin_step_len, whole_from_ends}
 use Rattle.starlark_grammar.proofs.Joining.Tabs.{first_step}
 use Rattle.starlark_grammar.proofs.Recovery.DecidedFaults.{FaultRead, fault_read}
@@ -83,11 +83,11 @@ restarts_at_next_line text fault has none at begin end less lf =
 abbrev lines_sum : List Text → ℕ
 lines_sum ls = sum_by (λ (line : Text). length line) ls
 
-whole_both : (one other : Text) → has_whole_lines one ≡ true → has_whole_lines other ≡ true → has_whole_lines (one ++ other) ≡ true
-whole_both [] other h k = k
-whole_both (b ∷ []) [] h k = h
-whole_both (b ∷ []) (c ∷ other) h k = k
-whole_both (b ∷ c ∷ one) other h k = whole_both (c ∷ one) other h k
+whole_append : (one other : Text) → has_whole_lines one ≡ true → has_whole_lines other ≡ true → has_whole_lines (one ++ other) ≡ true
+whole_append [] other h k = k
+whole_append (b ∷ []) [] h k = h
+whole_append (b ∷ []) (c ∷ other) h k = k
+whole_append (b ∷ c ∷ one) other h k = whole_append (c ∷ one) other h k
 
 nil_parts : (one other : Text) → one ++ other ≡ [] → (one ≡ []) × (other ≡ [])
 nil_parts [] [] e = (refl, refl)
@@ -133,14 +133,14 @@ passed text (line ∷ more) e = by (is_comment_only line) refl (passed split.res
             ∙ ap (list_all is_comment_only) e ∙ ap (λ (ls : List Text). is_comment_only line && list_all is_comment_only ls) last ∙ ap (λ (b : Bool). b && true) is
         alone (inr found) =
             let size : length line ≡ length found.0 + 1 = ap length found.1 ∙ length-append found.0 (10 ∷ []) in
-            ap (list_all is_comment_only) (lines_followed line later.front (whole_line found.0 found.1))
+            ap (list_all is_comment_only) (lines_append line later.front (whole_line found.0 found.1))
             ∙ ap (λ (ls : List Text). list_all is_comment_only (ls ++ lines later.front)) (one_line line split.one (omega (arith, size)))
             ∙ ap (λ (b : Bool). b && list_all is_comment_only (lines later.front)) is ∙ later.alone
 
         ended : (split.rest ≡ []) ⊎ ((front : Text) × (line ≡ front ++ 10 ∷ [])) → (later.rest ≡ []) ⊎ (has_whole_lines later.front ≡ true) → (later.rest ≡ []) ⊎ (has_whole_lines (line ++ later.front) ≡ true)
         ended (inl none) done = inl (nil_parts later.front later.rest (sym later.whole ∙ none)).1
         ended (inr found) (inl none) = inl none
-        ended (inr found) (inr all) = inr (whole_both line later.front (whole_line found.0 found.1) all)
+        ended (inr found) (inr all) = inr (whole_append line later.front (whole_line found.0 found.1) all)
 
 -- as the last byte is compared
 whole_ends : (text : Text) → has_whole_lines text ≡ true → (text ≡ []) ⊎ (ends_with nat_eq text (codes "\n") ≡ true)

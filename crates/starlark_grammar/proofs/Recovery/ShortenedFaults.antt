@@ -22,16 +22,16 @@ use Rattle.starlark_grammar.proofs.WordNewlines.{in_line, line_fits, language_li
 use Rattle.starlark_grammar.proofs.Literals.Bodies.{StopFits, body_fits}
 use Rattle.starlark_grammar.proofs.Reading.Steps.{is_nothing}
 use Rattle.starlark_grammar.proofs.Reading.Readings.{piece_fits, started}
-use Rattle.starlark_grammar.proofs.Joining.Followed.{ends_line, ends_line_drop, longest_followed}
+use Rattle.starlark_grammar.proofs.Joining.Followed.{ends_line, ends_line_drop, longest_front_append}
 use Rattle.starlark_grammar.proofs.Joining.FollowedMargins.{Followed, Whole, Within, followed, has_whole_lines, whole_after}
-use Rattle.starlark_grammar.proofs.Joining.FollowedPieces.{FrontGoesOn, bang_stays, code_step, front_goes_on, opening_followed, opening_inside}
+use Rattle.starlark_grammar.proofs.Joining.FollowedPieces.{FrontGoesOn, bang_stays, code_step, front_goes_on, opening_append, opening_inside}
 use Rattle.starlark_grammar.proofs.Joining.Joined.{step_within, whole_from_ends}
 use Rattle.starlark_grammar.proofs.Joining.LaidCuts.{reading_shortened}
 use Rattle.starlark_grammar.proofs.Joining.Tabs.{outcome_by}
 use Rattle.starlark_grammar.specs.Joining.{is_decided}
 use Rattle.starlark_grammar.specs.Recovery.{is_margin_tab, is_tab, line_end_len, margin_line, next_line, restart, stopped_at}
 use Rattle.starlark_grammar.proofs.Recovery.FollowedStops.{StopInside, body_single}
-use Rattle.starlark_grammar.proofs.Recovery.FollowedFaults.{chunk_same, escape_reads, fault_end, same_fault, unfinished_followed}
+use Rattle.starlark_grammar.proofs.Recovery.FollowedFaults.{chunk_same, escape_reads, fault_end, same_fault, unfinished_append}
 use Rattle.starlark_grammar.proofs.Recovery.MarginTabs.{BeginsLine, line_end_stands, line_is, no_line_end, tab_next, word_line}
 use Rattle.starlark_grammar.proofs.Recovery.DecidedFaults.{FaultRead, decided, decided_faults_stay, fault_read}
 use Rattle.starlark_grammar.proofs.Joining.ShortenedBodies.{character_shortened}
@@ -84,7 +84,7 @@ module _ (mode : Mode) (kind : Kind) (opening : Opening) (len : ℕ) (remainder 
 
   literal_back : (stop : Stop) → ends_line remainder ≡ true → (stop ≡ Line → opening.is_triple ≡ false) → StopInside (length remainder) (body_len body) stop → literal_by mode kind opening len (remainder ++ more) body stop ≡ Fails found → literal_by mode kind opening len remainder body stop ≡ Fails found
   literal_back Closing h single stops e = cc
-  literal_back Line h single stops e = ap (λ (node : Fault). fault 0 node (len + body_len body)) (sym (unfinished_followed mode kind opening remainder more h (single refl))) ∙ e
+  literal_back Line h single stops e = ap (λ (node : Fault). fault 0 node (len + body_len body)) (sym (unfinished_append mode kind opening remainder more h (single refl))) ∙ e
   literal_back OpeningBrace h single stops e = absurd (omega (arith, less, fault_end _ found e, length-append remainder more))
   literal_back ClosingBrace h single stops e = absurd (omega (arith, less, fault_end _ found e, length-append remainder more))
   literal_back Ended h single stops e = absurd stops
@@ -153,7 +153,7 @@ word_short s word.LineEnd front remainder more found ends fits whole e less = go
 word_short s (word.Opener kind is_raw quote) front remainder more found ends fits whole e less =
     let h = ends fits in
     inl (opener_short s.mode kind (opening_of is_raw quote remainder) (length front) remainder more found h (opening_inside is_raw quote remainder h)
-    (sym (ap (λ (opening : Opening). opener s.mode kind opening (length front) (remainder ++ more)) (opening_followed is_raw quote remainder more h)) ∙ e) less)
+    (sym (ap (λ (opening : Opening). opener s.mode kind opening (length front) (remainder ++ more)) (opening_append is_raw quote remainder more h)) ∙ e) less)
 word_short s word.Reserved front remainder more found ends fits whole e less = inl e
 word_short s word.Identifier front remainder more found ends fits whole e less = inl e
 word_short s word.Decimal front remainder more found ends fits whole e less = inl e
@@ -184,14 +184,14 @@ front_short s text more (Some front) found h known e less =
     by : (word_step s front.0 (take front.1 text) (drop front.1 text) ≡ Fails found) ⊎ ((front.0 ≡ word.LineEnd) × MarginBeyond (drop front.1 text) more found) → (front_step s text (Some front) ≡ Fails found) ⊎ LineBeyond text more found
     by (inl fails) = inl fails
     by (inr beyond) =
-        let line : longest_front (class_in language) (text ++ more) ≡ Some (word.LineEnd, front.1) = longest_followed text more h ∙ known ∙ ap (λ (class : Class). Some (class, front.1)) beyond.0 in
+        let line : longest_front (class_in language) (text ++ more) ≡ Some (word.LineEnd, front.1) = longest_front_append text more h ∙ known ∙ ap (λ (class : Class). Some (class, front.1)) beyond.0 in
         inr (record { n = front.1; line = word_line (text ++ more) front.1 line; inside = goes.sound.1; beyond = beyond.1 })
 
 code_short : (s : Situation) (text more : Text) (found : Spanned Fault) → ends_line text ≡ true → in_code language s (text ++ more) ≡ Fails found → found.end < length text → (in_code language s text ≡ Fails found) ⊎ LineBeyond text more found
 code_short s [] more found h e less = cc
 code_short s (b ∷ bs) more found h e less =
     go (takes_bang s.mode s.before && is_bang (b ∷ bs))
-    (sym (ap (λ (front : Option (Class × ℕ)). code_step s (takes_bang s.mode s.before && is_bang (b ∷ (bs ++ more))) (b ∷ (bs ++ more)) front) (longest_followed (b ∷ bs) more h)
+    (sym (ap (λ (front : Option (Class × ℕ)). code_step s (takes_bang s.mode s.before && is_bang (b ∷ (bs ++ more))) (b ∷ (bs ++ more)) front) (longest_front_append (b ∷ bs) more h)
     ∙ ap (λ bang. code_step s bang (b ∷ (bs ++ more)) (longest_front (class_in language) (b ∷ bs))) (bang_stays s b bs more h)) ∙ e)
   where
     go : (bang : Bool) → code_step s bang (b ∷ (bs ++ more)) (longest_front (class_in language) (b ∷ bs)) ≡ Fails found → (code_step s bang (b ∷ bs) (longest_front (class_in language) (b ∷ bs)) ≡ Fails found) ⊎ LineBeyond (b ∷ bs) more found

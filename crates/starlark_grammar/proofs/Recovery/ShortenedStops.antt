@@ -17,7 +17,7 @@ use Rattle.starlark_grammar.specs.FrontCharacter.{first_character}
 use Rattle.starlark_grammar.proofs.Choices.{by_test}
 use Rattle.starlark_grammar.proofs.Literals.Bodies.{found_fits, FoundFits}
 use Rattle.starlark_grammar.proofs.Joining.Followed.{ends_line, ends_line_rest}
-use Rattle.starlark_grammar.proofs.Joining.FollowedBodies.{both, both_equal, closing_in_line, starts_followed}
+use Rattle.starlark_grammar.proofs.Joining.FollowedBodies.{both, both_equal, closing_in_line, starts_append}
 use Rattle.starlark_grammar.proofs.Joining.ShortenedBodies.{FoundShortened, found_shortened, prefix_shortened, character_shortened, octal_of_front, goes_on, no_brace, after_backslash}
 use Rattle.starlark_grammar.proofs.Recovery.FollowedStops.{StopInside, inside_later}
 
@@ -122,7 +122,7 @@ stop_shortened literal [] more h = cc
 stop_shortened literal (b ∷ bs) more h =
     let P : Found → Found → Type 0 = StopShortened (length (b ∷ bs)) in
     let one : 1 + length bs ≡ length (b ∷ bs) = omega arith in
-    both_equal P (starts_with nat_eq (b ∷ (bs ++ more)) (closing_quotes literal.opening)) (starts_with nat_eq (b ∷ bs) (closing_quotes literal.opening)) _ _ _ _ (sym (starts_followed (b ∷ bs) (closing_quotes literal.opening) more h (closing_in_line literal.opening))) tt
+    both_equal P (starts_with nat_eq (b ∷ (bs ++ more)) (closing_quotes literal.opening)) (starts_with nat_eq (b ∷ bs) (closing_quotes literal.opening)) _ _ _ _ (sym (starts_append (b ∷ bs) (closing_quotes literal.opening) more h (closing_in_line literal.opening))) tt
     (both P (b == byte "\n" && not literal.opening.is_triple) _ _ _ _ (λ e. refl) (λ e.
     both P (b == byte "\r") _ _ _ _ (λ e. tt) (λ e.
     both P (b == byte "\\" && literal.opening.is_raw) _ _ _ _ (λ e. raw_pair_short _ literal.kind literal.opening.quote (bs ++ more) _) (λ e.

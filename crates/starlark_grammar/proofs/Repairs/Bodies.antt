@@ -18,7 +18,7 @@ use Rattle.starlark_grammar.specs.Items.{Literal, Item, Stop, Closing, Line, End
 use Rattle.starlark_grammar.specs.FrontCharacter.{first_character}
 use Rattle.starlark_grammar.proofs.Choices.{either}
 use Rattle.starlark_grammar.proofs.Literals.Bodies.{found_fits, FoundFits}
-use Rattle.starlark_grammar.proofs.Joining.FollowedBodies.{FoundFollowed, StopFollowed, both, both_equal, character_followed, escape_followed, is_closed, raw_pair_followed}
+use Rattle.starlark_grammar.proofs.Joining.FollowedBodies.{FoundFollowed, StopFollowed, both, both_equal, character_append, escape_append, is_closed, raw_pair_append}
 use Rattle.starlark_grammar.proofs.Joining.ShortenedBodies.{FoundShortened, character_shortened, escape_shortened, raw_pair_shortened, same_shortened}
 use Rattle.starlark_grammar.proofs.Repairs.Fronts.{is_other}
 use Rattle.starlark_grammar.proofs.ClosingQuotes.{quotes_hold, some_quotes}
@@ -137,12 +137,12 @@ open_swapped (Stops stop) other h = λ some closed. go stop h closed
 
 escape_swapped : (kind : Kind) (bs more rest : Text) → Swapped (1 + length bs) (escape kind (bs ++ more)) (escape kind (bs ++ 59 ∷ rest))
 escape_swapped kind [] more rest = open_swapped (escape kind more) _ (escape_open kind more)
-escape_swapped kind (c ∷ cs) more rest = λ some. joined_steps (1 + length (c ∷ cs)) _ (escape kind (c ∷ cs)) _ (escape_shortened kind (c ∷ cs) more (omega arith)) (escape_followed kind (c ∷ cs) (59 ∷ rest))
+escape_swapped kind (c ∷ cs) more rest = λ some. joined_steps (1 + length (c ∷ cs)) _ (escape kind (c ∷ cs)) _ (escape_shortened kind (c ∷ cs) more (omega arith)) (escape_append kind (c ∷ cs) (59 ∷ rest))
 
 raw_pair_swapped : (kind : Kind) (quote : Quote) (bs more rest : Text) → Swapped (1 + length bs) (raw_pair kind quote (bs ++ more)) (raw_pair kind quote (bs ++ 59 ∷ rest))
 raw_pair_swapped kind quote [] more rest = open_swapped (raw_pair kind quote more) _ (raw_pair_open kind quote more)
 raw_pair_swapped kind quote (c ∷ cs) more rest =
-    λ some. joined_steps (1 + length (c ∷ cs)) _ (raw_pair kind quote (c ∷ cs)) _ (raw_pair_shortened kind quote (c ∷ cs) more (omega arith)) (raw_pair_followed kind quote (c ∷ cs) (59 ∷ rest))
+    λ some. joined_steps (1 + length (c ∷ cs)) _ (raw_pair kind quote (c ∷ cs)) _ (raw_pair_shortened kind quote (c ∷ cs) more (omega arith)) (raw_pair_append kind quote (c ∷ cs) (59 ∷ rest))
 
 no_semicolon : (kind : Kind) (b : ℕ) → is_brace kind b ≡ true → (b == 59) ≡ false
 no_semicolon OfText b h = cc
@@ -173,7 +173,7 @@ brace_swapped kind b [] more rest h = go more
 character_swapped : (b : ℕ) (bs more rest : Text) → Swapped (length (b ∷ bs)) (goes (length (first_character (b ∷ (bs ++ more)))) (first_character (b ∷ (bs ++ more)))) (goes (length (first_character (b ∷ (bs ++ 59 ∷ rest)))) (first_character (b ∷ (bs ++ 59 ∷ rest))))
 character_swapped b bs more rest = λ some inside.
     let short : first_character (b ∷ bs) ≡ first_character (b ∷ (bs ++ more)) = character_shortened (b ∷ bs) more inside in
-    let long : first_character (b ∷ (bs ++ 59 ∷ rest)) ≡ first_character (b ∷ bs) = character_followed (b ∷ bs) (59 ∷ rest) (subst (λ (character : Text). length character < length (b ∷ bs)) (sym short) inside) in
+    let long : first_character (b ∷ (bs ++ 59 ∷ rest)) ≡ first_character (b ∷ bs) = character_append (b ∷ bs) (59 ∷ rest) (subst (λ (character : Text). length character < length (b ∷ bs)) (sym short) inside) in
     ap (λ (character : Text). goes (length character) character) (long ∙ short)
 
 -- What stands at a place of a body.

@@ -11,7 +11,7 @@ use Rattle.starlark_grammar.specs.Tokens.{Lexeme}
 use Rattle.starlark_grammar.specs.Margins.{begins_comment, is_blank, is_lf, blanks_len, lines, is_comment_only, comments_from, comment_lines, is_content, margin_from, margin_of, margin_len, indentation}
 use Rattle.starlark_grammar.specs.Pieces.{margin_step}
 use Rattle.starlark_grammar.proofs.Joining.Followed.{ends_line_made}
-use Rattle.starlark_grammar.proofs.Joining.FollowedMargins.{has_whole_lines, lines_followed, lines_sum}
+use Rattle.starlark_grammar.proofs.Joining.FollowedMargins.{has_whole_lines, lines_append, lines_sum}
 use Rattle.starlark_grammar.proofs.Joining.Joined.{whole_from_ends}
 
 -- no LF
@@ -101,7 +101,7 @@ taken_swapped line (b ∷ bs) c more rest h inside = go (is_lf b) refl
         same = eqb-true b 10 feed
 
         whole : (tail : Text) → lines (line ++ ((b ∷ bs) ++ tail)) ≡ (line ++ b ∷ []) ∷ lines (bs ++ tail)
-        whole tail = ap lines (with tail) ∙ lines_followed (line ++ b ∷ []) (bs ++ tail) (subst (λ n. has_whole_lines (line ++ n ∷ []) ≡ true) (sym same) (whole_from_ends (line ++ 10 ∷ []) (ends_line_made line))) ∙ ap (λ (ls : List Text). ls ++ lines (bs ++ tail)) (one_line line b h feed)
+        whole tail = ap lines (with tail) ∙ lines_append (line ++ b ∷ []) (bs ++ tail) (subst (λ n. has_whole_lines (line ++ n ∷ []) ≡ true) (sym same) (whole_from_ends (line ++ 10 ∷ []) (ends_line_made line))) ∙ ap (λ (ls : List Text). ls ++ lines (bs ++ tail)) (one_line line b h feed)
 
         by : (alone : Bool) → is_comment_only (line ++ b ∷ []) ≡ alone → take_while is_comment_only (lines (line ++ ((b ∷ bs) ++ 59 ∷ rest))) ≡ take_while is_comment_only (lines (line ++ ((b ∷ bs) ++ c ∷ more)))
         by false k = ap (take_while is_comment_only) (whole (59 ∷ rest)) ∙ none_taken (line ++ b ∷ []) (lines (bs ++ 59 ∷ rest)) k ∙ sym (ap (take_while is_comment_only) (whole (c ∷ more)) ∙ none_taken (line ++ b ∷ []) (lines (bs ++ c ∷ more)) k)

@@ -18,7 +18,7 @@ use Rattle.starlark_grammar.specs.Reading.{History, after, after_all, closing, l
 use Rattle.starlark_grammar.specs.RepairLaws.{KeepsLine, RepairsHaveBytes, RepairsKeep, RepairsKeepState, RepairsLeaveLater, semicolons}
 use Rattle.starlark_grammar.specs.Repairs.{ends_by_comment, filled, keeps_line, repair_end, repaired}
 use Rattle.starlark_grammar.specs.Tokens.{Dedent, EmptyEscapeSequence, Fault, Indentation, InvalidEscapeSequence, InvalidInput, InvalidTab, ReservedKeyword, StartsZero, UnfinishedFStringExpression, UnfinishedStringLiteral, Lexeme, Outcome, Spanned, moved}
-use Rattle.starlark_grammar.proofs.Joining.CleanCuts.{along_both, longest_both, past_both, pieces_both}
+use Rattle.starlark_grammar.proofs.Joining.CleanCuts.{along_append, longest_append, past_append, pieces_append}
 use Rattle.starlark_grammar.proofs.Lists.{drop-sum}
 use Rattle.starlark_grammar.proofs.Reading.Readings.{fault_fits, one_least, one_longest, outcome_is, outcome_only, piece_fits, read_from_is, read_is, reading_fits, started}
 use Rattle.starlark_grammar.proofs.Reading.Steps.{is_nothing}
@@ -142,7 +142,7 @@ outcome_after text first pieces reads some =
     let rest : Text = drop (pieces_len (first ∷ pieces)) text in
     let more : List Piece = (read_from language history 0 rest).pieces in
     let last : Step = (read_from language history 0 rest).last in
-    let longest = longest_both language nothing text (first ∷ pieces) more last reads (read_from_is language history 0 rest some) in
+    let longest = longest_append language nothing text (first ∷ pieces) more last reads (read_from_is language history 0 rest some) in
     by more last (outcome_only language text (outcome_of text (first ∷ (pieces ++ more)) last) (record { pieces = first ∷ (pieces ++ more); last = last; longest = longest; same = refl }))
   where
     by : (more : List Piece) (last : Step) → outcome_of text (first ∷ (pieces ++ more)) last ≡ outcome text → IsAfter text (first ∷ pieces) (closes (pieces_len (first ∷ pieces)) (after_all nothing (first ∷ pieces)) more last)
@@ -151,16 +151,16 @@ outcome_after text first pieces reads some =
         along : lexemes_along 0 (first ∷ (pieces ++ more)) ≡ lexemes_along 0 (first ∷ pieces) ++ lexemes_along (pieces_len (first ∷ pieces)) more
         along =
             let zero : 0 + pieces_len (first ∷ pieces) ≡ pieces_len (first ∷ pieces) = omega arith in
-            along_both 0 (first ∷ pieces) more ∙ ap (λ n. lexemes_along 0 (first ∷ pieces) ++ lexemes_along n more) zero
+            along_append 0 (first ∷ pieces) more ∙ ap (λ n. lexemes_along 0 (first ∷ pieces) ++ lexemes_along n more) zero
 
         reach : pieces_len (first ∷ (pieces ++ more)) ≡ pieces_len (first ∷ pieces) + pieces_len more
-        reach = pieces_both (first ∷ pieces) more
+        reach = pieces_append (first ∷ pieces) more
 
         closed : lexemes_along 0 (first ∷ (pieces ++ more)) ++ closing (pieces_len (first ∷ (pieces ++ more))) (after_all nothing (first ∷ (pieces ++ more)))
             ≡ lexemes_along 0 (first ∷ pieces) ++ (lexemes_along (pieces_len (first ∷ pieces)) more ++ closing (pieces_len (first ∷ pieces) + pieces_len more) (after_all (after_all nothing (first ∷ pieces)) more))
         closed =
             ap (λ n. lexemes_along 0 (first ∷ (pieces ++ more)) ++ closing n (after_all nothing (first ∷ (pieces ++ more)))) reach
-            ∙ ap (λ (h : History). lexemes_along 0 (first ∷ (pieces ++ more)) ++ closing (pieces_len (first ∷ pieces) + pieces_len more) h) (past_both nothing (first ∷ pieces) more)
+            ∙ ap (λ (h : History). lexemes_along 0 (first ∷ (pieces ++ more)) ++ closing (pieces_len (first ∷ pieces) + pieces_len more) h) (past_append nothing (first ∷ pieces) more)
             ∙ ap (λ (ls : List Lexeme). ls ++ closing (pieces_len (first ∷ pieces) + pieces_len more) (after_all (after_all nothing (first ∷ pieces)) more)) along
             ∙ append_assoc (lexemes_along 0 (first ∷ pieces)) (lexemes_along (pieces_len (first ∷ pieces)) more) (closing (pieces_len (first ∷ pieces) + pieces_len more) (after_all (after_all nothing (first ∷ pieces)) more))
 
@@ -178,12 +178,12 @@ started_all : (history : History) (text : Text) (first : Piece) (pieces : List P
 started_all history text first [] reads = started history first (piece_fits language history text first reads.0).sort
 started_all history text first (second ∷ pieces) reads = started_all (after history first) (drop first.len text) second pieces reads.1
 
-reading_both : (history : History) (text : Text) (one other : List Piece) → IsReading language history text one → IsReading language (after_all history one) (drop (pieces_len one) text) other → IsReading language history text (one ++ other)
-reading_both history text [] other reads more = more
-reading_both history text (piece ∷ one) other reads more =
+reading_append : (history : History) (text : Text) (one other : List Piece) → IsReading language history text one → IsReading language (after_all history one) (drop (pieces_len one) text) other → IsReading language history text (one ++ other)
+reading_append history text [] other reads more = more
+reading_append history text (piece ∷ one) other reads more =
     let total : pieces_len (piece ∷ one) ≡ piece.len + pieces_len one = sum_by-cons (λ (piece : Piece). piece.len) piece one in
     let left : drop (pieces_len (piece ∷ one)) text ≡ drop (pieces_len one) (drop piece.len text) = ap (λ n. drop n text) total ∙ drop-sum piece.len (pieces_len one) text in
-    (reads.0, reading_both (after history piece) (drop piece.len text) one other reads.1 (subst (λ (t : Text). IsReading language (after_all (after history piece) one) t other) left more))
+    (reads.0, reading_append (after history piece) (drop piece.len text) one other reads.1 (subst (λ (t : Text). IsReading language (after_all (after history piece) one) t other) left more))
 
 -- The outcome of a repaired text: the lexemes before the fault, a `;` for each byte of the repair, and what is found
 -- after it by what was read before.
@@ -253,10 +253,10 @@ module _ (text : Text) (first : Piece) (pieces : List Piece) (c : ℕ) (more : T
       subst (λ (t : Text). IsReading language history t fillers) (sym left) (semicolons_read (end - begin) history rest (started_all nothing text first pieces reads) code)
 
   reads_whole : IsReading language nothing whole (first ∷ (pieces ++ fillers))
-  reads_whole = reading_both nothing whole (first ∷ pieces) fillers reads_front reads_fillers
+  reads_whole = reading_append nothing whole (first ∷ pieces) fillers reads_front reads_fillers
 
   reach : pieces_len (first ∷ (pieces ++ fillers)) ≡ end
-  reach = omega (arith, pieces_both (first ∷ pieces) fillers, semicolons_len (end - begin), some)
+  reach = omega (arith, pieces_append (first ∷ pieces) fillers, semicolons_len (end - begin), some)
 
   left_rest : drop (pieces_len (first ∷ (pieces ++ fillers))) whole ≡ rest
   left_rest =
@@ -268,7 +268,7 @@ module _ (text : Text) (first : Piece) (pieces : List Piece) (c : ℕ) (more : T
   along : lexemes_along 0 (first ∷ (pieces ++ fillers)) ≡ lexemes_along 0 (first ∷ pieces) ++ semicolons (end - begin) begin
   along =
       let zero : 0 + begin ≡ begin = omega arith in
-      along_both 0 (first ∷ pieces) fillers
+      along_append 0 (first ∷ pieces) fillers
       ∙ ap (λ n. lexemes_along 0 (first ∷ pieces) ++ lexemes_along n fillers) zero
       ∙ ap (λ (ls : List Lexeme). lexemes_along 0 (first ∷ pieces) ++ ls) (semicolons_along (end - begin) begin)
 
@@ -388,7 +388,7 @@ module _ (text : Text) (first : Piece) (pieces : List Piece) (fault : Spanned Fa
 
   state_after : situation (after_all nothing own_pieces) ≡ record (situation (after_all nothing (read language text).pieces)) { before = Other }
   state_after =
-      ap situation (past_both nothing (first ∷ pieces) (replicate (repair_end text whole_fault - at) semicolon))
+      ap situation (past_append nothing (first ∷ pieces) (replicate (repair_end text whole_fault - at) semicolon))
       ∙ some_stay (repair_end text whole_fault - at) (after_all nothing (first ∷ pieces)) (omega (arith, bounds.0))
       ∙ ap (λ (ps : List Piece). record (situation (after_all nothing ps)) { before = Other }) read_pieces
     where

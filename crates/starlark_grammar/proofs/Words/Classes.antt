@@ -6,7 +6,7 @@ use Rattle.std.specs.List.{list_all}
 use Rattle.std.specs.Map.{lookup}
 use Rattle.std.specs.Option.{option_or}
 use Rattle.std.specs.Str.{bytes_eq, IsUtf8, IsCharBoundary}
-use Rattle.std.proofs.lemmas.Bool.{and_parts, eqb-true}
+use Rattle.std.proofs.lemmas.Bool.{and_parts}
 use Rattle.std.proofs.lemmas.Bool.Decides.{nat_tests}
 use Rattle.std.proofs.lemmas.Slice.Eq.{bytes_eq-Decides}
 use Rattle.std.proofs.lemmas.Str.{IsCharBoundary-after_ascii}
@@ -172,15 +172,3 @@ digits_unsigned base (b ∷ bs) most h = rw (digit_no_sign b base most (and_part
 pub digits_are_number : (base : ℕ) (digits : Text) → base ≤ 36 → is_run (λ b. is_digit b base) digits ≡ true → integer_in base digits ≡ Some (integer_of base digits)
 unfolding integer_in
 digits_are_number base digits most h = rw (digits_unsigned base digits most h, h) refl
-
--- Comments
-
--- a text may be cut after a comment's `#`
-pub comment_boundary : (word : Text) → IsUtf8 word → class_in language word ≡ Some Comment → IsCharBoundary word 1
-comment_boundary word utf8 known = after_hash word utf8 (word_is_of word Comment known)
-  where
-    after_hash : (word : Text) → IsUtf8 word → is_comment word ≡ true → IsCharBoundary word 1
-    after_hash [] utf8 h = cc
-    after_hash (b ∷ bs) utf8 h =
-        let same : b ≡ 35 = eqb-true b 35 (and_parts (b == 35) _ h).0 in
-        IsCharBoundary-after_ascii (b ∷ bs) 0 utf8 (omega arith) (omega (arith, same))

@@ -22,8 +22,8 @@ use Rattle.starlark_reader.specs.declared.reader.Stage.{Stage}
 use Rattle.starlark_reader.specs.declared.reader.Stage.TheVariants as stages
 use Rattle.starlark_errors.specs.Exceptions.{IsException}
 use Rattle.starlark_reader.specs.Inner.Lookaheads.{HasPeeked, IsFound}
-use Rattle.starlark_reader.specs.declared.lookahead.Found.{Found}
-use Rattle.starlark_reader.specs.declared.lookahead.Found.TheVariants as found
+use Rattle.starlark_reader.specs.declared.lookahead.Lookahead.{Lookahead}
+use Rattle.starlark_reader.specs.declared.lookahead.Lookahead.TheVariants as found
 use Rattle.starlark_lexemes.specs.Inner.FoundKinds.{GoesOn}
 use Rattle.starlark_lexemes.specs.Lexer.{HasReadToFault, LexerView, is_ended_by, most_reads, yielded_by}
 use Rattle.starlark_errors.specs.declared.error.kinds.ErrorKind.{ErrorKind}
@@ -210,17 +210,17 @@ abbrev pub plain_fstring_text : (begin end : ℕ) → PlainLexeme
 plain_fstring_text begin end = record { kind = kind.FStringText; begin = begin; end = end; value_begin = begin; value_end = end }
 
 -- a lexeme without a value between two offsets
-abbrev pub plain_mark : PlainKind → (begin end : ℕ) → PlainLexeme
-plain_mark it begin end = record { kind = it; begin = begin; end = end; value_begin = end; value_end = end }
+abbrev pub plain_valueless : PlainKind → (begin end : ℕ) → PlainLexeme
+plain_valueless it begin end = record { kind = it; begin = begin; end = end; value_begin = end; value_end = end }
 
 -- what the fast path tells of what was passed without lookahead in code, between two offsets
 abbrev pub told_as : Advance → (begin end : ℕ) → Result (Option PlainLexeme) AllocError
 told_as advance.Nothing begin end = Ok None
-told_as advance.Indent begin end = Ok (Some (plain_mark kind.Indent begin end))
-told_as advance.Dedent begin end = Ok (Some (plain_mark kind.Dedent begin end))
+told_as advance.Indent begin end = Ok (Some (plain_valueless kind.Indent begin end))
+told_as advance.Dedent begin end = Ok (Some (plain_valueless kind.Dedent begin end))
 told_as advance.FStringText begin end = Ok (Some (plain_fstring_text begin end))
-told_as advance.FStringExprStart begin end = Ok (Some (plain_mark kind.FStringExprStart begin end))
-told_as advance.FStringEnd begin end = Ok (Some (plain_mark kind.FStringEnd begin end))
+told_as advance.FStringExprStart begin end = Ok (Some (plain_valueless kind.FStringExprStart begin end))
+told_as advance.FStringEnd begin end = Ok (Some (plain_valueless kind.FStringEnd begin end))
 told_as advance.Comment begin end = Ok (Some (plain_comment begin end))
 told_as advance.Layout begin end = Ok None
 told_as advance.OutOfMemory begin end = Err alloc_error
@@ -229,7 +229,7 @@ told_as advance.OutOfMemory begin end = Err alloc_error
 abbrev pub left_to_pass : LexerState → ℕ
 left_to_pass state = 2 * left_to_read state.reader.text.now state.reader state.reader.stage + left_to_look state.found
   where
-    left_to_look : Found → ℕ
+    left_to_look : Lookahead → ℕ
     left_to_look found.All = 1
     left_to_look it = 0
 
@@ -275,12 +275,12 @@ abbrev pub plain_string : (begin opener end : ℕ) → PlainLexeme
 plain_string begin opener end = record { kind = kind.String; begin = begin; end = end; value_begin = begin + opener; value_end = end - 1 }
 
 -- the kind is that of a pending token
-abbrev pub IsOfMark : Advance → TokenView → Type 0
-IsOfMark advance.Indent view = view ≡ Whole grammar.Indent
-IsOfMark advance.Dedent view = view ≡ Whole grammar.Dedent
-IsOfMark advance.FStringExprStart view = view ≡ Whole grammar.FStringExprStart
-IsOfMark advance.FStringEnd view = view ≡ Whole grammar.FStringEnd
-IsOfMark it view = ⊥
+abbrev pub IsOfPendingToken : Advance → TokenView → Type 0
+IsOfPendingToken advance.Indent view = view ≡ Whole grammar.Indent
+IsOfPendingToken advance.Dedent view = view ≡ Whole grammar.Dedent
+IsOfPendingToken advance.FStringExprStart view = view ≡ Whole grammar.FStringExprStart
+IsOfPendingToken advance.FStringEnd view = view ≡ Whole grammar.FStringEnd
+IsOfPendingToken it view = ⊥
 
 -- A plain lexeme that was passed is an item, or there was out of memory in its place, which ends the lexer.
 abbrev pub HasTaken : LexerState → PlainLexeme → Option (Result (ℕ × Token × ℕ) (OrMemory (Diagnosed ErrorKind))) → LexerState → Type 0

@@ -9,7 +9,7 @@ use Rattle.starlark_grammar.specs.Reading.{tokens_onto}
 use Rattle.starlark_reader.specs.Inner.Nesting.{Represents, is_fstring_start}
 use Rattle.starlark_reader.specs.Inner.PieceViews.{is_code, text_end}
 use Rattle.starlark_token.specs.Lexemes.{lexeme_view, shown_lexeme}
-use Rattle.starlark_reader.specs.Inner.Pending.{IsIdle, IsMark, IsPending, pending_lexemes}
+use Rattle.starlark_reader.specs.Inner.Pending.{IsIdle, IsPendingToken, IsPending, pending_lexemes}
 use Rattle.starlark_token.specs.TokenViews.{TokenView, Whole, token_view}
 use Rattle.starlark_reader.specs.declared.pending.Pending.{Pending}
 use Rattle.starlark_reader.specs.declared.literal.chunks.Chunk.{Chunk}
@@ -45,9 +45,9 @@ chunk_passed tokens value chunk view old new is passes same =
     rw (onto_last tokens chunk.len value (record { begin = chunk.len; node = text_end chunk.before_expression; end = chunk.len + chunk.stop_len }))
     (passes _ (text_end chunk.before_expression) is own.0 (λ brace. let both : false ≡ true = sym own.1 ∙ brace in cc) (text_onto tokens chunk.len value old same))
 
-pub end_mark : (before_expression : Bool) → IsMark (Whole (text_end before_expression))
-end_mark true = tt
-end_mark false = tt
+pub end_is_pending_token : (before_expression : Bool) → IsPendingToken (Whole (text_end before_expression))
+end_is_pending_token true = tt
+end_is_pending_token false = tt
 
 -- an f-string text is passed, and what ends it is pending
 pub chunk_hands : (text : Text) (pending : Pending) (at : ℕ) (value : Text) (chunk : Chunk)

@@ -24,7 +24,7 @@ use Rattle.starlark_grammar.proofs.Order.OrderedLexemes.{Split, first_line}
 use Rattle.starlark_grammar.proofs.Reading.Readings.{one_longest, piece_fits, read_is, started, stops_here}
 use Rattle.starlark_grammar.proofs.Reading.Steps.{Each, is_nothing}
 use Rattle.starlark_grammar.proofs.Choices.{either}
-use Rattle.starlark_grammar.proofs.Joining.CleanCuts.{cut, past_both, pieces_both}
+use Rattle.starlark_grammar.proofs.Joining.CleanCuts.{cut, past_append, pieces_append}
 use Rattle.starlark_grammar.proofs.Joining.Joined.{CountedEnd, counted_end, margin_step_len, outside}
 use Rattle.starlark_grammar.proofs.Joining.KeptPlaces.{HasPassed, IsInMargin, cut_few, cut_in}
 use Rattle.starlark_grammar.proofs.Joining.LaidCuts.{AfterComments, First, IsFlat, IsLaid, MarginAt, ends_some, laid_clean, laid_lexemes, line_count}
@@ -46,8 +46,8 @@ pub read_more : (text : Text) (history : History) (at next : ℕ) (piece : Piece
 read_more text history at next piece read stands is = record {
   pieces = read.pieces ++ piece ∷ [];
   reads = reads_more nothing text read.pieces piece read.reads (ap (λ (h : History). next_step language h (drop (pieces_len read.pieces) text)) read.is_history ∙ ap (λ n. next_step language history (drop n text)) read.reach ∙ stands);
-  is_history = past_both nothing read.pieces (piece ∷ []) ∙ ap (λ (h : History). after h piece) read.is_history;
-  reach = omega (arith, pieces_both read.pieces (piece ∷ []), sum_by-cons (λ (piece : Piece). piece.len) piece [], read.reach, is);
+  is_history = past_append nothing read.pieces (piece ∷ []) ∙ ap (λ (h : History). after h piece) read.is_history;
+  reach = omega (arith, pieces_append read.pieces (piece ∷ []), sum_by-cons (λ (piece : Piece). piece.len) piece [], read.reach, is);
 }
 
 pub read_first : (text : Text) (next : ℕ) (piece : Piece) → first_margin text ≡ Stands piece → next ≡ 0 + piece.len → IsReadTo text (after nothing piece) next

@@ -111,10 +111,10 @@ lexeme_past text old new x lexemes fault here same first lines stays ahead = (
         )
 
 -- the first lexeme after the comments is yielded, where no comment is pending
-pub mark_next : (text : Text) (old new : Reader) (found : Option (ℕ × Token × ℕ)) (lexemes : List (Spanned TokenView)) (fault : Option (Spanned Fault)) → IsHere old new → new.stage ≡ old.stage → old.pending.to ≤ old.pending.from → IsFirst text old.pending new.pending found
+pub pending_token_next : (text : Text) (old new : Reader) (found : Option (ℕ × Token × ℕ)) (lexemes : List (Spanned TokenView)) (fault : Option (Spanned Fault)) → IsHere old new → new.stage ≡ old.stage → old.pending.to ≤ old.pending.from → IsFirst text old.pending new.pending found
     → IsLinePassed text old.pending new.pending found → IsAhead text old old.stage lexemes fault → IsAheadAfter text found new lexemes fault
-mark_next text old new None lexemes fault here same none first lines ahead = ahead_here text old new lexemes fault here same first.1 ahead
-mark_next text old new (Some x) lexemes fault here same none first lines ahead = lexeme_past text old new (lexeme_view x) lexemes fault here same first lines (λ some. absurd (omega (arith, none, some))) ahead
+pending_token_next text old new None lexemes fault here same none first lines ahead = ahead_here text old new lexemes fault here same first.1 ahead
+pending_token_next text old new (Some x) lexemes fault here same none first lines ahead = lexeme_past text old new (lexeme_view x) lexemes fault here same first lines (λ some. absurd (omega (arith, none, some))) ahead
 
 -- the fault is returned after the last lexeme
 pub fault_next : (text : Text) (old new : Reader) (lexemes : List (Spanned TokenView)) (fault : Option (Spanned Fault)) (begin : ℕ) (error : LexemeError) (end : ℕ) → IsHere old new → IsIdle text old.pending → old.stage ≡ stage.Fault begin error end → IsAhead text old old.stage lexemes fault

@@ -39,7 +39,7 @@ use Rattle.starlark_token.specs.declared.tokens.Token.TheVariants as token
 use Rattle.starlark_grammar.specs.Depths.{is_balanced, mode_after}
 use Rattle.starlark_grammar.specs.Margins.{open_widths}
 use Rattle.starlark_grammar.specs.Pieces as pieces
-use Rattle.starlark_grammar.specs.Pieces.{Piece, Situation, Stands, Step, step_at}
+use Rattle.starlark_grammar.specs.Pieces.{Piece, Situation, Step, step_at}
 use Rattle.starlark_grammar.specs.Reading.{History, next_step, situation}
 use Rattle.starlark_reader.specs.Inner.Pending.{IsIdle}
 use Rattle.starlark_token.specs.declared.lexeme_error.LexemeError.{LexemeError}
@@ -307,18 +307,6 @@ onward_ahead text old given new lexemes fault read idle ahead = search (rules, n
 abbrev pub nothing_piece : ℕ → Bool → Piece
 nothing_piece len true = record { len = len; lexemes = []; width = None; sort = pieces.Gap }
 nothing_piece len false = record { len = len; lexemes = []; width = None; sort = pieces.Other }
-
-pub nothing_stands : (len : ℕ) (is_gap : Bool) → nothing_of len is_gap ≡ Stands (nothing_piece len is_gap)
-nothing_stands len true = refl
-nothing_stands len false = refl
-
-nothing_len : (len : ℕ) (is_gap : Bool) → (nothing_piece len is_gap).len ≡ len
-nothing_len len true = refl
-nothing_len len false = refl
-
--- a piece without lexemes is not empty, and is in the text
-pub nothing_here : (text : Text) (history : History) (reader : Reader) (len : ℕ) (is_gap : Bool) → IsStateAfter text history reader → step_here text history reader ≡ nothing_of len is_gap → (1 ≤ len) × (reader.at + len ≤ length text)
-nothing_here text history reader len is_gap kept stands = search (rules, piece_here, nothing_stands, nothing_len)
 
 -- a piece without lexemes changes only the offset and the kind of the piece before it
 pub nothing_taken : (text : Text) (history : History) (old new : Reader) (len : ℕ) (is_gap : Bool) → IsUtf8 text → IsStateAfter text history old → step_here text history old ≡ nothing_of len is_gap → IsIdle text old.pending

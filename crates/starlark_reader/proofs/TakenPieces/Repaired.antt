@@ -19,7 +19,7 @@ use Rattle.starlark_grammar.specs.Tokens.{Fault, InvalidTab, Lexeme, Outcome, Sp
 use Rattle.starlark_grammar.specs.declared.class.Terminal.TheVariants as terminal
 use Rattle.starlark_token.specs.Lexemes.{shown_lexeme}
 use Rattle.starlark_grammar.proofs.Found.JoinedTexts.{repaired_rest}
-use Rattle.starlark_grammar.proofs.Joining.CleanCuts.{longest_both, past_both, pieces_both}
+use Rattle.starlark_grammar.proofs.Joining.CleanCuts.{longest_append, past_append, pieces_append}
 use Rattle.starlark_grammar.proofs.Reading.Readings.{one_longest, read_from_is, read_is}
 use Rattle.starlark_grammar.proofs.Reading.Steps.{is_nothing}
 use Rattle.starlark_grammar.proofs.Repairs.RepairedTexts.{repaired_left, repaired_len}
@@ -38,7 +38,7 @@ use Rattle.starlark_reader.proofs.OpenBrackets.OpenFStrings.{one_kept}
 reading_prefix : (text : Text) (pieces : List Piece) → IsReading language nothing text pieces → is_nothing (after_all nothing pieces).before ≡ false
     → (read language text).pieces ≡ pieces ++ (read_from language (after_all nothing pieces) 0 (drop (pieces_len pieces) text)).pieces
 reading_prefix text pieces reads begun =
-    (one_longest language nothing text _ _ _ _ (read_is language text) (longest_both language nothing text pieces _ _ reads (read_from_is language (after_all nothing pieces) 0 (drop (pieces_len pieces) text) begun))).0
+    (one_longest language nothing text _ _ _ _ (read_is language text) (longest_append language nothing text pieces _ _ reads (read_from_is language (after_all nothing pieces) 0 (drop (pieces_len pieces) text) begun))).0
 
 -- brackets and f-strings stay open after each `;`
 semicolons_represented : (n : ℕ) (history : History) (nesting : Nesting) → Represents history.tokens nesting → Represents (after_all history (replicate n semicolon)).tokens nesting
@@ -64,7 +64,7 @@ module _ (text : Text) (fault : Spanned Fault) (keeps : KeepsLine text fault) (o
 
   history_is : is.history ≡ after_all (history_of text) (replicate (repair_end text fault - fault.begin) semicolon)
   unfolding history_of
-  history_is = is.past ∙ ap (after_all nothing) is.whole ∙ past_both nothing (read language text).pieces (replicate (repair_end text fault - fault.begin) semicolon)
+  history_is = is.past ∙ ap (after_all nothing) is.whole ∙ past_append nothing (read language text).pieces (replicate (repair_end text fault - fault.begin) semicolon)
 
   -- what a reader had read is before the end of the repair
   earlier : IsStateAfter text (history_of text) old → is_nothing (history_of text).before ≡ false → old.at ≤ repair_end text fault
@@ -76,9 +76,9 @@ module _ (text : Text) (fault : Spanned Fault) (keeps : KeepsLine text fault) (o
         is.reach,
         is.bytes,
         ap pieces_len (reading_prefix text to.pieces to.reads (ap (λ (h : History). is_nothing h.before) to.is_history ∙ some)),
-        pieces_both to.pieces ((read_from language (after_all nothing to.pieces) 0 (drop (pieces_len to.pieces) text)).pieces),
+        pieces_append to.pieces ((read_from language (after_all nothing to.pieces) 0 (drop (pieces_len to.pieces) text)).pieces),
         ap pieces_len is.whole,
-        pieces_both (read language text).pieces (replicate (repair_end text fault - fault.begin) semicolon),
+        pieces_append (read language text).pieces (replicate (repair_end text fault - fault.begin) semicolon),
         semicolons_len (repair_end text fault - fault.begin),
       )
 
@@ -96,7 +96,7 @@ module _ (text : Text) (fault : Spanned Fault) (keeps : KeepsLine text fault) (o
         onward =
             ap (λ n. history_from is.history (drop n (repaired text fault))) (at ∙ sym is.reach)
             ∙ ap (λ (h : History). history_from h (drop (pieces_len is.pieces) (repaired text fault))) is.past
-            ∙ sym (past_both nothing is.pieces (read_from language (after_all nothing is.pieces) 0 (drop (pieces_len is.pieces) (repaired text fault))).pieces)
+            ∙ sym (past_append nothing is.pieces (read_from language (after_all nothing is.pieces) 0 (drop (pieces_len is.pieces) (repaired text fault))).pieces)
             ∙ ap (after_all nothing) (sym (reading_prefix (repaired text fault) is.pieces is.reads begun));
         read = record { pieces = is.pieces; reads = is.reads; is_history = sym is.past; reach = is.reach ∙ sym at };
       }

@@ -62,9 +62,9 @@ pub quiet_kept : (lexemes : List Lexeme) (tokens : List grammar.Token) (nesting 
 quiet_kept [] tokens nesting h same = same
 quiet_kept (lexeme ∷ lexemes) tokens nesting h same = quiet_kept lexemes (lexeme.node ∷ tokens) nesting h.1 (one_kept lexeme.node tokens nesting h.0 same)
 
-quiet_both : (one other : List Lexeme) → AllQuiet one → AllQuiet other → AllQuiet (one ++ other)
-quiet_both [] other h k = k
-quiet_both (lexeme ∷ one) other h k = (h.0, quiet_both one other h.1 k)
+quiet_append : (one other : List Lexeme) → AllQuiet one → AllQuiet other → AllQuiet (one ++ other)
+quiet_append [] other h k = k
+quiet_append (lexeme ∷ one) other h k = (h.0, quiet_append one other h.1 k)
 
 quiet_moved : (n : ℕ) (lexemes : List Lexeme) → AllQuiet lexemes → AllQuiet (map (moved n) lexemes)
 quiet_moved n [] h = tt
@@ -102,7 +102,7 @@ margin_is_quiet len line levels text h =
     comments = subst AllQuiet (sym (margin_comments text)) (comments_quiet 0 (comment_lines text))
 
     all : (more : List Lexeme) → AllQuiet more → AllQuiet (line ++ map (moved len) ((margin_of text).comments ++ more))
-    all more k = quiet_both line (map (moved len) ((margin_of text).comments ++ more)) h (quiet_moved len ((margin_of text).comments ++ more) (quiet_both (margin_of text).comments more comments k))
+    all more k = quiet_append line (map (moved len) ((margin_of text).comments ++ more)) h (quiet_moved len ((margin_of text).comments ++ more) (quiet_append (margin_of text).comments more comments k))
 
 pub line_is_quiet : (len : ℕ) (levels : List ℕ) (remainder : Text) (piece : Piece) → line_end len levels remainder ≡ Stands piece → IsLayout piece
 line_is_quiet len levels remainder piece e = subst (Each IsLayout (λ fault. ⊤)) e (margin_is_quiet len (record { begin = 0; node = grammar.Newline; end = len } ∷ []) levels remainder (refl, tt))

@@ -18,8 +18,8 @@ use Rattle.starlark_reader.specs.Inner.Nesting.{Represents}
 use Rattle.starlark_reader.specs.Inner.Pending.{IsIdle}
 use Rattle.starlark_reader.specs.Inner.Reader.{IsAtCode, IsWordHere}
 use Rattle.starlark_reader.specs.Inner.ReadBounds.{HasRead, HasReadAt}
-use Rattle.starlark_reader.specs.declared.lookahead.Found.{Found}
-use Rattle.starlark_reader.specs.declared.lookahead.Found.TheVariants as found
+use Rattle.starlark_reader.specs.declared.lookahead.Lookahead.{Lookahead}
+use Rattle.starlark_reader.specs.declared.lookahead.Lookahead.TheVariants as found
 use Rattle.starlark_reader.specs.declared.reader.Reader.{Reader}
 use Rattle.starlark_reader.specs.declared.reader.Stage.TheVariants as stage
 
@@ -59,7 +59,7 @@ abbrev pub most_peeked : Word → ℕ
 most_peeked word = if is_opener word.class then 5 * word.len - 2 else 5 * word.len + 3
 
 -- what is found is at the reader's offset, and the reads that found it are few enough
-abbrev pub IsFound : Text → Reader → (word : Word) (run : ℕ) → Found → Type 0
+abbrev pub IsFound : Text → Reader → (word : Word) (run : ℕ) → Lookahead → Type 0
 IsFound text reader word run found.Nothing = IsAtCode text reader × HasRead text reader
 IsFound text reader word run found.Word = IsWordHere text reader word × (is_slow word.class ≡ true) × HasPeeked text word.len (most_peeked word) reader
 IsFound text reader word run found.Wordless = IsAtCode text reader × (language_front (drop reader.at text) ≡ None) × HasPeeked text 0 3 reader
@@ -67,6 +67,6 @@ IsFound text reader word run found.Literal = IsWordHere text reader word × IsOp
 IsFound text reader word run found.Text = IsTextRun text run reader × HasPeeked text run (8 * run + 4) reader
 IsFound text reader word run found.All = HasRead text reader
 
-abbrev pub is_nothing : Found → Bool
+abbrev pub is_nothing : Lookahead → Bool
 is_nothing found.Nothing = true
 is_nothing it = false

@@ -60,12 +60,12 @@ pub record IsCommentIn (text : Text) (begin end : ℕ) : Type 0 where
   pub last : IsCharBoundary text end
 
 -- a token that is pending after comments: an indent, a dedent, or the end of an f-string text
-abbrev pub IsMark : TokenView → Type 0
-IsMark (Whole grammar.Indent) = ⊤
-IsMark (Whole grammar.Dedent) = ⊤
-IsMark (Whole grammar.FStringExprStart) = ⊤
-IsMark (Whole grammar.FStringEnd) = ⊤
-IsMark view = ⊥
+abbrev pub IsPendingToken : TokenView → Type 0
+IsPendingToken (Whole grammar.Indent) = ⊤
+IsPendingToken (Whole grammar.Dedent) = ⊤
+IsPendingToken (Whole grammar.FStringExprStart) = ⊤
+IsPendingToken (Whole grammar.FStringEnd) = ⊤
+IsPendingToken view = ⊥
 
 -- the first lexeme after the comments was taken, or there was none and nothing changed
 abbrev pub IsFirstAfter : AfterComments → AfterComments → Option (ℕ × Token × ℕ) → Type 0

@@ -28,8 +28,8 @@ use Rattle.starlark_token.specs.declared.tokens.Token.TheVariants as token
 use Rattle.starlark_reader.specs.declared.reader.Reader.{Reader}
 use Rattle.starlark_reader.specs.declared.reader.Before as code
 use Rattle.starlark_reader.specs.declared.reader.Before.TheVariants as before
-use Rattle.starlark_reader.specs.declared.reader.LineEnd.{LineEnd}
-use Rattle.starlark_reader.specs.declared.reader.LineEnd.TheVariants as line_end
+use Rattle.starlark_reader.specs.declared.reader.TakenLineEnd.{TakenLineEnd}
+use Rattle.starlark_reader.specs.declared.reader.TakenLineEnd.TheVariants as line_end
 use Rattle.starlark_reader.specs.declared.reader.Stage.{Stage}
 use Rattle.starlark_reader.specs.declared.reader.Stage.TheVariants as stage
 
@@ -293,7 +293,7 @@ newline_if true at len = Some (at, token.Newline, at + len)
 newline_if false at len = None
 
 -- the `Newline` of a newline of `len` bytes at byte `at`, if that is its outcome
-abbrev pub newline_of : LineEnd → ℕ → ℕ → Option (ℕ × Token × ℕ)
+abbrev pub newline_of : TakenLineEnd → ℕ → ℕ → Option (ℕ × Token × ℕ)
 newline_of line_end.Newline at len = newline_if true at len
 newline_of line_end.Pending at len = newline_if true at len
 newline_of line_end at len = None

@@ -96,8 +96,8 @@ earlier_finds text class len e = earlier_fits (take len text) class (front_sound
 
 -- Texts without a quote
 
-no_quote_both : (front back : Text) → has_no_quote front ≡ true → has_no_quote back ≡ true → has_no_quote (front ++ back) ≡ true
-no_quote_both front back h k = rw (list_all-append is_no_quote front back, h, k) refl
+no_quote_append : (front back : Text) → has_no_quote front ≡ true → has_no_quote back ≡ true → has_no_quote (front ++ back) ≡ true
+no_quote_append front back h k = rw (list_all-append is_no_quote front back, h, k) refl
 
 no_quote_parts : (front back : Text) → has_no_quote (front ++ back) ≡ true → (has_no_quote front ≡ true) × (has_no_quote back ≡ true)
 no_quote_parts front back h = and_parts (has_no_quote front) (has_no_quote back) (sym (list_all-append is_no_quote front back) ∙ h)
@@ -132,7 +132,7 @@ one_more front finds class bare text word more cut found h =
     let fits : quote_fits class (take (length word) text) ≡ true = finds text class (length word) found in
     let same : take (length word) text ≡ word = ap (take (length word)) cut ∙ take-append_seam word more in
     let none : has_no_quote word ≡ true = subst (λ (w : Text). has_no_quote w ≡ true) same (bare (take (length word) text) fits) in
-    subst (λ (t : Text). has_no_quote t ≡ true) (sym cut) (no_quote_both word more none h)
+    subst (λ (t : Text). has_no_quote t ≡ true) (sym cut) (no_quote_append word more none h)
 
 skipped_after : (pieces : List Text) → NoQuotes (map skipped pieces)
 skipped_after [] front finds text rest reads h = subst (λ (t : Text). has_no_quote t ≡ true) (sym reads) h

@@ -12,9 +12,9 @@ use starlark_grammar::terminals;
 /// A `match` of three bytes on the marks, longer ones first.
 macro_rules! longest_mark {
     (($first:ident, $second:ident, $third:ident) symbols {
-        1 { $([$lone:literal] $lone_text:literal $symbol:ident = $lone_number:literal,)* }
-        2 { $([$a:literal, $b:literal] $double_text:literal $double:ident = $double_number:literal,)* }
-        3 { $([$x:literal, $y:literal, $z:literal] $triple_text:literal $triple:ident = $triple_number:literal,)* }
+        1 { $([$lone:literal] $lone_text:literal $symbol:ident = $lone_number:literal $lone_class:ident,)* }
+        2 { $([$a:literal, $b:literal] $double_text:literal $double:ident = $double_number:literal $double_class:ident,)* }
+        3 { $([$x:literal, $y:literal, $z:literal] $triple_text:literal $triple:ident = $triple_number:literal $triple_class:ident,)* }
     } names $names:tt) => {
         match ($first, $second, $third) {
             $(($x, $y, $z) => (Class::Fixed(Terminal::$triple), 3),)*
@@ -44,8 +44,8 @@ fn quote(quote: Quote) -> Class
     }
 }
 
-/// The longest mark at the front of a text, by its first three bytes, which are 0 after its end.
-/// `None` if there is none, as where a point begins a number.
+/// The longest mark at the front of three bytes, of which those after the text's end are 0. `None`
+/// if there is none, as where a point begins a number.
 #[tactic(auto, unfolding(starlark_grammar::specs::Front::longest_front, starlark_grammar::specs::Words::line_ends, starlark_grammar::specs::Words::symbols, crate::specs::Inner::ScannedWords::marks))]
 #[inline(always)]
 pub(crate) fn mark(first: u8, second: u8, third: u8) -> Option<Word>

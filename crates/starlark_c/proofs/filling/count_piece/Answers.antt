@@ -3,7 +3,7 @@ use Rattle.starlark_c.specs.Endings.{all_values, lexemes_of}
 use Rattle.starlark_c.specs.Records.{values}
 use Rattle.starlark_c.proofs.YieldedItems.{next_fault, next_lexeme}
 use Rattle.starlark_c.proofs.Wanted.{all_bytes, more_values, wanted_fault, wanted_more}
-use Rattle.starlark_syntax.specs.Lexer.{LexerView}
+use Rattle.starlark_lexemes.specs.Lexer.{LexerView}
 use Rattle.starlark_token.specs.Lexemes.{lexeme_view}
 use Rattle.starlark_c.proofs.filling.count_piece.Goals as goal
 

@@ -9,8 +9,8 @@ use Rattle.starlark_c.proofs.NextLexemes.{HasFilled, ends_without_room, goes_on,
 use Rattle.starlark_c.proofs.LastStops.{fault_last, last_of_all}
 use Rattle.starlark_c.proofs.CutEnds.{none_after}
 use Rattle.starlark_c.proofs.Stops.{ends_at_fault, fault_filled}
-use Rattle.starlark_syntax.specs.Lexer.{LexerView}
-use Rattle.starlark_syntax.specs.PlainLexemes.{plain_view}
+use Rattle.starlark_lexemes.specs.Lexer.{LexerView}
+use Rattle.starlark_lexemes.specs.PlainLexemes.{plain_view}
 use Rattle.starlark_token.specs.Lexemes.{lexeme_view}
 use Rattle.starlark_c.proofs.filling.fill.Goals as goal
 

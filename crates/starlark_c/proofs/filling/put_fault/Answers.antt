@@ -4,7 +4,7 @@ use Rattle.starlark_c.specs.Inner.Filling.{put, wanted_by}
 use Rattle.starlark_c.specs.Records.{fault_bytes, fault_number}
 use Rattle.starlark_base.specs.Spans.{ByteSpan}
 use Rattle.starlark_grammar.specs.Tokens.{Fault, Spanned}
-use Rattle.starlark_syntax.specs.Exceptions.{IsException, IsFaultIn}
+use Rattle.starlark_errors.specs.Exceptions.{IsException, IsFaultIn}
 use Rattle.starlark_c.proofs.filling.put_fault.Goals as goal
 
 pub returns-in_default : goal.returns-in_default

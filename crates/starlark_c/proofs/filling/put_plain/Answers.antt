@@ -2,7 +2,7 @@ use Rattle.std.proofs.Common.{◌≡◌, ◌+◌, ◌-◌, ◌∷◌, ◌++◌, 
 use Rattle.std.proofs.lemmas.List.{set_split}
 use Rattle.starlark_c.specs.Records.{record_of, value_bytes}
 use Rattle.starlark_c.specs.declared.records.LexemeRecord.{LexemeRecord}
-use Rattle.starlark_syntax.specs.PlainLexemes.{plain_view}
+use Rattle.starlark_lexemes.specs.PlainLexemes.{plain_view}
 use Rattle.starlark_c.proofs.filling.put_plain.Goals as goal
 
 pub returns : goal.returns

@@ -5,7 +5,7 @@ use Rattle.starlark_c.proofs.numbered_restarts.restart_of.Goals.{then-kind-eq0-v
 use Rattle.starlark_c.specs.NumberedRestarts.{AreOf}
 use Rattle.starlark_grammar.specs.Tokens.{Fault, Spanned}
 use Rattle.starlark_grammar.specs.Words.{Text}
-use Rattle.starlark_syntax.specs.Recovery.{restart}
+use Rattle.starlark_grammar.specs.Recovery.{restart}
 
 pub returns-then-kind-eq0 : goal.returns-then-kind-eq0
 returns-then-kind-eq0 c =

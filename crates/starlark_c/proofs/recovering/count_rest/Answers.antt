@@ -2,7 +2,7 @@ use Rattle.std.proofs.Common.{◌≡◌, drop, ap, sym, ◌∙◌}
 use Rattle.starlark_c.specs.Inner.Recovering.{counts_with, wanted_on}
 use Rattle.starlark_c.specs.RecoveredTexts.{capped_counts}
 use Rattle.starlark_lexemes.proofs.NextItems.{next_item}
-use Rattle.starlark_syntax.specs.RecoveringLexer.{RecoveringView}
+use Rattle.starlark_recovery.specs.RecoveringLexer.{RecoveringView}
 use Rattle.starlark_c.proofs.recovering.count_rest.Goals as goal
 
 pub count_item-requires : goal.count_item-requires

@@ -1,7 +1,7 @@
 use Rattle.std.proofs.Common.{◌≡◌, drop, ap, ◌∙◌}
 use Rattle.starlark_c.proofs.Recovered.{done_more, done_none, recovers_full, recovers_memory}
 use Rattle.starlark_lexemes.proofs.NextItems.{next_item}
-use Rattle.starlark_syntax.specs.RecoveringLexer.{RecoveringView}
+use Rattle.starlark_recovery.specs.RecoveringLexer.{RecoveringView}
 use Rattle.starlark_c.proofs.recovering.fill_recovered.Goals as goal
 
 pub loop-item-init : goal.loop-item-init

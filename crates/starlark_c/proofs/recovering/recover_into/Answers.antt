@@ -2,7 +2,7 @@ use Rattle.std.proofs.Common.{arith}
 use Rattle.starlark_c.specs.Endings.{IsText}
 use Rattle.starlark_c.proofs.Recovered.{done_none, recovers_memory}
 use Rattle.starlark_c.proofs.AddedItems.{no_counts}
-use Rattle.starlark_syntax.specs.RecoveringLexer.{all_items}
+use Rattle.starlark_recovery.specs.RecoveringLexer.{all_items}
 use Rattle.starlark_c.proofs.recovering.recover_into.Goals as goal
 
 pub returns-in-None : goal.returns-in-None

@@ -1,5 +1,5 @@
 use Rattle.std.proofs.Common.{◌≡◌, ◌∷◌, ◌++◌, List, ℕ, Some, [], ap, append-nil, append_assoc, arith, drop, length, subst, sym, ◌∙◌}
-use Rattle.starlark_syntax.specs.RecoveringLexer.{AreReadsOn, HasReadOn, RecoveringView, all_items, is_memory}
+use Rattle.starlark_recovery.specs.RecoveringLexer.{AreReadsOn, HasReadOn, RecoveringView, all_items, is_memory}
 use Rattle.starlark_document.proofs.Costs.{goes_on, reads_on}
 use Rattle.starlark_document.specs.Inner.LexedFronts.{IsLexedFront}
 use Rattle.starlark_lexemes.proofs.NextItems.{next_item, next_none}

@@ -1,6 +1,6 @@
 use Rattle.std.proofs.Common.{◌≡◌, ◌≤◌, ◌+◌, ◌++◌, List, false, length}
 use Rattle.starlark_document.specs.Inner.LexedFronts.{IsLexedFront}
-use Rattle.starlark_syntax.specs.RecoveringLexer.{all_items, most_reads_on}
+use Rattle.starlark_recovery.specs.RecoveringLexer.{all_items, most_reads_on}
 use Rattle.starlark_token.specs.TextItems.{LexerItem}
 use Rattle.starlark_document.proofs.segment_lexing.take_front.Given as goal
 

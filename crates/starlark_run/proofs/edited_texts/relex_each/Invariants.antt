@@ -1,7 +1,7 @@
 use Rattle.std.proofs.Common.{◌≡◌, drop, take}
 use Rattle.starlark_base.specs.Sources.{SourceFile}
 use Rattle.starlark_run.specs.Inner.EditedTexts.{AreVersions, AreVersionsLexed, newest_text}
-use Rattle.starlark_syntax.specs.LexedTexts.{IsLexed}
+use Rattle.starlark_lexed_text.specs.LexedTexts.{IsLexed}
 use Rattle.starlark_run.proofs.edited_texts.relex_each.Given as goal
 
 -- the versions so far are lexed, and those that are left follow on the last of them

@@ -2,7 +2,7 @@ use Rattle.std.proofs.Common.{◌≡◌, ◌+◌, ◌≤◌, ◌++◌, Ok, appen
 use Rattle.std.proofs.lemmas.Result.{err_from_is_err_and}
 use Rattle.starlark_grammar.specs.Gaps.{InOrder}
 use Rattle.starlark_token.specs.Lexemes.{lexeme_view}
-use Rattle.starlark_syntax.specs.Lexer.{LexerView}
+use Rattle.starlark_lexemes.specs.Lexer.{LexerView}
 use Rattle.starlark_token.specs.TextItems.{Given, items}
 use Rattle.starlark_grammar.specs.Reading.{outcome}
 use Rattle.starlark_grammar.proofs.Order.OrderedLexemes.{outcome_order}

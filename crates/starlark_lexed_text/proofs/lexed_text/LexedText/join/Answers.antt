@@ -9,9 +9,9 @@ use Rattle.starlark_lexed_text.specs.LexedTexts as texts
 use Rattle.starlark_lexed_text.specs.LexedTexts.{IsLexed, LexedView}
 use Rattle.starlark_token.specs.Lexemes.{lexeme_view, shown_lexeme}
 use Rattle.starlark_lexed_text.specs.Inner.LexedTexts.{AreCuts, later_cut}
-use Rattle.starlark_lexed_text.proofs.JoinedLists.{begun, cut_joined, joined_lexed, list_joined, no_fault}
+use Rattle.starlark_lexed_text.proofs.JoinedLists.{begun, cut_joined, joined_lexed, list_append, no_fault}
 use Rattle.starlark_lexed_text.proofs.KeptCuts.{count_is}
-use Rattle.starlark_lexed_text.proofs.RelexedOutcomes.{cuts_joined, cuts_near}
+use Rattle.starlark_lexed_text.proofs.RelexedOutcomes.{cuts_append, cuts_near}
 use Rattle.starlark_lexed_text.proofs.Within.{lexemes_near}
 use Rattle.starlark_lexed_text.proofs.lexed_text.LexedText.join.Goals as goal
 use Rattle.starlark_lexed_text.proofs.lexed_text.LexedText.join.Goals.{After-append_cuts, After-append_later}
@@ -27,7 +27,7 @@ append_cuts-requires-clause-count c = search (rules, lexemes_few, length-map)
 
 -- what was made is the joined text
 made : (c : After-append_later) → record { text = c.args.joined.now; lexemes = map lexeme_view c.append_later.new.lexemes.items; fault = None; reads = 0 } ≡ texts.joined c.args.self c.args.second
-made c = search (rules, list_joined)
+made c = search (rules, list_append)
 
 -- and it is what that text comes to
 lexed : (c : After-append_later) (file : SourceFile) → IsLexed file (record { text = c.args.joined.now; lexemes = map lexeme_view c.append_later.new.lexemes.items; fault = None; reads = 0 })
@@ -47,7 +47,7 @@ cuts c =
     let list : c.append_cuts.new.cuts.items ≡ c.first.inside.cuts.items ++ map (later_cut (length c.first.inside.text.now) (length (without_closing (outcome c.first.inside.text.now).lexemes))) c.second.inside.cuts.items =
     rw (c.append_cuts.ensures, c.make_room-else-is_err.ensures.same, all, take-length c.first.inside.cuts.items, kept) refl in
     subst (AreCuts c.args.joined.now) (sym list) (subst (λ t. AreCuts t (c.first.inside.cuts.items ++ map (later_cut (length c.first.inside.text.now) (length (without_closing (outcome c.first.inside.text.now).lexemes))) c.second.inside.cuts.items)) (sym whole)
-    (cuts_joined c.first.inside.text.now c.second.inside.text.now c.first.inside.cuts.items c.second.inside.cuts.items clean (begun c.second.inside.text.now none) c.first.invariant.2 c.second.invariant.2))
+    (cuts_append c.first.inside.text.now c.second.inside.text.now c.first.inside.cuts.items c.second.inside.cuts.items clean (begun c.second.inside.text.now none) c.first.invariant.2 c.second.invariant.2))
 
 pub invariant_of-result : goal.invariant_of-result
 invariant_of-result c =

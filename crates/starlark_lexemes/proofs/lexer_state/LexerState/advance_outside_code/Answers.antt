@@ -2,7 +2,7 @@ use Rattle.std.proofs.Common.{◌≡◌, ◌∙◌, false, ap, arith, drop, leng
 use Rattle.std.proofs.lemmas.List.{length-drop}
 use Rattle.starlark_reader.specs.Inner.Lookaheads.{IsFound}
 use Rattle.starlark_reader.specs.Inner.ReadBounds.{HasRead, HasReadAt}
-use Rattle.starlark_reader.specs.declared.lookahead.Found.TheVariants as found
+use Rattle.starlark_reader.specs.declared.lookahead.Lookahead.TheVariants as found
 use Rattle.starlark_reader.proofs.TakenPieces.WordSteps.{no_front}
 use Rattle.starlark_lexemes.specs.Inner.LexerStates.{HasGoneOn, IsLexing}
 use Rattle.starlark_lexemes.specs.declared.lexer_state.LexerState.{LexerState}
@@ -14,7 +14,7 @@ use Rattle.starlark_lexemes.proofs.lexer_state.LexerState.advance_outside_code.G
 pub returns : goal.returns
 returns c =
     let stays = c.in-Nothing.ensures.stays refl in
-    let old = c.pass_mark.new.self in
+    let old = c.pass_pending_token.new.self in
     let lexing = subst IsLexing (sym stays) c.requires.lexing in
     let going = subst (λ (state : LexerState). state.has_ended ≡ false) (sym stays) c.requires.going in
     let begun : c.args.self.now.found ≡ found.All = elim c.match-matches.branch [ in-All w ↦ w.in-All.is | in_default w ↦ absurd (search rules) ] in

@@ -1,7 +1,7 @@
 use Rattle.std.proofs.Common.{ap, Some, refl, subst, sym, ◌∙◌}
 use Rattle.std.proofs.lemmas.Result.{IfOk-weaker, on_err_weaker}
 use Rattle.starlark_reader.specs.Inner.Lookaheads.{IsFound}
-use Rattle.starlark_reader.specs.declared.lookahead.Found.TheVariants as found
+use Rattle.starlark_reader.specs.declared.lookahead.Lookahead.TheVariants as found
 use Rattle.starlark_reader.proofs.TakenPieces.SameTexts.{keeps_something, keeps_takes}
 use Rattle.starlark_grammar.specs.declared.class.LiteralKind.TheVariants as literal
 use Rattle.starlark_grammar.specs.Words.{Text}

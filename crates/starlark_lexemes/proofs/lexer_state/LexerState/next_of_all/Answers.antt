@@ -1,7 +1,7 @@
 use Rattle.std.proofs.Common.{◌≡◌, Ok, None, Some, refl, rules, subst}
 use Rattle.std.proofs.lemmas.Result.{on_ok_weaker}
 use Rattle.starlark_reader.specs.Inner.Lookaheads.{IsFound}
-use Rattle.starlark_reader.specs.declared.lookahead.Found.TheVariants as found
+use Rattle.starlark_reader.specs.declared.lookahead.Lookahead.TheVariants as found
 use Rattle.starlark_reader.proofs.TakenPieces.SameTexts.{taken_here}
 use Rattle.starlark_reader.proofs.TakenPieces.WordSteps.{end_here}
 use Rattle.starlark_lexemes.proofs.FoundWords.{read_next}

@@ -10,10 +10,10 @@ use Rattle.starlark_reader.proofs.TakenPieces.WordsPassed.{text_edges, text_end_
 use Rattle.starlark_reader.proofs.TakenPieces.SameTexts.{keeps_passes, keeps_takes}
 use Rattle.starlark_lexemes.proofs.LexerStates.{lexing_sound, same_lexing}
 use Rattle.starlark_lexemes.proofs.LexerReads.{all_read, found_out, peeked_first, peeked_taken}
-use Rattle.starlark_lexemes.proofs.PlainLexemes.{fstring_text_shown, lexeme_advances, mark_counted, mark_passed, mark_advances, plain_inside, advance_in_memory}
+use Rattle.starlark_lexemes.proofs.PlainLexemes.{fstring_text_shown, lexeme_advances, pending_token_counted, pending_token_passed, pending_token_advances, plain_inside, advance_in_memory}
 use Rattle.starlark_lexemes.specs.declared.plain_lexeme.PlainKind.TheVariants as kind
 use Rattle.starlark_token.specs.TokenViews.{TokenView, token_view}
-use Rattle.starlark_reader.specs.declared.lookahead.Found.TheVariants as found
+use Rattle.starlark_reader.specs.declared.lookahead.Lookahead.TheVariants as found
 use Rattle.starlark_lexemes.proofs.lexer_state.LexerState.pass_fstring_text.Goals as goal
 
 pub plain_text-requires : goal.plain_text-requires
@@ -72,10 +72,10 @@ returns-then-found-eq0 c =
     let peeked = peeked_first c.args.self.now.reader.text.now (plain.len + 3) (6 * plain.len + 4) (plain.len + 3) (6 * plain.len + 4) c.args.self.now.reader c.plain_text.new.self c.requires.stage had scanned (omega arith) (omega arith) in
     let read = peeked_taken c.args.self.now.reader.text.now (plain.len + 3) (6 * plain.len + 4) (plain.len + plain.stop_len) c.plain_text.new.self c.take_chunk_end-begin.new.self peeked (omega (arith, some.1)) (omega (arith, some.0)) c.take_chunk_end-begin.ensures.passed in
     let lexeme = c.take_chunk_end-begin.result in
-    let count = mark_counted c.of_mark.result (token_view lexeme.1) lexeme.0 lexeme.2 c.of_mark.ensures in
-    let memory = advance_in_memory c.of_mark.result (token_view lexeme.1) lexeme.0 lexeme.2 c.of_mark.ensures in
-    rw c.count_passed.ensures.same (lexeme_advances c.args.self.now c.of_mark.result _ (mark_advances c.of_mark.result (token_view lexeme.1) c.of_mark.ensures) (record {
-      passed = mark_passed c.args.self.now c.of_mark.result lexeme _ c.requires.lexing.0.fits inv.0 c.requires.lexing.0.utf8 c.of_mark.ensures is;
+    let count = pending_token_counted c.of_pending_token.result (token_view lexeme.1) lexeme.0 lexeme.2 c.of_pending_token.ensures in
+    let memory = advance_in_memory c.of_pending_token.result (token_view lexeme.1) lexeme.0 lexeme.2 c.of_pending_token.ensures in
+    rw c.count_passed.ensures.same (lexeme_advances c.args.self.now c.of_pending_token.result _ (pending_token_advances c.of_pending_token.result (token_view lexeme.1) c.of_pending_token.ensures) (record {
+      passed = pending_token_passed c.args.self.now c.of_pending_token.result lexeme _ c.requires.lexing.0.fits inv.0 c.requires.lexing.0.utf8 c.of_pending_token.ensures is;
       lexing = past_lexing c.args.self.now _ _ c.args.self.now.word c.args.self.now.run c.count_passed.new.self.found (c.take_chunk_end-begin.ensures.text ∙ c.plain_text.ensures.text) c.requires.lexing.0 c.requires.going is (found_out c.args.self.now.reader.text.now c.take_chunk_end-begin.new.self c.args.self.now.word c.args.self.now.run c.count_passed.new.self.found c.count_passed.ensures.found is.2.is_pending read);
       after = rw (c.take_chunk_end-begin.ensures.text, c.plain_text.ensures.text, c.requires.going, count, memory) refl;
     }))

@@ -1,6 +1,6 @@
 use Rattle.std.proofs.Common.{◌≡◌, ◌+◌, ◌≤◌, [], ap, append-nil, arith, length, refl, rules, sym, ◌∙◌, Some}
 use Rattle.starlark_grammar.specs.Margins.{open_widths}
-use Rattle.starlark_reader.proofs.TakenPieces.ChunksTaken.{chunk_passed, chunk_piece, end_hands, end_mark}
+use Rattle.starlark_reader.proofs.TakenPieces.ChunksTaken.{chunk_passed, chunk_piece, end_hands, end_is_pending_token}
 use Rattle.starlark_reader.proofs.TakenPieces.Here.{piece_here}
 use Rattle.starlark_reader.proofs.TakenPieces.Taken.{took}
 use Rattle.starlark_reader.proofs.reader.Reader.take_chunk_end.Goals as goal
@@ -19,8 +19,8 @@ overflow_add-end c =
     let inside : c.args.self.now.at + c.args.chunk.len + c.args.chunk.stop_len ≤ length c.args.self.now.text.now = omega (arith, here.1) in
     search (rules, inside)
 
-pub returns-clause-mark : goal.returns-clause-mark
-returns-clause-mark c = rw c.text_end-token.ensures (end_mark c.args.chunk.before_expression)
+pub returns-clause-kind : goal.returns-clause-kind
+returns-clause-kind c = rw c.text_end-token.ensures (end_is_pending_token c.args.chunk.before_expression)
 
 pub returns-clause-read : goal.returns-clause-read
 returns-clause-read c = λ history kept stands.
