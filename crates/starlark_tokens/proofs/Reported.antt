@@ -9,11 +9,11 @@ use Rattle.starlark_base.specs.Spans.{ByteSpan}
 use Rattle.starlark_base.specs.declared.codemap.file_span.FileSpan.{FileSpan}
 use Rattle.starlark_grammar.specs.Tokens as token
 use Rattle.starlark_grammar.specs.Tokens.{Fault, Spanned}
-use Rattle.starlark_syntax.specs.RecoveringLexer.{all_items}
+use Rattle.starlark_recovery.specs.RecoveringLexer.{all_items}
 use Rattle.starlark_run.specs.Output.{message_of}
-use Rattle.starlark_syntax.specs.Errors.{kind_text}
-use Rattle.starlark_syntax.specs.Exceptions.{IsException}
-use Rattle.starlark_syntax.specs.Lexer.{Answers}
+use Rattle.starlark_errors.specs.Errors.{kind_text}
+use Rattle.starlark_errors.specs.Exceptions.{IsException}
+use Rattle.starlark_lexemes.specs.Lexer.{Answers}
 use Rattle.starlark_errors.specs.declared.error.kinds.ErrorKind.{ErrorKind}
 use Rattle.starlark_errors.specs.declared.error.kinds.ErrorKind.TheVariants.{Parser}
 use Rattle.starlark_errors.specs.declared.error.kinds.ParserMessage.TheVariants as message
@@ -57,10 +57,6 @@ unfolding item_report
 given_report form prefix text file (Given lexeme) found answers = ap (λ (l : Spanned TokenView). token_report form prefix (position_at text l.begin) (position_at text l.end) l.node) (sym answers)
 given_report form prefix text file (Refused fault) found answers = absurd answers
 
-pub given_count : (file : SourceFile) (next : LexerItem) (found : ℕ × Token × ℕ) → Answers file next (Ok found) → 0 ≡ count_by is_fault (next ∷ [])
-given_count file (Given lexeme) found answers = refl
-given_count file (Refused fault) found answers = absurd answers
-
 -- what is printed of an item that was answered as an exception
 fault_is : (form : Form) (prefix text : Text) (file : SourceFile) (fault : Spanned Fault) (exception : Diagnosed ErrorKind) (place : FileSpan) → IsException file fault exception → exception.span ≡ Some place → item_report form prefix text (Refused fault) ≡ fault_report form prefix text (position_at text (shown_at text (shown_of_kind exception.value) place.span.begin place.span.end)) (position_at text place.span.begin) (position_at text place.span.end) (code_of_kind exception.value) (kind_text exception.value)
 unfolding item_report
@@ -76,10 +72,6 @@ fault_is form prefix text file fault exception place thrown known =
 pub refused_report : (form : Form) (prefix text : Text) (file : SourceFile) (next : LexerItem) (exception : Diagnosed ErrorKind) (place : FileSpan) → Answers file next (Err (refusal.Error exception)) → exception.span ≡ Some place → item_report form prefix text next ≡ fault_report form prefix text (position_at text (shown_at text (shown_of_kind exception.value) place.span.begin place.span.end)) (position_at text place.span.begin) (position_at text place.span.end) (code_of_kind exception.value) (kind_text exception.value)
 refused_report form prefix text file (Given lexeme) exception place answers known = absurd answers
 refused_report form prefix text file (Refused fault) exception place answers known = fault_is form prefix text file fault exception place answers known
-
-pub refused_count : (file : SourceFile) (next : LexerItem) (exception : Diagnosed ErrorKind) → Answers file next (Err (refusal.Error exception)) → 1 ≡ count_by is_fault (next ∷ [])
-refused_count file (Given lexeme) exception answers = absurd answers
-refused_count file (Refused fault) exception answers = refl
 
 -- an exception has a span
 pub thrown_span : (file : SourceFile) (next : LexerItem) (exception : Diagnosed ErrorKind) → Answers file next (Err (refusal.Error exception)) → IsSome exception.span

@@ -6,7 +6,7 @@ use Rattle.starlark_tokens.specs.SarifResults.{sarif_prefix, sarif_result}
 use Rattle.std.specs.List.{flat_map}
 use Rattle.starlark_base.specs.Places.{Text}
 use Rattle.starlark_grammar.specs.Tokens.{Fault, Spanned}
-use Rattle.starlark_syntax.specs.RecoveringLexer.{all_items}
+use Rattle.starlark_recovery.specs.RecoveringLexer.{all_items}
 use Rattle.starlark_run.specs.Output.{message_of}
 use Rattle.starlark_token.specs.TextItems.{LexerItem, Given, Refused}
 use Rattle.starlark_token.specs.TokenTexts.{kind_of}

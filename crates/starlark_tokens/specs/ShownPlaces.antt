@@ -3,7 +3,7 @@ use Rattle.std.specs.Prelude.{ℕ, ◌+◌, ◌-◌, not, ◌==◌, if◌then◌
 use Rattle.std.specs.List.{prefix_len, starts_with}
 use Rattle.starlark_base.specs.Places.{Text}
 use Rattle.starlark_grammar.specs.Tokens.{Fault, Indentation, InvalidTab}
-use Rattle.starlark_syntax.specs.Recovery.{line_end_len, margin_line}
+use Rattle.starlark_grammar.specs.Recovery.{line_end_len, margin_line}
 use Rattle.starlark_tokens.specs.ItemLines.{line_front}
 use Rattle.starlark_tokens.specs.declared.shown_places.Shown.{Shown}
 use Rattle.starlark_tokens.specs.declared.shown_places.Shown.TheVariants.{Begin, Tab, LastLine}

@@ -3,11 +3,11 @@
 ghost use Rattle.std.specs.Prelude.{◌≡◌, ◌-◌, ◌<◌, ◌^◌, List, [], ◌∷◌, IfOk, IsSome, OnOk, Some, count_by, drop, length, min, string_bytes};
 ghost use Rattle.starlark_devices.specs.Calls.{Going};
 ghost use Rattle.starlark_base.specs.Sources.{SourceFile};
-ghost use Rattle.starlark_syntax.specs.RecoveringLexer.{all_items, left_after};
+ghost use Rattle.starlark_recovery.specs.RecoveringLexer.{all_items, left_after};
 ghost use Rattle.starlark_tokens.specs.Inner.Reporters.{IsReady, Keeps};
 ghost use Rattle.starlark_tokens.specs.Reports.{fault_count, is_fault, item_report, items_report, report};
 ghost use Rattle.starlark_tokens.specs.ReportWrites.{Takes};
-ghost use Rattle.starlark_syntax.specs.Lexer.{Answers, AnswersBetween, AnswersWithin};
+ghost use Rattle.starlark_lexemes.specs.Lexer.{Answers, AnswersBetween, AnswersWithin};
 ghost use Rattle.starlark_token.specs.TextItems.{LexerItem};
 
 use crate::form::Form;

@@ -11,7 +11,7 @@ ghost use Rattle.starlark_tokens.specs.Inner.ShownKinds.{code_of_kind, shown_of_
 ghost use Rattle.starlark_base.specs.Positions.{IsPosition, position_at};
 ghost use Rattle.starlark_tokens.specs.Reports.{fault_report, prefix_of, token_report};
 ghost use Rattle.starlark_tokens.specs.ShownPlaces.{shown_at};
-ghost use Rattle.starlark_syntax.specs.Errors.{kind_text};
+ghost use Rattle.starlark_errors.specs.Errors.{kind_text};
 ghost use Rattle.starlark_token.specs.TokenViews.{token_view};
 
 use crate::form::Form;

@@ -1,8 +1,8 @@
 use Rattle.std.proofs.Common.{ℕ, ◌≡◌, ◌+◌, ◌-◌, ◌^◌, ◌∙◌, ◌++◌, [], refl, Some, ap, append_assoc, append-nil, arith, count_by, drop, min, string_bytes, subst, sym}
 use Rattle.std.proofs.lemmas.Result.{err_from_is_err_and}
 use Rattle.starlark_devices.specs.Calls.{Going}
-use Rattle.starlark_syntax.specs.RecoveringLexer.{RecoveringView}
-use Rattle.starlark_syntax.specs.Lexer.{AnswersBetween, AnswersWithin}
+use Rattle.starlark_recovery.specs.RecoveringLexer.{RecoveringView}
+use Rattle.starlark_lexemes.specs.Lexer.{AnswersBetween, AnswersWithin}
 use Rattle.starlark_tokens.specs.Reports.{is_fault, item_report, items_report}
 use Rattle.starlark_tokens.proofs.ReportWrites.{no_memory, same_error, stops_later, stops_longer, took_nil, took_then, written_all}
 use Rattle.starlark_tokens.specs.ReportWrites.{StopsWithin, Took}
