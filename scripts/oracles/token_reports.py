@@ -192,20 +192,37 @@ def width(character):
     return 2 if unicodedata.east_asian_width(character) in ("W", "F") else 1
 
 
-def fault_lines(name, text, item):
+def boundary(line, at):
+    """The first place from one on where a character of a line begins, or the line's end."""
+    while at < len(line) and line[at] & 0xC0 == 0x80:
+        at += 1
+    return min(at, len(line))
+
+
+def cut_line(front, back, columns):
+    """What a line of so many columns shows around a fault: the parts before it and from it on, each with what goes before and after."""
+    side = (columns - 5) // 2
+    room = side + max(side - boundary(back, side), 0)
+    begin = boundary(front, max(len(front) - room, 0))
+    end = boundary(back, side + max(side - (len(front) - begin), 0))
+    return "\u2026" * (begin > 0), front[begin:].decode(), back[:end], "\u2026" * (end < len(back))
+
+
+def fault_lines(name, text, item, columns=160):
     """The lines of a fault with its source."""
     _, end, _, _, message = item
     begin = shown_at(text, item)
-    front = text[text.rfind(b"\n", 0, begin) + 1:begin].decode()
     stop = text.find(b"\n", begin)
-    back = text[begin:stop if stop >= 0 else len(text)]
-    marked = sum(map(width, back[:max(end - begin, 0)].decode()))
+    line = text[text.rfind(b"\n", 0, begin) + 1:begin], text[begin:stop if stop >= 0 else len(text)]
+    before, front, back, after = cut_line(*line, columns)
+    marked = sum(map(width, back[:max(end - begin, 0)].decode(errors="ignore")))
     source = front + back.decode().removesuffix("\r")
     line, column = line_and_column(text, begin)
     said = "".join(shown(character) for character in reason(message))
     seen = "".join("\ufffd" if character != "\t" and is_hidden(character) else character for character in source)
-    below = "".join("\t" if character == "\t" else " " * width(character) for character in front)
-    return f"{name_text(name)}:{line}:{column}: error: {said} [{code_of(message)}]\n{seen}\n{below}{'^' * max(marked, 1)}"
+    below = " " * len(before) + "".join("\t" if character == "\t" else " " * width(character) for character in front)
+    first = f"{name_text(name)}:{line}:{column}: error: {said} [{code_of(message)}]"
+    return f"{first}\n{before}{seen}{after}\n{below}{'^' * max(marked, 1)}"
 
 
 def github_line(name, text, item):
@@ -226,13 +243,19 @@ def sarif_result(name, text, item):
     return {"ruleId": code_of(item[4]), "level": "error", "message": said, "locations": [{"physicalLocation": place}]}
 
 
-def report(form, name, text):
-    """The plain report of a text in a form, and how many faults it has."""
+MOST_FAULTS = 100
+
+
+def report(form, name, text, most=None):
+    """The plain report of a text in a form, and how many faults it has; `most` of them are shown, and 100 of --check in text."""
     found = list(items(text))
     faults = [item for item in found if item[2] == "Fault"]
+    most = (MOST_FAULTS if form == "check" else len(faults)) if most is None else most or len(faults)
     of_faults = {"check": fault_lines, "check json": json_line, "github": github_line}
     if form in of_faults:
-        lines = [of_faults[form](name, text, item) for item in faults]
+        lines = [of_faults[form](name, text, item) for item in faults[:most]]
+        if form == "check" and len(faults) > most:
+            lines.append(f"{name_text(name)}: faults not shown: {len(faults) - most}; --max-faults 0 shows all")
     elif form == "json":
         lines = [json_line(name, text, item) for item in found]
     else:
@@ -471,7 +494,7 @@ def option_runs(tester):
     """Rows of options and statuses."""
     usage = tester.run(["--help"])
     tester.compare("--help", (usage.status, usage.stderr, usage.stdout.startswith("usage: starlark_tokens ")), (0, "", True))
-    tester.compare("lines of --help", usage.stdout.count("\n") <= 24, True)
+    tester.compare("lines of --help", usage.stdout.count("\n") <= 30, True)
     tester.compare("build", tester.build in ("proved", "unproved build"), True)
     version = f"starlark_tokens {(TOP / 'VERSION').read_text().strip()} ({tester.build})\n"
     tester.compare("--version", tester.run(["--version"]), Ended(0, version, ""))
@@ -506,6 +529,9 @@ def option_runs(tester):
         (["--format", "xml"], b"x\n", 2, "", unknown % "--format=xml"),
         (["--format"], b"x\n", 2, "", no_value % "--format"),
         (["--chekc"], b"x\n", 2, "", unknown % "--chekc"),
+        (["--max-faults", "1x"], b"x\n", 2, "", unknown % "--max-faults=1x"),
+        (["--max-faults="], b"x\n", 2, "", unknown % "--max-faults="),
+        (["--max-faults", "-1"], b"x\n", 2, "", unknown % "--max-faults=-1"),
         (["-x", "--help"], b"x\n", 2, "", unknown % "-x"),
         (["--check", "--json="], b"x\n", 2, "", unknown % "--json="),
         (["--\n"], b"x\n", 2, "", unknown % "'--\\n'"),
@@ -521,14 +547,60 @@ def option_runs(tester):
 
 
 def explained_faults(tester):
-    """What --explain prints of each code: its example has a fault of this code, and no other."""
+    """What --explain prints of each code: the program finds one fault in its example, of this code. That of SL006 has no line end."""
     for code in CODES.values():
         explained = tester.run(["--explain", code])
         tester.compare(f"--explain {code}", (explained.status, explained.stderr, explained.stdout.startswith(f"{code}: ")), (0, "", True))
         example = "".join(f"{line[4:]}\n" for line in explained.stdout.split("\n") if line.startswith("    "))
-        example = example.replace("<tab>", "\t").removesuffix("\n").encode()
-        found = {code_of(message) for *_, kind, _, message in items(example) if kind == "Fault"}
-        tester.compare(f"the example of {code}", found, {code})
+        example = example.removesuffix("\n" * (code == "SL006")).encode()
+        found = re.findall(r" \[(SL\d+)\]$", tester.run(["--check", "-q"], example).stdout, re.MULTILINE)
+        tester.compare(f"the example of {code}", found, [code])
+
+
+LONG = [
+    b"x = [" + b"1, " * 100 + b"01, " + b"2, " * 100 + b"]\n", b"a" * 140 + b" = 01\n", b"01" + b" " * 153 + b"\n",
+    b"01" + b" " * 152 + b"\r\n", b"01 # " + b"\xe2\x82\xac" * 80, "é".encode() * 99 + b"\t01" + "本".encode() * 99,
+    b" " * 77 + b"01" + b" " * 75, b" " * 78 + b"01" + b" " * 75, b" " * 77 + b"01" + b" " * 76, b"x" + b"\t" * 300 + b"y",
+    b"x = '" + b"b" * 300 + b"\ny = 0" + b"1" * 400 + b"\n", b"f(" + "́".encode() * 200 + b")",
+]
+
+
+def long_runs(tester, folder):
+    """Lines that are longer than what is shown of them, in a pipe and at a terminal of so many columns; and limits of faults."""
+    for text in LONG:
+        tester.compare(f"the long line {text!r}", tester.run(["--check"], text), ended(tester, "check", [("<stdin>", text)]))
+        (folder / "long.star").write_bytes(text)
+        faults = [item for item in items(text) if item[2] == "Fault"][:MOST_FAULTS]
+        for columns in (20, 79, 80, 81):
+            environment = {**os.environ, "NO_COLOR": "1", "COLUMNS": str(columns)}
+            _, seen = at_terminal([tester.program, "--check", "-q", "long.star"], folder, environment)
+            wanted = "".join(fault_lines("long.star", text, item, columns) + "\n" for item in faults)
+            tester.compare(f"the long line {text!r} in {columns} columns", seen.split("long.star: faults not shown")[0], wanted)
+    for most, count in ((None, 300), (0, 300), (1, 3), (3, 3), (7, 300), (100, 100), (2**64, 300)):
+        for form in ("check", "check json", "github"):
+            text = b"01\n" * count
+            lines, _ = report(form, "<stdin>", text, most)
+            arguments = [*OPTIONS[form], *([] if most is None else ["--max-faults", str(most)])]
+            found = tester.run(arguments, text)
+            shown_lines = "".join(line for line in found.stdout.splitlines(True) if not line.startswith(('{"format"', '{"kind":"Summary"')))
+            tester.compare(f"{form} of {count} faults with a limit of {most}", (found.status, shown_lines), (1, lines))
+            tester.compare(f"the count of {count} faults with a limit of {most}", str(count) in (found.stdout + found.stderr)[-120:] or form == "github", True)
+
+
+# What is printed of n bytes with k faults is at most this many times n + k, also where all are shown.
+MOST_PRINTED = 400
+
+
+def bounded_runs(tester):
+    """Faults every three bytes of one line of 300 KB: what is printed is little, and stays in proportion where all are shown."""
+    text = b"01 " * 100_000 + b"\n"
+    for arguments, most in (([], 1_000_000), (["--max-faults", "0"], MOST_PRINTED * (len(text) + 100_000))):
+        begun = time.monotonic()
+        found = tester.run(["--check", *arguments], text)
+        taken = time.monotonic() - begun
+        print(f"300 KB of faults on one line, {arguments}: {len(found.stdout)} bytes, {taken:.2f} s")
+        counted = "100000 faults in 1 of 1 file\n"
+        tester.compare(f"300 KB of faults {arguments}", (found.status, found.stderr, len(found.stdout) <= most), (1, counted, True))
 
 
 ODD_NAMES = ["a\nb.star", "it's \"a\" test.star", "--check", "a b.star", "é.star", "\u202e.star"]
@@ -918,6 +990,7 @@ def main():
     option_runs(tester)
     margin_runs(tester)
     explained_faults(tester)
+    bounded_runs(tester)
     python_runs(tester)
     random_runs(tester, options.count, options.seed)
     sarif_runs(tester, options.count, options.seed)
@@ -930,6 +1003,7 @@ def main():
         shell_runs(tester, top / "files")
         progress_runs(tester, top / "files")
         painted_runs(tester, top / "files")
+        long_runs(tester, top / "files")
         folder_runs(tester, top / "tree")
         list_runs(tester, top / "tree")
         any_bytes_runs(tester, top / "bytes")

@@ -11,7 +11,7 @@ use Rattle.starlark_tokens.specs.ReportDocuments.{closing, document, is_collecte
 use Rattle.starlark_base.specs.Places.{Text}
 use Rattle.starlark_devices.proofs.Calls.{all_append}
 use Rattle.starlark_devices.specs.Calls.{Done, Ending, Going, WriterCalls}
-use Rattle.starlark_tokens.specs.declared.form.Form.{Form}
+use Rattle.starlark_tokens.specs.declared.form.Style.{Style}
 use Rattle.starlark_tokens.proofs.FileCounts.{with_next}
 use Rattle.starlark_tokens.proofs.ReportWrites.{flushed_last, stops_first, stops_later, stops_longer, took_nil, took_then, unflushed}
 use Rattle.starlark_tokens.specs.FileReports.{AreReported, AreReportedAlone, Giving, IsDocument, IsReported, ReadSource, report_if_read, reports, source_report}
@@ -32,28 +32,28 @@ texts_of reads = map (λ read. read.text) reads
 abbrev with_read : List ReadSource → Source → Option Text → List ReadSource
 with_read reads source text = reads ++ record { source = source; text = text } ∷ []
 
-reports_with : (form : Form) (reads : List ReadSource) (source : Source) (text : Option Text)
-    → reports form (with_read reads source text) ≡ reports form reads ++ report_if_read form (name_of source) text
-reports_with form reads source text =
+reports_with : (style : Style) (reads : List ReadSource) (source : Source) (text : Option Text)
+    → reports style (with_read reads source text) ≡ reports style reads ++ report_if_read style (name_of source) text
+reports_with style reads source text =
     let last : ReadSource = record { source = source; text = text } in
-    flat_map-append (source_report form) reads (last ∷ []) ∙ ap (λ t. reports form reads ++ t) (append-nil (source_report form last))
+    flat_map-append (source_report style) reads (last ∷ []) ∙ ap (λ t. reports style reads ++ t) (append-nil (source_report style last))
 
 -- these sources are counted and printed
-pub record SoFar {W : Type 0} (gives : Giving) (calls : WriterCalls W) (form : Form) (lost : ℕ) (sources : List Source) (before after : W) (totals : Totals) : Type 0 where
+pub record SoFar {W : Type 0} (gives : Giving) (calls : WriterCalls W) (style : Style) (lost : ℕ) (sources : List Source) (before after : W) (totals : Totals) : Type 0 where
   pub reads : List ReadSource
   pub each : sources_of reads ≡ sources
   pub given : AllByRecursion (λ read. gives read.source read.text) reads
   pub counted : totals ≡ totals_of lost (texts_of reads)
-  pub written : Took calls Going before after (reports form reads)
+  pub written : Took calls Going before after (reports style reads)
 
 -- what was reported of a source, by another name of it
-pub same_source : {W T : Type 0} (gives : Giving) (calls : WriterCalls W) (form : Form) (source other : Source) (old new : Totals) (before after : W) (result : Result T Error)
-    → source ≡ other → IsReported gives calls form source old new before after result → IsReported gives calls form other old new before after result
-same_source gives calls form source other old new before after result is reported = subst (λ s. IsReported gives calls form s old new before after result) is reported
+pub same_source : {W T : Type 0} (gives : Giving) (calls : WriterCalls W) (style : Style) (source other : Source) (old new : Totals) (before after : W) (result : Result T Error)
+    → source ≡ other → IsReported gives calls style source old new before after result → IsReported gives calls style other old new before after result
+same_source gives calls style source other old new before after result is reported = subst (λ s. IsReported gives calls style s old new before after result) is reported
 
-module _ {W : Type 0} (gives : Giving) (calls : WriterCalls W) (form : Form) where
+module _ {W : Type 0} (gives : Giving) (calls : WriterCalls W) (style : Style) where
   -- before the first source
-  pub none_yet : (lost : ℕ) (before : W) → SoFar gives calls form lost [] before before (totals_of lost [])
+  pub none_yet : (lost : ℕ) (before : W) → SoFar gives calls style lost [] before before (totals_of lost [])
   none_yet lost before = record {
     reads = [];
     each = refl;
@@ -64,8 +64,8 @@ module _ {W : Type 0} (gives : Giving) (calls : WriterCalls W) (form : Form) whe
 
   -- one source more
   one_more : (lost : ℕ) (sources : List Source) (source : Source) (text : Option Text) (before middle after : W) (old new : Totals)
-      → SoFar gives calls form lost sources before middle old → gives source text → Took calls Going middle after (report_if_read form (name_of source) text) → new ≡ with_source old text
-      → SoFar gives calls form lost (sources ++ source ∷ []) before after new
+      → SoFar gives calls style lost sources before middle old → gives source text → Took calls Going middle after (report_if_read style (name_of source) text) → new ≡ with_source old text
+      → SoFar gives calls style lost (sources ++ source ∷ []) before after new
   one_more lost sources source text before middle after old new so_far given written counted =
       let reads = so_far.reads in
       let last : ReadSource = record { source = source; text = text } in
@@ -77,7 +77,7 @@ module _ {W : Type 0} (gives : Giving) (calls : WriterCalls W) (form : Form) whe
         each = sources_added ∙ ap (λ front. front ++ source ∷ []) so_far.each;
         given = all_append (λ (r : ReadSource). gives r.source r.text) reads (last ∷ []) so_far.given (given, tt);
         counted = all ∙ ap (totals_of lost) (sym texts_added);
-        written = subst (Took calls Going before after) (sym (reports_with form reads source text)) (took_then calls Going before middle after _ _ so_far.written written);
+        written = subst (Took calls Going before after) (sym (reports_with style reads source text)) (took_then calls Going before middle after _ _ so_far.written written);
       }
 
   -- the sources up to one, and that one
@@ -88,17 +88,17 @@ module _ {W : Type 0} (gives : Giving) (calls : WriterCalls W) (form : Form) whe
   -- one source more, which is the next of all
   pub next_source : (lost : ℕ) (sources seen : List Source) (done : ℕ) (other : Source) (text : Option Text) (before middle after : W) (old new : Totals)
       → seen ≡ sources → done < length seen
-      → SoFar gives calls form lost (take done sources) before middle old → gives (get_or seen done other) text → Took calls Going middle after (report_if_read form (name_of (get_or seen done other)) text) → new ≡ with_source old text
-      → SoFar gives calls form lost (take (done + 1) sources) before after new
+      → SoFar gives calls style lost (take done sources) before middle old → gives (get_or seen done other) text → Took calls Going middle after (report_if_read style (name_of (get_or seen done other)) text) → new ≡ with_source old text
+      → SoFar gives calls style lost (take (done + 1) sources) before after new
   next_source lost sources seen done other text before middle after old new same less so_far given written counted =
       let more = one_more lost (take done sources) (get_or seen done other) text before middle after old new so_far given written counted in
-      subst (λ all. SoFar gives calls form lost all before after new) (up_to sources seen done other same less) more
+      subst (λ all. SoFar gives calls style lost all before after new) (up_to sources seen done other same less) more
 
   -- writing that stopped within the report of the next source
   pub stopped_at : (sources : Sources) (seen : List Source) (done : ℕ) (other : Source) (text : Option Text) (before middle after : W) (totals : Totals) (error : Error)
       → seen ≡ sources.all.items → done < length seen
-      → SoFar gives calls form sources.lost (take done sources.all.items) before middle totals → gives (get_or seen done other) text → StopsWithin calls middle after error (report_if_read form (name_of (get_or seen done other)) text)
-      → AreReportedAlone gives calls form sources before after (Err error)
+      → SoFar gives calls style sources.lost (take done sources.all.items) before middle totals → gives (get_or seen done other) text → StopsWithin calls middle after error (report_if_read style (name_of (get_or seen done other)) text)
+      → AreReportedAlone gives calls style sources before after (Err error)
   stopped_at sources seen done other text before middle after totals error same less so_far given stopped =
       let reads = so_far.reads in
       let source = get_or seen done other in
@@ -109,14 +109,14 @@ module _ {W : Type 0} (gives : Giving) (calls : WriterCalls W) (form : Form) whe
         unread = drop (done + 1) sources.all.items;
         each = ap (λ front. front ++ drop (done + 1) sources.all.items) front ∙ take-append-drop (done + 1) sources.all.items;
         given = all_append (λ (r : ReadSource). gives r.source r.text) reads (last ∷ []) so_far.given (given, tt);
-        written = subst (StopsWithin calls before after error) (sym (reports_with form reads source text)) (stops_later calls before middle after error _ _ so_far.written stopped);
+        written = subst (StopsWithin calls before after error) (sym (reports_with style reads source text)) (stops_later calls before middle after error _ _ so_far.written stopped);
         all = tt;
         counted = tt;
       }
 
   -- all sources
   pub all_reported : (sources : Sources) (before after : W) (totals : Totals)
-      → SoFar gives calls form sources.lost sources.all.items before after totals → AreReportedAlone gives calls form sources before after (Ok totals)
+      → SoFar gives calls style sources.lost sources.all.items before after totals → AreReportedAlone gives calls style sources before after (Ok totals)
   all_reported sources before after totals so_far = record {
     reads = so_far.reads;
     unread = [];
@@ -129,7 +129,7 @@ module _ {W : Type 0} (gives : Giving) (calls : WriterCalls W) (form : Form) whe
 
   -- writing that stopped before the first report, …
   pub stopped_before : (around : Totals → Text → Text) (ending : Ending) (sources : Sources) (a b : W) (error : Error)
-      → StopsWithin calls a b error (around (totals_of sources.lost []) []) → AreReported around gives calls ending form sources a b (Err error)
+      → StopsWithin calls a b error (around (totals_of sources.lost []) []) → AreReported around gives calls ending style sources a b (Err error)
   stopped_before around ending sources a b error stopped = record {
     reads = [];
     unread = sources.all.items;
@@ -143,10 +143,10 @@ module _ {W : Type 0} (gives : Giving) (calls : WriterCalls W) (form : Form) whe
   -- … among the reports, which a text is written before, …
   pub stopped_among : (around : Totals → Text → Text) (ending : Ending) (sources : Sources) (a b c : W) (error : Error) (first : Text) (rest : Totals → Text)
       → ((totals : Totals) (all : Text) → first ++ (all ++ rest totals) ≡ around totals all)
-      → Took calls Going a b first → AreReportedAlone gives calls form sources b c (Err error) → AreReported around gives calls ending form sources a c (Err error)
+      → Took calls Going a b first → AreReportedAlone gives calls style sources b c (Err error) → AreReported around gives calls ending style sources a c (Err error)
   stopped_among around ending sources a b c error first rest is took stopped =
       let totals = totals_of sources.lost (texts_of stopped.reads) in
-      let all = reports form stopped.reads in
+      let all = reports style stopped.reads in
       record {
         reads = stopped.reads;
         unread = stopped.unread;
@@ -161,26 +161,26 @@ module _ {W : Type 0} (gives : Giving) (calls : WriterCalls W) (form : Form) whe
   pub ends_after : (around : Totals → Text → Text) (ending : Ending) (sources : Sources) (a b : W) (reads : List ReadSource) (totals : Totals) (result : Result Totals Error)
       → sources_of reads ≡ sources.all.items → AllByRecursion (λ (read : ReadSource). gives read.source read.text) reads → totals ≡ totals_of sources.lost (texts_of reads)
       → ((found : Totals) → result ≡ Ok found → found ≡ totals)
-      → Takes calls ending a b (around totals (reports form reads)) result → AreReported around gives calls ending form sources a b result
+      → Takes calls ending a b (around totals (reports style reads)) result → AreReported around gives calls ending style sources a b result
   ends_after around ending sources a b reads totals (Ok found) each given counted same written = record {
     reads = reads;
     unread = [];
     each = append-nil (sources_of reads) ∙ each;
     given = given;
-    written = subst (λ totals. Took calls ending a b (around totals (reports form reads))) counted written;
+    written = subst (λ totals. Took calls ending a b (around totals (reports style reads))) counted written;
     all = refl;
     counted = same found refl ∙ counted;
   }
   ends_after around ending sources a b reads totals (Err error) each given counted same written =
-      let stopped = subst (λ totals. StopsWithin calls a b error (around totals (reports form reads))) counted written in
+      let stopped = subst (λ totals. StopsWithin calls a b error (around totals (reports style reads))) counted written in
       record { reads = reads; unread = []; each = append-nil (sources_of reads) ∙ each; given = given; written = stopped; all = tt; counted = tt }
 
   -- the text before the reports, the reports of all sources, and then the text after them
   pub closed : (part : Text → Text) (sources : Sources) (a b c d : W) (reads : List ReadSource) (totals : Totals) (result : Result Totals Error)
       → sources_of reads ≡ sources.all.items → AllByRecursion (λ (read : ReadSource). gives read.source read.text) reads → totals ≡ totals_of sources.lost (texts_of reads)
       → ((found : Totals) → result ≡ Ok found → found ≡ totals)
-      → Took calls Going a b (opening form) → Took calls Going b c (part (reports form reads)) → Takes calls Going c d (closing form totals) result
-      → AreReported (λ totals reports. opening form ++ (part reports ++ closing form totals)) gives calls Going form sources a d result
+      → Took calls Going a b (opening style.form) → Took calls Going b c (part (reports style reads)) → Takes calls Going c d (closing style.form totals) result
+      → AreReported (λ totals reports. opening style.form ++ (part reports ++ closing style.form totals)) gives calls Going style sources a d result
   closed part sources a b c d reads totals (Ok found) each given counted same first middle last =
       ends_after _ Going sources a d reads totals (Ok found) each given counted same (took_then calls Going a b d _ _ first (took_then calls Going b c d _ _ middle last))
   closed part sources a b c d reads totals (Err error) each given counted same first middle last =
@@ -189,20 +189,20 @@ module _ {W : Type 0} (gives : Giving) (calls : WriterCalls W) (form : Form) whe
   -- writing that stopped within the reports, which all were collected
   pub stopped_body : (part : Text → Text) (sources : Sources) (a b c : W) (reads : List ReadSource) (totals : Totals) (error : Error)
       → sources_of reads ≡ sources.all.items → AllByRecursion (λ (read : ReadSource). gives read.source read.text) reads → totals ≡ totals_of sources.lost (texts_of reads)
-      → Took calls Going a b (opening form) → StopsWithin calls b c error (part (reports form reads))
-      → AreReported (λ totals reports. opening form ++ (part reports ++ closing form totals)) gives calls Going form sources a c (Err error)
+      → Took calls Going a b (opening style.form) → StopsWithin calls b c error (part (reports style reads))
+      → AreReported (λ totals reports. opening style.form ++ (part reports ++ closing style.form totals)) gives calls Going style sources a c (Err error)
   stopped_body part sources a b c reads totals error each given counted first stopped =
-      ends_after _ Going sources a c reads totals (Err error) each given counted (λ found is. cc) (stops_later calls a b c error _ _ first (stops_longer calls b c error _ (closing form totals) stopped))
+      ends_after _ Going sources a c reads totals (Err error) each given counted (λ found is. cc) (stops_later calls a b c error _ _ first (stops_longer calls b c error _ (closing style.form totals) stopped))
 
   -- sources that are all reported
-  pub each_reported : (around : Totals → Text → Text) (ending : Ending) (sources : Sources) (a b : W) (totals : Totals) → (reported : AreReported around gives calls ending form sources a b (Ok totals)) → sources_of reported.reads ≡ sources.all.items
+  pub each_reported : (around : Totals → Text → Text) (ending : Ending) (sources : Sources) (a b : W) (totals : Totals) → (reported : AreReported around gives calls ending style sources a b (Ok totals)) → sources_of reported.reads ≡ sources.all.items
   each_reported around ending sources a b totals reported = sym (append-nil (sources_of reported.reads)) ∙ ap (λ unread. sources_of reported.reads ++ unread) (sym reported.all) ∙ reported.each
 
   -- the same text in other words
   pub in_other_words : (around other : Totals → Text → Text) (ending : Ending) (sources : Sources) (a b : W) (result : Result Totals Error)
-      → ((totals : Totals) (all : Text) → around totals all ≡ other totals all) → AreReported around gives calls ending form sources a b result → AreReported other gives calls ending form sources a b result
+      → ((totals : Totals) (all : Text) → around totals all ≡ other totals all) → AreReported around gives calls ending style sources a b result → AreReported other gives calls ending style sources a b result
   in_other_words around other ending sources a b result is reported =
-      let same = is (totals_of sources.lost (texts_of reported.reads)) (reports form reported.reads) in
+      let same = is (totals_of sources.lost (texts_of reported.reads)) (reports style reported.reads) in
       record {
         reads = reported.reads;
         unread = reported.unread;
@@ -213,21 +213,21 @@ module _ {W : Type 0} (gives : Giving) (calls : WriterCalls W) (form : Form) whe
         counted = reported.counted;
       }
 
-  -- the reports of all sources as a document in a form that is collected, …
+  -- the reports of all sources as a document in a style that is collected, …
   pub collected : (sources : Sources) (a b : W) (result : Result Totals Error)
-      → is_collected form ≡ true → AreReported (λ totals reports. opening form ++ (drop 1 reports ++ closing form totals)) gives calls Going form sources a b result
-      → IsDocument gives calls Going form sources a b result
-  collected sources a b result is = in_other_words _ _ Going sources a b result (λ totals all. ap (λ b. opening form ++ ((if b then drop 1 all else all) ++ closing form totals)) (sym is))
+      → is_collected style.form ≡ true → AreReported (λ totals reports. opening style.form ++ (drop 1 reports ++ closing style.form totals)) gives calls Going style sources a b result
+      → IsDocument gives calls Going style sources a b result
+  collected sources a b result is = in_other_words _ _ Going sources a b result (λ totals all. ap (λ b. opening style.form ++ ((if b then drop 1 all else all) ++ closing style.form totals)) (sym is))
 
   -- … and in one that isn't
   pub streamed : (sources : Sources) (a b : W) (result : Result Totals Error)
-      → is_collected form ≡ false → AreReported (λ totals reports. opening form ++ (reports ++ closing form totals)) gives calls Going form sources a b result
-      → IsDocument gives calls Going form sources a b result
-  streamed sources a b result is = in_other_words _ _ Going sources a b result (λ totals all. ap (λ b. opening form ++ ((if b then drop 1 all else all) ++ closing form totals)) (sym is))
+      → is_collected style.form ≡ false → AreReported (λ totals reports. opening style.form ++ (reports ++ closing style.form totals)) gives calls Going style sources a b result
+      → IsDocument gives calls Going style sources a b result
+  streamed sources a b result is = in_other_words _ _ Going sources a b result (λ totals all. ap (λ b. opening style.form ++ ((if b then drop 1 all else all) ++ closing style.form totals)) (sym is))
 
   -- a document that is written and flushed, …
-  pub document_flushed : (sources : Sources) (a b c : W) (totals : Totals) → IsDocument gives calls Going form sources a b (Ok totals) → Keeps (calls.contents b) (calls.contents c) → calls.flush b true c
-      → IsDocument gives calls Done form sources a c (Ok totals)
+  pub document_flushed : (sources : Sources) (a b c : W) (totals : Totals) → IsDocument gives calls Going style sources a b (Ok totals) → Keeps (calls.contents b) (calls.contents c) → calls.flush b true c
+      → IsDocument gives calls Done style sources a c (Ok totals)
   document_flushed sources a b c totals whole keeps flush = record {
     reads = whole.reads;
     unread = whole.unread;
@@ -239,10 +239,10 @@ module _ {W : Type 0} (gives : Giving) (calls : WriterCalls W) (form : Form) whe
   }
 
   -- … one whose flush failed, …
-  pub document_unflushed : (sources : Sources) (a b c : W) (totals : Totals) (error : Error) → IsDocument gives calls Going form sources a b (Ok totals) → Keeps (calls.contents b) (calls.contents c) → calls.flush b false c
-      → IsDocument gives calls Done form sources a c (Err error)
+  pub document_unflushed : (sources : Sources) (a b c : W) (totals : Totals) (error : Error) → IsDocument gives calls Going style sources a b (Ok totals) → Keeps (calls.contents b) (calls.contents c) → calls.flush b false c
+      → IsDocument gives calls Done style sources a c (Err error)
   document_unflushed sources a b c totals error whole keeps flush =
-      let all = document form (totals_of sources.lost (texts_of whole.reads)) (reports form whole.reads) in
+      let all = document style.form (totals_of sources.lost (texts_of whole.reads)) (reports style whole.reads) in
       let stopped = stops_later calls a b c error all [] whole.written (stops_first calls b c error [] (unflushed calls b c keeps flush)) in
       record {
         reads = whole.reads;
@@ -255,7 +255,7 @@ module _ {W : Type 0} (gives : Giving) (calls : WriterCalls W) (form : Form) whe
       }
 
   -- … and one that isn't written whole
-  pub document_stopped : (sources : Sources) (a b : W) (error : Error) → IsDocument gives calls Going form sources a b (Err error) → IsDocument gives calls Done form sources a b (Err error)
+  pub document_stopped : (sources : Sources) (a b : W) (error : Error) → IsDocument gives calls Going style sources a b (Err error) → IsDocument gives calls Done style sources a b (Err error)
   document_stopped sources a b error stopped = record {
     reads = stopped.reads;
     unread = stopped.unread;
@@ -268,7 +268,7 @@ module _ {W : Type 0} (gives : Giving) (calls : WriterCalls W) (form : Form) whe
 
   -- totals of all sources are totals of as many texts
   pub totals_alone : (around : Totals → Text → Text) (ending : Ending) (sources : Sources) (a b : W) (totals : Totals)
-      → AreReported around gives calls ending form sources a b (Ok totals) → AreTotalsOf sources totals
+      → AreReported around gives calls ending style sources a b (Ok totals) → AreTotalsOf sources totals
   totals_alone around ending sources a b totals reported = record {
     texts = texts_of reported.reads;
     each = length-map reported.reads (λ (r : ReadSource). r.text) ∙ sym (length-map reported.reads (λ (r : ReadSource). r.source)) ∙ ap length (each_reported around ending sources a b totals reported);

@@ -1,7 +1,8 @@
 -- What a lexer answers, by the items that are left.
 use Rattle.std.proofs.lemmas.List.Sums.{sum_by-append}
-use Rattle.std.proofs.Common.{◌≡◌, cond, min, ℕ, ◌+◌, List, [], ◌∷◌, ◌++◌, refl, ap, sym, ◌∙◌, arith, None, Some, Ok, Err}
-use Rattle.std.specs.Prelude.{IsSome, count_by, option_copied, string_bytes}
+use Rattle.std.proofs.lemmas.Bool.{cases_lt, le-ltb, lt-ltb}
+use Rattle.std.proofs.Common.{◌≡◌, cond, min, ℕ, ◌+◌, ◌-◌, ◌^◌, ◌<◌, ◌≤◌, ◌⊎◌, inl, inr, Bool, true, false, List, [], ◌∷◌, ◌++◌, refl, ap, sym, ◌∙◌, arith, None, Some, Ok, Err}
+use Rattle.std.specs.Prelude.{if◌then◌else◌, nat_lt, IsSome, count_by, option_copied, string_bytes}
 use Rattle.starlark_base.specs.Diagnostics.{Diagnosed, place_in}
 use Rattle.starlark_base.specs.Places.{Text}
 use Rattle.starlark_base.specs.Sources.{SourceFile}
@@ -25,10 +26,10 @@ use Rattle.starlark_token.specs.TextItems.{Given, LexerItem, Refused}
 use Rattle.starlark_token.specs.declared.lexeme_error.LexemeError.{LexemeError}
 use Rattle.starlark_token.specs.declared.lexeme_error.LexemeError.TheVariants as error
 use Rattle.starlark_token.specs.declared.tokens.Token.{Token}
-use Rattle.starlark_tokens.specs.declared.form.Form.{Form}
+use Rattle.starlark_tokens.specs.declared.form.Style.{Style}
 use Rattle.starlark_tokens.specs.Inner.ShownKinds.{code_of_kind, shown_of_kind}
 use Rattle.starlark_base.specs.Positions.{position_at}
-use Rattle.starlark_tokens.specs.Reports.{fault_count, fault_report, is_fault, item_report, items_report, prefix_of, report, token_report}
+use Rattle.starlark_tokens.specs.Reports.{fault_count, fault_report, is_fault, item_report, items_report, prefix_of, report, rest_report, shown_report, token_report}
 use Rattle.starlark_tokens.specs.ShownPlaces.{shown_at, shown_of}
 use Rattle.starlark_run.proofs.PrintedItems.{message_is}
 
@@ -52,15 +53,15 @@ code_is : (error : LexemeError) (node : Fault) → fault_view error ≡ Some nod
 code_is error node e = rw e refl
 
 -- what is printed of an item that was answered as a lexeme
-pub given_report : (form : Form) (prefix text : Text) (file : SourceFile) (next : LexerItem) (found : ℕ × Token × ℕ) → Answers file next (Ok found) → item_report form prefix text next ≡ token_report form prefix (position_at text found.0) (position_at text found.2) (token_view found.1)
+pub given_report : (style : Style) (prefix text : Text) (file : SourceFile) (next : LexerItem) (found : ℕ × Token × ℕ) → Answers file next (Ok found) → item_report style prefix text next ≡ token_report style.form prefix (position_at text found.0) (position_at text found.2) (token_view found.1)
 unfolding item_report
-given_report form prefix text file (Given lexeme) found answers = ap (λ (l : Spanned TokenView). token_report form prefix (position_at text l.begin) (position_at text l.end) l.node) (sym answers)
-given_report form prefix text file (Refused fault) found answers = absurd answers
+given_report style prefix text file (Given lexeme) found answers = ap (λ (l : Spanned TokenView). token_report style.form prefix (position_at text l.begin) (position_at text l.end) l.node) (sym answers)
+given_report style prefix text file (Refused fault) found answers = absurd answers
 
 -- what is printed of an item that was answered as an exception
-fault_is : (form : Form) (prefix text : Text) (file : SourceFile) (fault : Spanned Fault) (exception : Diagnosed ErrorKind) (place : FileSpan) → IsException file fault exception → exception.span ≡ Some place → item_report form prefix text (Refused fault) ≡ fault_report form prefix text (position_at text (shown_at text (shown_of_kind exception.value) place.span.begin place.span.end)) (position_at text place.span.begin) (position_at text place.span.end) (code_of_kind exception.value) (kind_text exception.value)
+fault_is : (style : Style) (prefix text : Text) (file : SourceFile) (fault : Spanned Fault) (exception : Diagnosed ErrorKind) (place : FileSpan) → IsException file fault exception → exception.span ≡ Some place → item_report style prefix text (Refused fault) ≡ fault_report style.form style.side prefix text (position_at text (shown_at text (shown_of_kind exception.value) place.span.begin place.span.end)) (position_at text place.span.begin) (position_at text place.span.end) (code_of_kind exception.value) (kind_text exception.value)
 unfolding item_report
-fault_is form prefix text file fault exception place thrown known =
+fault_is style prefix text file fault exception place thrown known =
     let span : ByteSpan = record { begin = fault.begin; end = fault.end } in
     let there : Some place ≡ Some (place_in file span) = sym known ∙ ap (λ (d : Diagnosed ErrorKind). d.span) thrown.2 in
     let at : place ≡ place_in file span = cc in
@@ -69,9 +70,9 @@ fault_is form prefix text file fault exception place thrown known =
     let code : code_of_kind exception.value ≡ fault_code fault.node = ap (λ (d : Diagnosed ErrorKind). code_of_kind d.value) thrown.2 ∙ code_is thrown.0 fault.node thrown.1 in
     rw (at, said, shown, code) refl
 
-pub refused_report : (form : Form) (prefix text : Text) (file : SourceFile) (next : LexerItem) (exception : Diagnosed ErrorKind) (place : FileSpan) → Answers file next (Err (refusal.Error exception)) → exception.span ≡ Some place → item_report form prefix text next ≡ fault_report form prefix text (position_at text (shown_at text (shown_of_kind exception.value) place.span.begin place.span.end)) (position_at text place.span.begin) (position_at text place.span.end) (code_of_kind exception.value) (kind_text exception.value)
-refused_report form prefix text file (Given lexeme) exception place answers known = absurd answers
-refused_report form prefix text file (Refused fault) exception place answers known = fault_is form prefix text file fault exception place answers known
+pub refused_report : (style : Style) (prefix text : Text) (file : SourceFile) (next : LexerItem) (exception : Diagnosed ErrorKind) (place : FileSpan) → Answers file next (Err (refusal.Error exception)) → exception.span ≡ Some place → item_report style prefix text next ≡ fault_report style.form style.side prefix text (position_at text (shown_at text (shown_of_kind exception.value) place.span.begin place.span.end)) (position_at text place.span.begin) (position_at text place.span.end) (code_of_kind exception.value) (kind_text exception.value)
+refused_report style prefix text file (Given lexeme) exception place answers known = absurd answers
+refused_report style prefix text file (Refused fault) exception place answers known = fault_is style prefix text file fault exception place answers known
 
 -- an exception has a span
 pub thrown_span : (file : SourceFile) (next : LexerItem) (exception : Diagnosed ErrorKind) → Answers file next (Err (refusal.Error exception)) → IsSome exception.span
@@ -82,14 +83,53 @@ pub some_read : (span : _) → IsSome (option_copied {T = FileSpan} span) → Is
 some_read None some = some
 some_read (Some span) some = some
 
--- what is printed of an item and of those after it
-pub report_cons : (form : Form) (prefix text : Text) (item : LexerItem) (more : List LexerItem) → items_report form prefix text (item ∷ more) ≡ item_report form prefix text item ++ items_report form prefix text more
-unfolding items_report
-report_cons form prefix text item more = refl
+-- what is printed of an item that is shown, or isn't
+pub given_shown : (is_shown : Bool) (style : Style) (prefix text : Text) (file : SourceFile) (next : LexerItem) (found : ℕ × Token × ℕ) → Answers file next (Ok found) → shown_report is_shown style prefix text next ≡ token_report style.form prefix (position_at text found.0) (position_at text found.2) (token_view found.1)
+given_shown is_shown style prefix text file (Given lexeme) found answers = given_report style prefix text file (Given lexeme) found answers
+given_shown is_shown style prefix text file (Refused fault) found answers = absurd answers
 
-pub report_nil : (form : Form) (prefix text : Text) → items_report form prefix text [] ≡ []
+pub all_shown : (style : Style) (prefix text : Text) (next : LexerItem) → shown_report true style prefix text next ≡ item_report style prefix text next
+all_shown style prefix text (Given lexeme) = refl
+all_shown style prefix text (Refused fault) = refl
+
+pub none_shown : (style : Style) (prefix text : Text) (file : SourceFile) (next : LexerItem) (exception : Diagnosed ErrorKind) → Answers file next (Err (refusal.Error exception)) → shown_report false style prefix text next ≡ []
+none_shown style prefix text file (Given lexeme) exception answers = absurd answers
+none_shown style prefix text file (Refused fault) exception answers = refl
+
+-- what is printed of an item and of those after it
+report_cons : (style : Style) (prefix text : Text) (most : ℕ) (item : LexerItem) (more : List LexerItem) → items_report style prefix text most (item ∷ more) ≡ shown_report (nat_lt 0 most) style prefix text item ++ items_report style prefix text (if is_fault item then most - 1 else most) more
 unfolding items_report
-report_nil form prefix text = refl
+report_cons style prefix text most item more = refl
+
+pub report_nil : (style : Style) (prefix text : Text) (most : ℕ) → items_report style prefix text most [] ≡ []
+unfolding items_report
+report_nil style prefix text most = refl
+
+-- some faults are left to show if fewer than the most were found
+some_left : (found most : ℕ) → nat_lt 0 (most - found) ≡ nat_lt found most
+some_left found most = by (cases_lt found most)
+  where
+    by : (found < most) ⊎ (most ≤ found) → nat_lt 0 (most - found) ≡ nat_lt found most
+    by (inl less) = lt-ltb 0 (most - found) (omega (arith, less)) ∙ sym (lt-ltb found most less)
+    by (inr all) = le-ltb 0 (most - found) (omega (arith, all)) ∙ sym (le-ltb found most all)
+
+none_more : (most found after limit : ℕ) → most ≤ limit → after ≡ min (found + 0) limit → most - found ≡ most - after
+none_more most found after limit within is = omega (arith, within, is)
+
+one_more : (most found after limit : ℕ) → most ≤ limit → after ≡ min (found + 1) limit → most - found - 1 ≡ most - after
+one_more most found after limit within is = omega (arith, within, is)
+
+fewer_left : (item : LexerItem) (most found after : ℕ) → most ≤ 2 ^ 64 - 1 → after ≡ min (found + count_by is_fault (item ∷ [])) (2 ^ 64 - 1) → (if is_fault item then most - found - 1 else most - found) ≡ most - after
+fewer_left (Given lexeme) most found after within is = none_more most found after (2 ^ 64 - 1) within is
+fewer_left (Refused fault) most found after within is = one_more most found after (2 ^ 64 - 1) within is
+
+-- what is printed of the items that are left, with one item more, where some faults were found before
+pub report_step : (style : Style) (prefix text : Text) (item : LexerItem) (more : List LexerItem) (most found after : ℕ) → most ≤ 2 ^ 64 - 1 → after ≡ min (found + count_by is_fault (item ∷ [])) (2 ^ 64 - 1)
+    → items_report style prefix text (most - found) (item ∷ more) ≡ shown_report (nat_lt found most) style prefix text item ++ items_report style prefix text (most - after) more
+report_step style prefix text item more most found after within is =
+    report_cons style prefix text (most - found) item more
+    ∙ ap (λ b. shown_report b style prefix text item ++ items_report style prefix text (if is_fault item then most - found - 1 else most - found) more) (some_left found most)
+    ∙ ap (λ n. shown_report (nat_lt found most) style prefix text item ++ items_report style prefix text n more) (fewer_left item most found after within is)
 
 -- a count that stops at the greatest number, and what is still to count
 pub saturated : (f n r most : ℕ) → min (min (f + n) most + r) most ≡ min (f + (n + r)) most
@@ -102,6 +142,6 @@ pub count_all : (text : Text) → fault_count text ≡ count_by is_fault (all_it
 unfolding fault_count
 count_all text = refl
 
-pub report_all : (form : Form) (name text : Text) → report form name text ≡ items_report form (prefix_of form name) text (all_items text)
+pub report_all : (style : Style) (name text : Text) → report style name text ≡ items_report style (prefix_of style.form name) text style.most (all_items text) ++ rest_report style.form (prefix_of style.form name) (min (fault_count text) (2 ^ 64 - 1) - style.most)
 unfolding report
-report_all form name text = refl
+report_all style name text = refl

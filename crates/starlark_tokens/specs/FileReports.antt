@@ -9,7 +9,7 @@ use Rattle.starlark_tokens.specs.ReportWrites.{Takes}
 use Rattle.starlark_tokens.specs.Reports.{report}
 use Rattle.starlark_tokens.specs.SourceNames.{name_of}
 use Rattle.starlark_tokens.specs.Totals.{in_64_bits, totals_of, with_source}
-use Rattle.starlark_tokens.specs.declared.form.Form.{Form}
+use Rattle.starlark_tokens.specs.declared.form.Style.{Style}
 use Rattle.starlark_tokens.specs.declared.sources.Source.{Source}
 use Rattle.starlark_tokens.specs.declared.sources.Sources.{Sources}
 use Rattle.starlark_tokens.specs.declared.totals.Totals.{Totals}
@@ -20,17 +20,17 @@ pub record ReadSource : Type 0 where
   pub text : Option Text
 
 -- the report of a text that was read, or nothing
-abbrev pub report_if_read : Form → (name : Text) → Option Text → Text
-report_if_read form name (Some text) = report form name text
-report_if_read form name None = []
+abbrev pub report_if_read : Style → (name : Text) → Option Text → Text
+report_if_read style name (Some text) = report style name text
+report_if_read style name None = []
 
 -- what is printed of a source
-abbrev pub source_report : Form → ReadSource → Text
-source_report form read = report_if_read form (name_of read.source) read.text
+abbrev pub source_report : Style → ReadSource → Text
+source_report style read = report_if_read style (name_of read.source) read.text
 
 -- what is printed of sources, one after another
-abbrev pub reports : Form → List ReadSource → Text
-reports form reads = flat_map (source_report form) reads
+abbrev pub reports : Style → List ReadSource → Text
+reports style reads = flat_map (source_report style) reads
 
 -- what reading sources gives: whether a source has this text, or nothing where it can't be read
 abbrev pub Giving : Type 1
@@ -38,31 +38,31 @@ Giving = Source → Option Text → Type 0
 
 -- A source was reported with the text that reading it gave, by calls of the output. Where this succeeded the source is
 -- counted; else a beginning of its report is written.
-pub record IsReported {W T : Type 0} (gives : Giving) (calls : WriterCalls W) (form : Form) (source : Source) (old new : Totals) (before after : W) (result : Result T Error) : Type 0 where
+pub record IsReported {W T : Type 0} (gives : Giving) (calls : WriterCalls W) (style : Style) (source : Source) (old new : Totals) (before after : W) (result : Result T Error) : Type 0 where
   pub text : Option Text
   pub given : gives source text
-  pub written : Takes calls Going before after (report_if_read form (name_of source) text) result
+  pub written : Takes calls Going before after (report_if_read style (name_of source) text) result
   pub counted : OnOk result (new ≡ with_source old text)
 
 -- Sources were reported, each with the text that reading it gave, in order: what `around` makes of their totals and reports
 -- was written, by calls of the output. Where this succeeded they are all sources, and the result is their totals; else they
 -- are the first ones, and a beginning is written.
-pub record AreReported {W : Type 0} (around : Totals → Text → Text) (gives : Giving) (calls : WriterCalls W) (ending : Ending) (form : Form) (sources : Sources) (before after : W) (result : Result Totals Error) : Type 0 where
+pub record AreReported {W : Type 0} (around : Totals → Text → Text) (gives : Giving) (calls : WriterCalls W) (ending : Ending) (style : Style) (sources : Sources) (before after : W) (result : Result Totals Error) : Type 0 where
   pub reads : List ReadSource
   pub unread : List Source
   pub each : map (λ read. read.source) reads ++ unread ≡ sources.all.items
   pub given : AllByRecursion (λ read. gives read.source read.text) reads
-  pub written : Takes calls ending before after (around (totals_of sources.lost (map (λ read. read.text) reads)) (reports form reads)) result
+  pub written : Takes calls ending before after (around (totals_of sources.lost (map (λ read. read.text) reads)) (reports style reads)) result
   pub all : OnOk result (unread ≡ [])
   pub counted : IfOk result (λ totals. totals ≡ totals_of sources.lost (map (λ read. read.text) reads))
 
 -- the reports of sources alone
-abbrev pub AreReportedAlone : {W : Type 0} → Giving → WriterCalls W → Form → Sources → (before after : W) → Result Totals Error → Type 0
-AreReportedAlone gives calls form = AreReported (λ totals reports. reports) gives calls Going form
+abbrev pub AreReportedAlone : {W : Type 0} → Giving → WriterCalls W → Style → Sources → (before after : W) → Result Totals Error → Type 0
+AreReportedAlone gives calls style = AreReported (λ totals reports. reports) gives calls Going style
 
 -- the document of sources
-abbrev pub IsDocument : {W : Type 0} → Giving → WriterCalls W → Ending → Form → Sources → (before after : W) → Result Totals Error → Type 0
-IsDocument gives calls ending form = AreReported (document form) gives calls ending form
+abbrev pub IsDocument : {W : Type 0} → Giving → WriterCalls W → Ending → Style → Sources → (before after : W) → Result Totals Error → Type 0
+IsDocument gives calls ending style = AreReported (document style.form) gives calls ending style
 
 -- lines of tokens have the names of their sources: some are found in a folder, or they are several
 abbrev pub are_named : Sources → Bool

@@ -111,19 +111,27 @@ unfoldable pub fault_line : (is_painted : Bool) → (prefix : Text) → Resolved
 fault_line is_painted prefix place code message =
     fault_place is_painted prefix place ++ (error_word is_painted ++ fault_words code message)
 
--- the line of the source, by what is before the fault and from it on
-unfoldable pub source_line : (front back : Text) → Text
-source_line front back = source_text front ++ (source_text (without_cr back) ++ codes "\n")
+-- what stands for the part of a line that isn't shown, and what is below it
+abbrev pub ellipsis : (is_cut : Bool) → Text
+ellipsis is_cut = if is_cut then encode_utf8 0x2026 else []
 
--- the line with carets below the characters that begin in the fault on that line: at least one
-unfoldable pub caret_line : (is_painted : Bool) → (front back : Text) → (len : ℕ) → Text
-caret_line is_painted front back len =
-    flat_map below (chars front) ++ (red is_painted ++ (carets (columns back (count_by starts_character (take len back)))
-    ++ (plain is_painted ++ codes "\n")))
+abbrev pub below_ellipsis : (is_cut : Bool) → Text
+below_ellipsis is_cut = if is_cut then codes " " else []
 
--- The lines of a fault: its place and message, the line of the source, and carets. `front` and `back`
--- are that line before the place where the fault is shown and from it on. `len` bytes from there on
--- belong to the fault.
-unfoldable pub fault_lines : (is_painted : Bool) → (prefix : Text) → ResolvedPos → (code message front back : Text) → (len : ℕ) → Text
-fault_lines is_painted prefix place code message front back len =
-    fault_line is_painted prefix place code message ++ (source_line front back ++ caret_line is_painted front back len)
+-- the line of the source, by what is shown before the fault and from it on, and whether it is cut there
+unfoldable pub source_line : (is_cut_before : Bool) → (front back : Text) → (is_cut_after : Bool) → Text
+source_line is_cut_before front back is_cut_after =
+    ellipsis is_cut_before ++ (source_text front ++ (source_text (without_cr back) ++ (ellipsis is_cut_after ++ codes "\n")))
+
+-- the line with carets below the characters that begin in the fault and are shown on that line: at least one
+unfoldable pub caret_line : (is_painted is_cut_before : Bool) → (front back : Text) → (len : ℕ) → Text
+caret_line is_painted is_cut_before front back len =
+    below_ellipsis is_cut_before ++ (flat_map below (chars front)
+    ++ (red is_painted ++ (carets (columns back (count_by starts_character (take len back))) ++ (plain is_painted ++ codes "\n"))))
+
+-- The lines of a fault: its place and message, the line of the source, and carets. `front` and `back` are what is shown of
+-- that line before the place where the fault is shown and from it on. `len` bytes from there on belong to the fault.
+unfoldable pub fault_lines : (is_painted : Bool) → (prefix : Text) → ResolvedPos → (code message : Text) → (is_cut_before : Bool) → (front back : Text) → (is_cut_after : Bool) → (len : ℕ) → Text
+fault_lines is_painted prefix place code message is_cut_before front back is_cut_after len =
+    fault_line is_painted prefix place code message
+    ++ (source_line is_cut_before front back is_cut_after ++ caret_line is_painted is_cut_before front back len)

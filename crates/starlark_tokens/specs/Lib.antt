@@ -4,6 +4,7 @@ pub mod JsonStrings
 pub mod Values
 pub mod CharacterWidths
 pub mod ItemLines
+pub mod SourceLines
 pub mod GithubLines
 pub mod SarifResults
 pub mod ShownPlaces

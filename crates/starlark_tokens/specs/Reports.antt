@@ -1,9 +1,8 @@
 -- Reports of a text: what is printed of its tokens and faults.
-use Rattle.std.specs.Prelude.{ℕ, ◌-◌, Bool, true, false, [], ◌∷◌, ◌++◌, codes, List, count_by}
+use Rattle.std.specs.Prelude.{ℕ, ◌-◌, ◌^◌, min, nat_lt, ◌==◌, Bool, true, false, not, ◌&&◌, if◌then◌else◌, [], ◌∷◌, ◌++◌, codes, List, count_by}
 use Rattle.starlark_token.specs.FaultCodes.{fault_code}
 use Rattle.starlark_tokens.specs.GithubLines.{github_line, property}
 use Rattle.starlark_tokens.specs.SarifResults.{sarif_prefix, sarif_result}
-use Rattle.std.specs.List.{flat_map}
 use Rattle.starlark_base.specs.Places.{Text}
 use Rattle.starlark_grammar.specs.Tokens.{Fault, Spanned}
 use Rattle.starlark_recovery.specs.RecoveringLexer.{all_items}
@@ -12,13 +11,16 @@ use Rattle.starlark_token.specs.TextItems.{LexerItem, Given, Refused}
 use Rattle.starlark_token.specs.TokenTexts.{kind_of}
 use Rattle.starlark_token.specs.TokenViews.{TokenView}
 use Rattle.starlark_tokens.specs.JsonStrings.{json_string}
-use Rattle.starlark_tokens.specs.ItemLines.{fault_lines, json_fault, json_line, line_back, line_front, readable_line}
+use Rattle.starlark_tokens.specs.ItemLines.{fault_lines, json_fault, json_line, readable_line}
 use Rattle.starlark_base.specs.Positions.{position_at}
 use Rattle.starlark_tokens.specs.ShownPlaces.{shown_at, shown_of}
+use Rattle.starlark_tokens.specs.SourceLines.{is_cut_after, is_cut_before, shown_back, shown_front}
 use Rattle.starlark_tokens.specs.PythonLiterals.{quoted, shown_name}
 use Rattle.starlark_tokens.specs.Values.{json_of, readable}
 use Rattle.starlark_base.specs.declared.position.Position.{Position}
+use Rattle.std.specs.Fmt.{decimal}
 use Rattle.starlark_tokens.specs.declared.form.Form.{Form}
+use Rattle.starlark_tokens.specs.declared.form.Style.{Style}
 use Rattle.starlark_tokens.specs.declared.form.Form.TheVariants.{Tokens, NamedTokens, Json, Faults, PaintedFaults, JsonFaults, Github, Sarif}
 
 -- what each line begins with, by the text's name
@@ -39,41 +41,36 @@ token_report NamedTokens prefix begin end node = readable_line prefix begin end 
 token_report Json prefix begin end node = json_line prefix begin end (kind_of node) (json_of node)
 token_report form prefix begin end node = []
 
--- what is printed of a fault with the line of the source
-abbrev pub source_fault : (is_painted : Bool) → (prefix text : Text) → (shown end : Position) → (code message : Text) → Text
-source_fault is_painted prefix text shown end code message =
-    fault_lines is_painted prefix shown.place code message (line_front text shown.at) (line_back text shown.at) (end.at - shown.at)
+-- what is printed of a fault that ends at an offset, with the line of the source
+unfoldable pub source_fault : (is_painted : Bool) → (side : ℕ) → (prefix text : Text) → (shown : Position) → (end : ℕ) → (code message : Text) → Text
+source_fault is_painted side prefix text shown end code message =
+    fault_lines is_painted prefix shown.place code message
+    (is_cut_before side text shown.at) (shown_front side text shown.at) (shown_back side text shown.at) (is_cut_after side text shown.at)
+    (end - shown.at)
 
 -- What is printed of a fault with this code and message. In lines of tokens and in JSON it has the bytes of its span, and
 -- else the place where it is shown.
-unfoldable pub fault_report : Form → (prefix text : Text) → (shown begin end : Position) → (code message : Text) → Text
-fault_report Tokens prefix text shown begin end code message = readable_line prefix begin end (codes "Fault") (32 ∷ quoted message)
-fault_report NamedTokens prefix text shown begin end code message = readable_line prefix begin end (codes "Fault") (32 ∷ quoted message)
-fault_report Json prefix text shown begin end code message = json_fault prefix begin end code message
-fault_report JsonFaults prefix text shown begin end code message = json_fault prefix begin end code message
-fault_report Faults prefix text shown begin end code message = source_fault false prefix text shown end code message
-fault_report PaintedFaults prefix text shown begin end code message = source_fault true prefix text shown end code message
-fault_report Github prefix text shown begin end code message = github_line prefix shown.place code message
-fault_report Sarif prefix text shown begin end code message = sarif_result prefix shown.place code message
+unfoldable pub fault_report : Form → (side : ℕ) → (prefix text : Text) → (shown begin end : Position) → (code message : Text) → Text
+fault_report Tokens side prefix text shown begin end code message = readable_line prefix begin end (codes "Fault") (32 ∷ quoted message)
+fault_report NamedTokens side prefix text shown begin end code message = readable_line prefix begin end (codes "Fault") (32 ∷ quoted message)
+fault_report Json side prefix text shown begin end code message = json_fault prefix begin end code message
+fault_report JsonFaults side prefix text shown begin end code message = json_fault prefix begin end code message
+fault_report Faults side prefix text shown begin end code message = source_fault false side prefix text shown end.at code message
+fault_report PaintedFaults side prefix text shown begin end code message = source_fault true side prefix text shown end.at code message
+fault_report Github side prefix text shown begin end code message = github_line prefix shown.place code message
+fault_report Sarif side prefix text shown begin end code message = sarif_result prefix shown.place code message
 
 -- the position where a fault is shown
 abbrev pub shown_position : (text : Text) → Spanned Fault → Position
 shown_position text fault = position_at text (shown_at text (shown_of fault.node) fault.begin fault.end)
 
 -- what is printed of an item of a text
-unfoldable pub item_report : Form → (prefix text : Text) → LexerItem → Text
-item_report form prefix text (Given lexeme) = token_report form prefix (position_at text lexeme.begin) (position_at text lexeme.end) lexeme.node
-item_report form prefix text (Refused fault) =
-    fault_report form prefix text (shown_position text fault) (position_at text fault.begin) (position_at text fault.end)
+unfoldable pub item_report : Style → (prefix text : Text) → LexerItem → Text
+item_report style prefix text (Given lexeme) =
+    token_report style.form prefix (position_at text lexeme.begin) (position_at text lexeme.end) lexeme.node
+item_report style prefix text (Refused fault) =
+    fault_report style.form style.side prefix text (shown_position text fault) (position_at text fault.begin) (position_at text fault.end)
     (fault_code fault.node) (message_of fault.node)
-
--- what is printed of items of a text
-unfoldable pub items_report : Form → (prefix text : Text) → List LexerItem → Text
-items_report form prefix text list = flat_map (item_report form prefix text) list
-
--- what is printed of a text: all its tokens and faults, in order
-unfoldable pub report : Form → (name text : Text) → Text
-report form name text = items_report form (prefix_of form name) text (all_items text)
 
 -- whether an item is a fault
 abbrev pub is_fault : LexerItem → Bool
@@ -83,3 +80,31 @@ is_fault (Refused fault) = true
 -- how many faults a text has
 unfoldable pub fault_count : Text → ℕ
 fault_count text = count_by is_fault (all_items text)
+
+-- what is printed of an item of a text, where a fault may not be shown
+abbrev pub shown_report : (is_shown : Bool) → Style → (prefix text : Text) → LexerItem → Text
+shown_report is_shown style prefix text item = if is_fault item && not is_shown then [] else item_report style prefix text item
+
+-- what is printed of items of a text, of which so many faults are shown
+unfoldable pub items_report : Style → (prefix text : Text) → (most : ℕ) → List LexerItem → Text
+items_report style prefix text most [] = []
+items_report style prefix text most (item ∷ items) =
+    shown_report (nat_lt 0 most) style prefix text item ++ items_report style prefix text (if is_fault item then most - 1 else most) items
+
+-- lines for people that show faults alone
+abbrev pub shows_faults : Form → Bool
+shows_faults Faults = true
+shows_faults PaintedFaults = true
+shows_faults form = false
+
+-- the line that counts the faults which aren't shown, if there are some
+unfoldable pub rest_report : Form → (prefix : Text) → (hidden : ℕ) → Text
+rest_report form prefix hidden =
+    if hidden == 0 then []
+    else (if shows_faults form then prefix ++ (codes " faults not shown: " ++ (decimal hidden ++ codes "; --max-faults 0 shows all\n")) else [])
+
+-- what is printed of a text: all its tokens, and the first faults, in order
+unfoldable pub report : Style → (name text : Text) → Text
+report style name text =
+    items_report style (prefix_of style.form name) text style.most (all_items text)
+    ++ rest_report style.form (prefix_of style.form name) (min (fault_count text) (2 ^ 64 - 1) - style.most)

@@ -1,10 +1,16 @@
 -- What the words of a command line ask for.
-use Rattle.std.specs.Prelude.{◌≡◌, Bool, true, false, map, ◌++◌, ◌&&◌, ◌||◌, not, length, codes, drop, List, [], ◌∷◌, Option, Some, None, if◌then◌else◌}
-use Rattle.std.specs.List.{list_any}
+use Rattle.std.specs.Prelude.{◌≡◌, ℕ, ◌-◌, ◌*◌, ◌+◌, ◌^◌, ◌==◌, nat_lt, Bool, true, false, fold, map, ◌++◌, ◌&&◌, ◌||◌, not, length, codes, drop, List, [], ◌∷◌, Option, Some, None, if◌then◌else◌}
+use Rattle.std.specs.Char.{is_ascii_digit}
+use Rattle.std.specs.List.{list_all, list_any}
+use Rattle.std.specs.Option.{option_map, unwrap_or}
 use Rattle.starlark_base.specs.Places.{Text}
 use Rattle.starlark_tokens.specs.CommandWords.{begins_with, is_any, is_same}
 use Rattle.starlark_tokens.specs.declared.form.Form.{Form}
 use Rattle.starlark_tokens.specs.declared.form.Form.TheVariants as shown
+use Rattle.starlark_tokens.specs.declared.form.Style.{Style}
+use Rattle.starlark_tokens.specs.declared.form.Terminal.{Terminal}
+use Rattle.starlark_tokens.specs.Reports.{shows_faults}
+use Rattle.starlark_tokens.specs.Totals.{in_64_bits}
 use Rattle.starlark_tokens.specs.declared.requests.Format.{Format}
 use Rattle.starlark_tokens.specs.declared.requests.Format.TheVariants.{Text as AsText, Json, Github, Sarif}
 use Rattle.starlark_tokens.specs.declared.requests.Reports.{Reports as ReportsRecord}
@@ -31,9 +37,28 @@ is_valued word =
     begins_with (codes "--exclude=") word || begins_with (codes "--include=") word || begins_with (codes "--files-from=") word
     || begins_with (codes "--stdin-filename=") word || begins_with (codes "--explain=") word
 
+-- a number in decimal digits
+abbrev pub is_number : Text → Bool
+is_number text = nat_lt 0 (length text) && list_all is_ascii_digit text
+
+-- the number that decimal digits write after another, but at most the greatest of 64 bits
+abbrev pub number_after : ℕ → Text → ℕ
+number_after number digits = fold (λ number byte. in_64_bits (number * 10 + (byte - 48))) number digits
+
+abbrev pub number : Text → ℕ
+number digits = number_after 0 digits
+
+-- this option, which ends with `=`, with a number
+abbrev pub has_number : (option : Text) → Text → Bool
+has_number option word = begins_with option word && is_number (drop (length option) word)
+
+-- an option with a number
+abbrev pub is_numbered : Text → Bool
+is_numbered = has_number (codes "--max-faults=")
+
 -- an option that the program doesn't have
 abbrev pub is_unknown : Text → Bool
-is_unknown word = is_option word && not (is_flag word || is_format word || is_valued word)
+is_unknown word = is_option word && not (is_flag word || is_format word || is_valued word || is_numbered word)
 
 -- the word is among others
 abbrev pub is_among : Text → List Text → Bool
@@ -78,11 +103,16 @@ format_of words =
 abbrev pub is_quiet : List Text → Bool
 is_quiet words = is_among (codes "--quiet") words || is_among (codes "-q") words
 
+-- how many faults of a file are shown, if words ask for it; 0 is all
+abbrev pub max_faults : List Text → Option ℕ
+max_faults words = option_map number (first_value (codes "--max-faults=") words)
+
 -- the reports that words ask for
 pub record Wants (words : WordsRecord) (reports : ReportsRecord) : Type 0 where
   pub check : reports.check ≡ is_among (codes "--check") (leading words)
   pub format : reports.format ≡ format_of (leading words)
   pub quiet : reports.quiet ≡ is_quiet (leading words)
+  pub max_faults : reports.max_faults ≡ max_faults (leading words)
   pub excluded : map (λ glob. glob.now) reports.excluded.items ≡ values (codes "--exclude=") (leading words)
   pub included : map (λ glob. glob.now) reports.included.items ≡ values (codes "--include=") (leading words)
   pub lists : map (λ name. name.now) reports.lists.items ≡ values (codes "--files-from=") (leading words)
@@ -102,6 +132,28 @@ form AsText false are_named is_painted = if are_named then shown.NamedTokens els
 -- the form of the reports that are asked for
 abbrev pub form_of : ReportsRecord → (are_named is_painted : Bool) → Form
 form_of reports are_named is_painted = form reports.format reports.check are_named is_painted
+
+-- how many faults of a file are shown where so many are asked for: 0 is all
+abbrev pub limit : ℕ → ℕ
+limit asked = if asked == 0 then 2 ^ 64 - 1 else asked
+
+-- where it isn't asked for, lines of faults for people show 100
+abbrev pub first_most : Form → ℕ
+first_most form = if shows_faults form then 100 else 0
+
+-- how many faults of a file are shown: with tokens for people all are
+abbrev pub most : Form → Option ℕ → ℕ
+most shown.Tokens asked = 2 ^ 64 - 1
+most shown.NamedTokens asked = 2 ^ 64 - 1
+most form asked = limit (unwrap_or asked (first_most form))
+
+-- the style of the reports that are asked for, in a form
+abbrev pub style_in : Form → (asked : Option ℕ) → Terminal → Style
+style_in form asked terminal = record { form = form; side = terminal.side; most = most form asked }
+
+-- the style of the reports that are asked for
+abbrev pub style_of : ReportsRecord → (are_named : Bool) → Terminal → Style
+style_of reports are_named terminal = style_in (form_of reports are_named terminal.is_painted) reports.max_faults terminal
 
 -- help is asked for
 abbrev pub asks_help : List Text → Bool

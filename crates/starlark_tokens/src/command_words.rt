@@ -53,6 +53,7 @@ pub fn takes_value(word: &[u8]) -> bool
             "--files-from",
             "--stdin-filename",
             "--explain",
+            "--max-faults",
         ],
     )
 }

@@ -45,17 +45,16 @@ const INVALID_TAB: &str = "\
 SL003: tabs are not allowed
 
     def f():
-    <tab>return 1
+    \treturn 1
 
-A tab indents a line of code, or stands between two tokens. Write spaces: many editors replace the tabs
-of a file by a command. In strings and comments tabs are allowed.
+The second line begins with a tab. Write spaces, between two tokens too: many editors replace the tabs of
+a file by a command. In strings and comments tabs are allowed.
 ";
 
 const UNFINISHED_STRING_LITERAL: &str = "\
 SL004: unfinished string literal
 
-    notes = \"the first release,
-             and the second\"
+    notes = \"the first release, and the second
 
 The quotes are not closed on their line. Close them, or use three quotes for a text of several lines.
 ";
@@ -74,8 +73,8 @@ SL006: missing string escape sequence
 
     path = \"C:\\
 
-The file ends right after a backslash in a string. Write two backslashes for a backslash, and close the
-quotes.
+The file ends right after a backslash in a string, with no line end. Write two backslashes for a backslash,
+and close the quotes.
 ";
 
 const RESERVED_KEYWORD: &str = "\
@@ -100,8 +99,8 @@ out.
 const UNFINISHED_FSTRING_EXPRESSION: &str = "\
 SL009: f-string expression is missing closing `}`
 
-    name = f\"lib{base\"
+    name = f\"\"\"lib{base\"\"\"
 
-A `{` in an f-string is not closed, or a `}` closes nothing. Close the expression, or write `{{` and `}}`
-for braces that are text.
+A `{` in an f-string is not closed, and the quotes after it begin a string in its expression. Close the
+expression, or write `{{` and `}}` for braces that are text.
 ";

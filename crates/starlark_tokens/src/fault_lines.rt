@@ -5,12 +5,17 @@ ghost use Rattle.starlark_text.specs.Characters.{starts_character};
 ghost use Rattle.std.specs.List.{flat_map};
 ghost use Rattle.std.specs.Str.{IsCharBoundary, chars};
 ghost use Rattle.starlark_tokens.specs.ItemLines as spec;
+ghost use Rattle.starlark_tokens.specs.Reports.{source_fault};
 
 use crate::character_widths::width;
 use crate::python_literals::{is_hidden, push_ascii, push_one_line};
+use crate::source_lines::{ShownLine, shown_line};
 use starlark_base::position::Position;
 use starlark_text::character_starts::count_starts;
 use std::alloc::AllocError;
+
+/// What stands where a line goes on.
+const ELLIPSIS: &str = "\u{2026}";
 
 /// What the lexer's messages begin with.
 const MESSAGE_BEGIN: &str = "Parse error: ";
@@ -38,7 +43,7 @@ pub fn line_front(text: &str, at: usize) -> &str
 }
 
 /// The line from byte `at` of a text on, without its LF.
-fn line_back(text: &str, at: usize) -> &str
+pub fn line_back(text: &str, at: usize) -> &str
     requires { IsCharBoundary text.now at }
     ensures { result.now ≡ spec.line_back text.now at }
 {
@@ -211,13 +216,30 @@ fn push_source_back(line: &mut String, back: &str) -> Result<(), AllocError>
     push_source(line, without_cr(back))
 }
 
-/// Appends the line of the source, by what is before a fault and from it on.
-#[tactic(auto, unfolding(crate::specs::ItemLines::source_line))]
-fn push_source_line(line: &mut String, front: &str, back: &str) -> Result<(), AllocError>
-    ensures { OnOk result (string_bytes line.new ≡ string_bytes line.old ++ spec.source_line front.now back.now) }
+/// What stands for the part of a line that isn't shown, if there is one.
+fn ellipsis(is_cut: bool) -> &'static str
+    ensures { result.now ≡ spec.ellipsis is_cut }
 {
-    push_source(line, front)?;
-    push_source_back(line, back)?;
+    if is_cut { ELLIPSIS } else { "" }
+}
+
+/// What is below the part of a line that isn't shown, if there is one.
+fn below_ellipsis(is_cut: bool) -> &'static str
+    ensures { result.now ≡ spec.below_ellipsis is_cut }
+{
+    if is_cut { " " } else { "" }
+}
+
+/// Appends the line of the source.
+#[tactic(auto, unfolding(crate::specs::ItemLines::source_line))]
+fn push_source_line(line: &mut String, shown: ShownLine<'_>) -> Result<(), AllocError>
+    ensures { OnOk result (string_bytes line.new ≡ string_bytes line.old
+        ++ spec.source_line shown.entry.is_cut_before shown.entry.front.now shown.entry.back.now shown.entry.is_cut_after) }
+{
+    line.push_str(ellipsis(shown.is_cut_before))?;
+    push_source(line, shown.front)?;
+    push_source_back(line, shown.back)?;
+    line.push_str(ellipsis(shown.is_cut_after))?;
     line.push_str("\n")
 }
 
@@ -234,15 +256,16 @@ fn push_marks(line: &mut String, back: &str, len: usize) -> Result<(), AllocErro
 fn push_caret_line(
     line: &mut String,
     is_painted: bool,
-    front: &str,
-    back: &str,
+    shown: ShownLine<'_>,
     len: usize,
 ) -> Result<(), AllocError>
-    ensures { OnOk result (string_bytes line.new ≡ string_bytes line.old ++ spec.caret_line is_painted front.now back.now len) }
+    ensures { OnOk result (string_bytes line.new ≡ string_bytes line.old
+        ++ spec.caret_line is_painted shown.entry.is_cut_before shown.entry.front.now shown.entry.back.now len) }
 {
-    push_below(line, front)?;
+    line.push_str(below_ellipsis(shown.is_cut_before))?;
+    push_below(line, shown.front)?;
     line.push_str(red(is_painted))?;
-    push_marks(line, back, len)?;
+    push_marks(line, shown.back, len)?;
     line.push_str(plain(is_painted))?;
     line.push_str("\n")
 }
@@ -270,40 +293,40 @@ fn push_fault_line(line: &mut String, prefix: &str, fault: ShownFault<'_>) -> Re
     push_fault_words(line, fault.code, fault.message)
 }
 
-/// Appends the lines of a fault, by its line before the place where it is shown and from it on.
+/// Appends the lines of a fault, by what is shown of its line around the place where it is shown.
 /// `len` bytes from there on belong to it.
 #[tactic(auto, unfolding(crate::specs::ItemLines::fault_lines))]
 fn push_parted_lines(
     line: &mut String,
     prefix: &str,
     fault: ShownFault<'_>,
-    front: &str,
-    back: &str,
+    shown: ShownLine<'_>,
     len: usize,
 ) -> Result<(), AllocError>
     ensures { OnOk result (string_bytes line.new ≡ string_bytes line.old
-        ++ spec.fault_lines fault.entry.is_painted prefix.now fault.entry.shown.place fault.entry.code.now fault.entry.message.now front.now back.now len) }
+        ++ spec.fault_lines fault.entry.is_painted prefix.now fault.entry.shown.place fault.entry.code.now fault.entry.message.now
+        shown.entry.is_cut_before shown.entry.front.now shown.entry.back.now shown.entry.is_cut_after len) }
 {
     push_fault_line(line, prefix, fault)?;
-    push_source_line(line, front, back)?;
-    push_caret_line(line, fault.is_painted, front, back, len)
+    push_source_line(line, shown)?;
+    push_caret_line(line, fault.is_painted, shown, len)
 }
 
 /// Appends the lines of a fault that ends at byte `end` of a text.
+#[tactic(auto, unfolding(crate::specs::Reports::source_fault))]
 pub fn push_fault_lines(
     line: &mut String,
     prefix: &str,
     text: &str,
+    side: u16,
     fault: ShownFault<'_>,
     end: usize,
 ) -> Result<(), AllocError>
     requires { IsCharBoundary text.now fault.shown.at }
     ensures { OnOk result (string_bytes line.new ≡ string_bytes line.old
-        ++ spec.fault_lines fault.entry.is_painted prefix.now fault.entry.shown.place fault.entry.code.now fault.entry.message.now
-        (spec.line_front text.now fault.entry.shown.at) (spec.line_back text.now fault.entry.shown.at) (end - fault.entry.shown.at)) }
+        ++ source_fault fault.entry.is_painted side prefix.now text.now fault.entry.shown end fault.entry.code.now fault.entry.message.now) }
 {
     let at = fault.shown.at;
-    let front = line_front(text, at);
-    let back = line_back(text, at);
-    push_parted_lines(line, prefix, fault, front, back, end.saturating_sub(at))
+    let shown = shown_line(text, at, side);
+    push_parted_lines(line, prefix, fault, shown, end.saturating_sub(at))
 }

@@ -13,13 +13,14 @@ ghost use Rattle.starlark_tokens.specs.Requests as requests;
 ghost use Rattle.starlark_tokens.specs.Totals.{AreTotalsOf};
 
 use crate::counts::count_line;
-use crate::form::Form;
+use crate::form::{Form, Style, Terminal};
 use crate::messages::say;
 use crate::report::report_text;
 use crate::report_documents::{closing, opening};
-use crate::requests::{Format, Reports};
+use crate::requests::Reports;
 use crate::screen::{Progress, Screen};
 use crate::sources::{Source, Sources, Texts};
+use crate::styles::style_of;
 use crate::totals::Totals;
 use starlark_devices::{WriteDevice, write_all};
 use starlark_run::TROUBLE;
@@ -50,36 +51,20 @@ pub fn unwritable(rt: &HostRuntime, error: &io::Error) -> u8
     TROUBLE
 }
 
-/// The form of the reports, by whether lines of tokens have names, and whether output is painted.
-fn form_of(wanted: &Reports<'_>, are_named: bool, is_painted: bool) -> Form
-    ensures { result ≡ requests.form_of wanted.now are_named is_painted }
-{
-    match (wanted.format, wanted.check) {
-        (Format::Sarif, _) => Form::Sarif,
-        (Format::Github, _) => Form::Github,
-        (Format::Json, true) => Form::JsonFaults,
-        (Format::Json, false) => Form::Json,
-        (Format::Text, true) if is_painted => Form::PaintedFaults,
-        (Format::Text, true) => Form::Faults,
-        (Format::Text, false) if are_named => Form::NamedTokens,
-        (Format::Text, false) => Form::Tokens,
-    }
-}
-
 /// Reports one source, and counts it. Only a failure of the output, or of memory for it, is returned.
 fn report_source<S: Texts, W: WriteDevice>(
     rt: &HostRuntime,
-    form: Form,
+    style: Style,
     texts: &S,
     source: &Source,
     totals: &mut Totals,
     output: &mut W,
 ) -> io::Result<()>
-    ensures { IsReported (S.gives texts.now) W.calls form source.now totals.old totals.new output.old output.new result }
+    ensures { IsReported (S.gives texts.now) W.calls style source.now totals.old totals.new output.old output.new result }
 {
     match texts.text(source) {
         Ok(text) => {
-            let faults = report_text(rt.alloc(), form, source.name(), text.as_str(), output)?;
+            let faults = report_text(rt.alloc(), style, source.name(), text.as_str(), output)?;
             totals.add(faults);
         }
         Err(fault) => {
@@ -103,17 +88,17 @@ fn show_done<W, T: WriteDevice>(rt: &HostRuntime, screen: &mut Screen<W, T>, don
 /// Reports all sources one after another.
 fn report_each<S: Texts, W: WriteDevice, T: WriteDevice>(
     rt: &HostRuntime,
-    form: Form,
+    style: Style,
     texts: &S,
     sources: &Sources,
     screen: &mut Screen<W, T>,
 ) -> io::Result<Totals>
-    ensures { AreReportedAlone (S.gives texts.now) W.calls form sources.now screen.old.output screen.new.output result }
+    ensures { AreReportedAlone (S.gives texts.now) W.calls style sources.now screen.old.output screen.new.output result }
 {
     let mut totals = Totals::of_unreadable(sources.lost);
     for (done, source) in sources.all.iter().enumerate() {
         show_done(rt, screen, done);
-        report_source(rt, form, texts, source, &mut totals, screen)?;
+        report_source(rt, style, texts, source, &mut totals, screen)?;
     }
     Ok(totals)
 }
@@ -153,17 +138,17 @@ fn put_closing<W: WriteDevice, T: WriteDevice>(
 /// Writes an opening, the reports of all sources, and a closing.
 fn report_streamed<S: Texts, W: WriteDevice, T: WriteDevice>(
     rt: &HostRuntime,
-    form: Form,
+    style: Style,
     texts: &S,
     sources: &Sources,
     screen: &mut Screen<W, T>,
 ) -> io::Result<Totals>
-    ensures { AreReported (λ totals reports. documents.opening form ++ (reports ++ documents.closing form totals))
-        (S.gives texts.now) W.calls Going form sources.now screen.old.output screen.new.output result }
+    ensures { AreReported (λ totals reports. documents.opening style.form ++ (reports ++ documents.closing style.form totals))
+        (S.gives texts.now) W.calls Going style sources.now screen.old.output screen.new.output result }
 {
-    put_opening(rt.alloc(), form, screen)?;
-    let totals = report_each(rt, form, texts, sources, screen)?;
-    put_closing(rt.alloc(), form, totals, screen)?;
+    put_opening(rt.alloc(), style.form, screen)?;
+    let totals = report_each(rt, style, texts, sources, screen)?;
+    put_closing(rt.alloc(), style.form, totals, screen)?;
     Ok(totals)
 }
 
@@ -177,15 +162,15 @@ fn without_first(bytes: &[u8]) -> &[u8]
 /// The reports of all sources, and what was found in them, in memory.
 fn collected<S: Texts>(
     rt: &HostRuntime,
-    form: Form,
+    style: Style,
     texts: &S,
     sources: &Sources,
 ) -> Result<(Totals, Vec<u8>), AllocError>
-    ensures { IfOk result (λ found. AreCollected (S.gives texts.now) form sources.now found.0 found.1.items) }
+    ensures { IfOk result (λ found. AreCollected (S.gives texts.now) style sources.now found.0 found.1.items) }
 {
     let progress = Progress::begun(rt, sources.all.len());
     let mut results = Screen::new(rt.alloc(), Vec::new(rt.alloc()), rt.stderr(), progress);
-    let totals = report_each(rt, form, texts, sources, &mut results).map_err(|_| AllocError)?;
+    let totals = report_each(rt, style, texts, sources, &mut results).map_err(|_| AllocError)?;
     results.clear();
     Ok((totals, results.into_output()))
 }
@@ -194,35 +179,35 @@ fn collected<S: Texts>(
 /// sources are read.
 fn report_collected<S: Texts, W: WriteDevice, T: WriteDevice>(
     rt: &HostRuntime,
-    form: Form,
+    style: Style,
     texts: &S,
     sources: &Sources,
     screen: &mut Screen<W, T>,
 ) -> io::Result<Totals>
-    ensures { AreReported (λ totals reports. documents.opening form ++ (drop 1 reports ++ documents.closing form totals))
-        (S.gives texts.now) W.calls Going form sources.now screen.old.output screen.new.output result }
+    ensures { AreReported (λ totals reports. documents.opening style.form ++ (drop 1 reports ++ documents.closing style.form totals))
+        (S.gives texts.now) W.calls Going style sources.now screen.old.output screen.new.output result }
 {
-    let (totals, reports) = collected(rt, form, texts, sources)?;
-    put_opening(rt.alloc(), form, screen)?;
+    let (totals, reports) = collected(rt, style, texts, sources)?;
+    put_opening(rt.alloc(), style.form, screen)?;
     put(screen, without_first(reports.as_slice()))?;
-    put_closing(rt.alloc(), form, totals, screen)?;
+    put_closing(rt.alloc(), style.form, totals, screen)?;
     Ok(totals)
 }
 
 /// Writes the document of all sources.
 fn report_document<S: Texts, W: WriteDevice, T: WriteDevice>(
     rt: &HostRuntime,
-    form: Form,
+    style: Style,
     texts: &S,
     sources: &Sources,
     screen: &mut Screen<W, T>,
 ) -> io::Result<Totals>
-    ensures { IsDocument (S.gives texts.now) W.calls Going form sources.now screen.old.output screen.new.output result }
+    ensures { IsDocument (S.gives texts.now) W.calls Going style sources.now screen.old.output screen.new.output result }
 {
-    if form.is_collected() {
-        return report_collected(rt, form, texts, sources, screen);
+    if style.form.is_collected() {
+        return report_collected(rt, style, texts, sources, screen);
     }
-    report_streamed(rt, form, texts, sources, screen)
+    report_streamed(rt, style, texts, sources, screen)
 }
 
 /// Writes the document of all sources, and returns what was found in them once all is written.
@@ -231,14 +216,14 @@ fn report_document<S: Texts, W: WriteDevice, T: WriteDevice>(
 /// the totals alone.
 fn report_to<S: Texts, W: WriteDevice, T: WriteDevice>(
     rt: &HostRuntime,
-    form: Form,
+    style: Style,
     texts: &S,
     sources: &Sources,
     screen: &mut Screen<W, T>,
 ) -> io::Result<Totals>
-    ensures { IsDocument (S.gives texts.now) W.calls Done form sources.now screen.old.output screen.new.output result }
+    ensures { IsDocument (S.gives texts.now) W.calls Done style sources.now screen.old.output screen.new.output result }
 {
-    let found = report_document(rt, form, texts, sources, screen);
+    let found = report_document(rt, style, texts, sources, screen);
     screen.clear();
     let totals = found?;
     screen.flush_once()?;
@@ -257,16 +242,16 @@ fn are_named(sources: &Sources) -> bool
 fn report_wanted<S: Texts, W: WriteDevice, T: WriteDevice>(
     rt: &HostRuntime,
     wanted: &Reports<'_>,
-    is_painted: bool,
+    terminal: Terminal,
     texts: &S,
     sources: &Sources,
     screen: &mut Screen<W, T>,
 ) -> io::Result<Totals>
-    ensures { IsDocument (S.gives texts.now) W.calls Done (requests.form_of wanted.now (spec.are_named sources.now) is_painted)
+    ensures { IsDocument (S.gives texts.now) W.calls Done (requests.style_of wanted.now (spec.are_named sources.now) terminal)
         sources.now screen.old.output screen.new.output result }
 {
-    let form = form_of(wanted, are_named(sources), is_painted);
-    report_to(rt, form, texts, sources, screen)
+    let style = style_of(wanted, are_named(sources), terminal);
+    report_to(rt, style, texts, sources, screen)
 }
 
 /// Reports all sources over standard output, and returns what was found in them.
@@ -274,14 +259,14 @@ pub fn report_sources(
     rt: &HostRuntime,
     wanted: &Reports<'_>,
     sources: &Sources,
-    is_painted: bool,
+    terminal: Terminal,
 ) -> io::Result<Totals>
     ensures { IfOk result (AreTotalsOf sources.now) }
 {
     let output = BufWriter::with_capacity(rt.alloc(), BUFFER_LEN, rt.stdout())?;
     let progress = Progress::begun(rt, sources.all.len());
     let mut screen = Screen::new(rt.alloc(), output, rt.stderr(), progress);
-    report_wanted(rt, wanted, is_painted, rt, sources, &mut screen)
+    report_wanted(rt, wanted, terminal, rt, sources, &mut screen)
 }
 
 /// Says how many faults were found, in how many files.

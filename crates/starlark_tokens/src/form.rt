@@ -3,6 +3,7 @@
 ghost use Rattle.std.specs.Prelude.{◌≡◌};
 ghost use Rattle.starlark_tokens.specs.ReportDocuments.{is_collected};
 ghost use Rattle.starlark_tokens.specs.Inner.Reporters.{has_only_faults};
+ghost use Rattle.starlark_tokens.specs.Reports.{shows_faults};
 
 /// The form of a report.
 #[derive(Clone, Copy)]
@@ -25,12 +26,38 @@ pub enum Form {
     Sarif,
 }
 
+/// What the output is.
+#[derive(Clone, Copy)]
+pub struct Terminal {
+    /// Whether lines for people have colours.
+    pub is_painted: bool,
+    /// Bytes of a line of the source that have room on each side of a fault's begin.
+    pub side: u16,
+}
+
+/// How files are reported.
+#[derive(Clone, Copy)]
+pub struct Style {
+    pub form: Form,
+    /// Bytes of a line of the source that have room on each side of a fault's begin.
+    pub side: u16,
+    /// Number of faults of a file that are shown.
+    pub most: usize,
+}
+
 impl Form {
     /// Whether tokens are left out.
     pub fn has_only_faults(self) -> bool
         ensures { result ≡ has_only_faults self }
     {
         !matches!(self, Form::Tokens | Form::NamedTokens | Form::Json)
+    }
+
+    /// Whether lines for people show faults alone.
+    pub fn shows_faults(self) -> bool
+        ensures { result ≡ shows_faults self }
+    {
+        matches!(self, Form::Faults | Form::PaintedFaults)
     }
 
     /// Whether all reports are collected before they are written.

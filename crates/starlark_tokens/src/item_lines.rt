@@ -114,13 +114,14 @@ fn push_json_fault(
 fn push_source_fault(
     lines: &mut String,
     is_painted: bool,
+    side: u16,
     prefix: &str,
     text: &str,
     fault: Fault<'_>,
 ) -> Result<(), AllocError>
     requires { IsCharBoundary text.now fault.shown.at }
     ensures { OnOk result (string_bytes lines.new ≡ string_bytes lines.old
-        ++ source_fault is_painted prefix.now text.now fault.entry.shown fault.entry.end fault.entry.code.now fault.entry.message.now) }
+        ++ source_fault is_painted side prefix.now text.now fault.entry.shown fault.entry.end.at fault.entry.code.now fault.entry.message.now) }
 {
     let Fault {
         end,
@@ -135,7 +136,7 @@ fn push_source_fault(
         code,
         message,
     };
-    push_fault_lines(lines, prefix, text, shown, end.at)
+    push_fault_lines(lines, prefix, text, side, shown, end.at)
 }
 
 /// A fault of a text.
@@ -158,13 +159,14 @@ pub struct Fault<'a> {
 pub fn push_fault(
     lines: &mut String,
     form: Form,
+    side: u16,
     prefix: &str,
     text: &str,
     fault: Fault<'_>,
 ) -> Result<(), AllocError>
     requires { IsCharBoundary text.now fault.shown.at }
     ensures { OnOk result (string_bytes lines.new ≡ string_bytes lines.old
-        ++ fault_report form prefix.now text.now fault.entry.shown fault.entry.begin fault.entry.end fault.entry.code.now fault.entry.message.now) }
+        ++ fault_report form side prefix.now text.now fault.entry.shown fault.entry.begin fault.entry.end fault.entry.code.now fault.entry.message.now) }
 {
     let Fault {
         begin,
@@ -177,8 +179,8 @@ pub fn push_fault(
         Form::Tokens => push_readable_fault(lines, prefix, begin, end, message),
         Form::NamedTokens => push_readable_fault(lines, prefix, begin, end, message),
         Form::Json => push_json_fault(lines, prefix, begin, end, code, message),
-        Form::Faults => push_source_fault(lines, false, prefix, text, fault),
-        Form::PaintedFaults => push_source_fault(lines, true, prefix, text, fault),
+        Form::Faults => push_source_fault(lines, false, side, prefix, text, fault),
+        Form::PaintedFaults => push_source_fault(lines, true, side, prefix, text, fault),
         Form::JsonFaults => push_json_fault(lines, prefix, begin, end, code, message),
         Form::Github => push_github_fault(lines, prefix, shown, code, message),
         Form::Sarif => push_sarif_fault(lines, prefix, shown, code, message),

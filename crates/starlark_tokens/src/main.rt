@@ -34,7 +34,9 @@ mod rules;
 mod sarif_results;
 mod screen;
 mod shown_places;
+mod source_lines;
 mod sources;
+mod styles;
 mod token_lines;
 mod token_values;
 mod totals;
@@ -45,6 +47,7 @@ use crate::command_words::{takes_value, words_of};
 use crate::explanations::explanation;
 use crate::file_runs::{end_run, report_sources, unwritable};
 use crate::folders::sources_of;
+use crate::form::Terminal;
 use crate::messages::say;
 use crate::requests::{Reports, Request, asked};
 use starlark_run::TROUBLE;
@@ -67,6 +70,7 @@ hidden. Without a name, or for `-`, it reads standard input.
   --include GLOB         take such files of folders too; `*` stands for any characters
   --exclude GLOB         leave out such files and folders of folders
   --files-from FILE      take the names in FILE, each ended by a zero byte or else an LF
+  --max-faults N         show N faults of a file, 0 for all; --check shows 100 in text
   --stdin-filename NAME  report standard input by this name
   --explain CODE         say what the code of a fault means, and how to mend it
   -q, --quiet            print no count of faults
@@ -79,6 +83,14 @@ UTF-8 or is too long, or if an option is wrong.
 
   starlark_tokens --check .    # all faults of a repository
 ";
+
+/// Columns of an output that isn't a terminal, or doesn't say how many it has.
+const PIPE_COLUMNS: u16 = 160;
+
+/// Least and most columns that a terminal is taken to have.
+const LEAST_COLUMNS: u16 = 20;
+
+const MOST_COLUMNS: u16 = 1000;
 
 /// The version that `--version` prints.
 const VERSION: &str = "0.2.0";
@@ -145,12 +157,38 @@ fn is_painted(rt: &HostRuntime) -> bool {
     rt.stdout().is_terminal() && !is_set(rt, "NO_COLOR")
 }
 
+/// Columns of a terminal: those that `COLUMNS` says, or else as many as in a pipe.
+fn columns(rt: &HostRuntime) -> u16 {
+    if !rt.stdout().is_terminal() {
+        return PIPE_COLUMNS;
+    }
+    let columns = match env::var(rt, "COLUMNS") {
+        Ok(value) => value.as_str().parse().unwrap_or(PIPE_COLUMNS),
+        Err(_) => PIPE_COLUMNS,
+    };
+    columns.clamp(LEAST_COLUMNS, MOST_COLUMNS)
+}
+
+/// Bytes of a line of the source that have room on each side of a fault's begin: beside two
+/// ellipses, and the rest of a character.
+fn side(columns: u16) -> u16 {
+    columns.saturating_sub(5) / 2
+}
+
+/// What the output is.
+fn terminal(rt: &HostRuntime) -> Terminal {
+    Terminal {
+        is_painted: is_painted(rt),
+        side: side(columns(rt)),
+    }
+}
+
 /// Reports what is asked for, and returns the exit status.
 fn report_all(rt: &HostRuntime, wanted: &Reports<'_>) -> Result<u8, AllocError>
     ensures { IfOk result IsRunStatus }
 {
     let sources = sources_of(rt, wanted)?;
-    let run = report_sources(rt, wanted, &sources, is_painted(rt));
+    let run = report_sources(rt, wanted, &sources, terminal(rt));
     Ok(end_run(rt, wanted, &run))
 }
 

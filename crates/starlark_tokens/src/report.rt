@@ -5,12 +5,12 @@ ghost use Rattle.starlark_devices.specs.Calls.{Going};
 ghost use Rattle.starlark_base.specs.Sources.{SourceFile};
 ghost use Rattle.starlark_recovery.specs.RecoveringLexer.{all_items, left_after};
 ghost use Rattle.starlark_tokens.specs.Inner.Reporters.{IsReady, Keeps};
-ghost use Rattle.starlark_tokens.specs.Reports.{fault_count, is_fault, item_report, items_report, report};
+ghost use Rattle.starlark_tokens.specs.Reports.{fault_count, is_fault, items_report, report, rest_report, shown_report};
 ghost use Rattle.starlark_tokens.specs.ReportWrites.{Takes};
 ghost use Rattle.starlark_lexemes.specs.Lexer.{Answers, AnswersBetween, AnswersWithin};
 ghost use Rattle.starlark_token.specs.TextItems.{LexerItem};
 
-use crate::form::Form;
+use crate::form::Style;
 use crate::reporter::Reporter;
 use starlark_base::codemap::{CodeMap, CodeMapId, OrMemory};
 use starlark_devices::{WriteDevice, write_all};
@@ -20,8 +20,13 @@ use starlark_text::dialect::Dialect;
 use std::alloc::{AllocError, Global};
 use std::io;
 
-/// Makes the lines of an item, and returns how many faults it is: 0 or 1.
-fn report_item(reporter: &mut Reporter<'_>, item: Lexeme) -> Result<usize, AllocError>
+/// Makes the lines of an item, but none of a fault that isn't shown, and returns how many faults it
+/// is: 0 or 1.
+fn report_item(
+    reporter: &mut Reporter<'_>,
+    item: Lexeme,
+    is_shown: bool,
+) -> Result<usize, AllocError>
     requires ready { IsReady reporter.old }
     requires answered { (file : SourceFile) × (next : LexerItem) × Answers file next item }
     requires within { AnswersWithin reporter.old.text.now (Some item) }
@@ -30,7 +35,7 @@ fn report_item(reporter: &mut Reporter<'_>, item: Lexeme) -> Result<usize, Alloc
     ensures kept { OnOk result (Keeps reporter.old reporter.new) }
     ensures going { OnOk result ((left : List LexerItem) → left_after (Some item) left ≡ drop 1 left) }
     ensures lines { OnOk result ((file : SourceFile) (next : LexerItem) → Answers file next item
-        → string_bytes reporter.new.lines ≡ item_report reporter.old.form (string_bytes reporter.old.prefix) reporter.old.text.now next) }
+        → string_bytes reporter.new.lines ≡ shown_report is_shown reporter.old.style (string_bytes reporter.old.prefix) reporter.old.text.now next) }
     ensures counted { IfOk result (λ count. (file : SourceFile) (next : LexerItem) → Answers file next item → count ≡ count_by is_fault (next ∷ [])) }
 {
     match item {
@@ -39,6 +44,10 @@ fn report_item(reporter: &mut Reporter<'_>, item: Lexeme) -> Result<usize, Alloc
             Ok(0)
         }
         Err(OrMemory::Error(exception)) => {
+            if !is_shown {
+                reporter.hide();
+                return Ok(1);
+            }
             let span = exception.error().span().unwrap().span;
             reporter.fault(span, exception.error().kind())?;
             Ok(1)
@@ -63,42 +72,59 @@ fn lexer_of(alloc: Global, text: &str) -> Result<RecoveringLexer<'_>, AllocError
     RecoveringLexer::new(alloc, text, &Dialect::Extended, file).map_err(|_| AllocError)
 }
 
-/// Writes the lines of all items that a lexer has left, and returns how many of them are faults.
+/// Writes the lines of all items that a lexer has left, but of `most` faults alone, and returns how
+/// many of them are faults.
 fn report_left<W: WriteDevice>(
     reporter: &mut Reporter<'_>,
     lexer: &mut RecoveringLexer<'_>,
+    most: usize,
     writer: &mut W,
 ) -> io::Result<usize>
     requires ready { IsReady reporter.old }
     requires source { lexer.old.text ≡ reporter.old.text.now }
-    ensures written { Takes W.calls Going writer.old writer.new (items_report reporter.old.form (string_bytes reporter.old.prefix) reporter.old.text.now lexer.old.left) result }
+    ensures written { Takes W.calls Going writer.old writer.new (items_report reporter.old.style (string_bytes reporter.old.prefix) reporter.old.text.now most lexer.old.left) result }
+    ensures kept { OnOk result (Keeps reporter.old reporter.new) }
     ensures counted { IfOk result (λ faults. faults ≡ min (count_by is_fault lexer.old.left) (2 ^ 64 - 1)) }
 {
     let mut faults: usize = 0;
     while let Some(item) = lexer.next() {
-        let count = report_item(reporter, item)?;
+        let count = report_item(reporter, item, faults < most)?;
         write_all(writer, reporter.lines.as_bytes())?;
         faults = faults.saturating_add(count);
     }
     Ok(faults)
 }
 
-/// Prints the report of the text `name` in a form, and returns how many faults it has.
+/// Writes the line that counts the faults which aren't shown, if there are some.
+fn report_rest<W: WriteDevice>(
+    reporter: &mut Reporter<'_>,
+    hidden: usize,
+    writer: &mut W,
+) -> io::Result<()>
+    ensures { Takes W.calls Going writer.old writer.new (rest_report reporter.old.style.form (string_bytes reporter.old.prefix) hidden) result }
+{
+    reporter.rest(hidden)?;
+    write_all(writer, reporter.lines.as_bytes())
+}
+
+/// Prints the report of the text `name` in a style, and returns how many faults it has.
 ///
 /// The text must be shorter than 2^32 bytes. Fails at the first write that fails, which isn't tried
 /// again, and with `OutOfMemory` where memory runs out. Then a beginning of the report is written.
 pub fn report_text<W: WriteDevice>(
     alloc: Global,
-    form: Form,
+    style: Style,
     name: &str,
     text: &str,
     writer: &mut W,
 ) -> io::Result<usize>
     requires fits { length text.now < 2 ^ 32 }
-    ensures written { Takes W.calls Going writer.old writer.new (report form name.now text.now) result }
+    ensures written { Takes W.calls Going writer.old writer.new (report style name.now text.now) result }
     ensures counted { IfOk result (λ faults. faults ≡ min (fault_count text.now) (2 ^ 64 - 1)) }
 {
-    let mut reporter = Reporter::new(alloc, form, name, text)?;
+    let mut reporter = Reporter::new(alloc, style, name, text)?;
     let mut lexer = lexer_of(alloc, text)?;
-    report_left(&mut reporter, &mut lexer, writer)
+    let faults = report_left(&mut reporter, &mut lexer, style.most, writer)?;
+    report_rest(&mut reporter, faults.saturating_sub(style.most), writer)?;
+    Ok(faults)
 }

@@ -1,6 +1,6 @@
 //! Makes the lines of the tokens and faults of one text.
 
-ghost use Rattle.std.specs.Prelude.{◌≡◌, ◌≤◌, ◌++◌, IfOk, OnOk, codes, string_bytes};
+ghost use Rattle.std.specs.Prelude.{◌≡◌, ◌≤◌, ◌++◌, [], IfOk, OnOk, codes, string_bytes};
 ghost use Rattle.starlark_tokens.specs.GithubLines.{property};
 ghost use Rattle.starlark_tokens.specs.JsonStrings.{json_string};
 ghost use Rattle.starlark_tokens.specs.SarifResults as sarif;
@@ -9,12 +9,12 @@ ghost use Rattle.std.specs.Str.{IsCharBoundary};
 ghost use Rattle.starlark_tokens.specs.Inner.Reporters.{IsReady, Keeps};
 ghost use Rattle.starlark_tokens.specs.Inner.ShownKinds.{code_of_kind, shown_of_kind};
 ghost use Rattle.starlark_base.specs.Positions.{IsPosition, position_at};
-ghost use Rattle.starlark_tokens.specs.Reports.{fault_report, prefix_of, token_report};
+ghost use Rattle.starlark_tokens.specs.Reports.{fault_report, prefix_of, rest_report, token_report};
 ghost use Rattle.starlark_tokens.specs.ShownPlaces.{shown_at};
 ghost use Rattle.starlark_errors.specs.Errors.{kind_text};
 ghost use Rattle.starlark_token.specs.TokenViews.{token_view};
 
-use crate::form::Form;
+use crate::form::{Form, Style};
 use crate::github_lines::push_property;
 use crate::item_lines::{Fault, push_fault, push_token};
 use crate::json_strings::push_json_string;
@@ -30,7 +30,7 @@ use std::alloc::{AllocError, Global};
 /// A maker of the lines of one text: what each line begins with, and the lines in the making.
 #[derive(Drop)]
 pub struct Reporter<'t> {
-    form: Form,
+    style: Style,
     text: &'t str,
     prefix: String,
     /// The lines of the last token or fault.
@@ -111,21 +111,21 @@ fn code_of(kind: &ErrorKind) -> &'static str
 }
 
 impl<'t> Reporter<'t> {
-    /// A maker of lines for a text of a name, in a form.
+    /// A maker of lines for a text of a name, in a style.
     pub fn new(
         alloc: Global,
-        form: Form,
+        style: Style,
         name: &str,
         text: &'t str,
     ) -> Result<Reporter<'t>, AllocError>
         ensures ready { IfOk result IsReady }
-        ensures form { IfOk result (λ reporter. reporter.form ≡ form) }
+        ensures style { IfOk result (λ reporter. reporter.style ≡ style) }
         ensures text { IfOk result (λ reporter. reporter.text.now ≡ text.now) }
-        ensures prefix { IfOk result (λ reporter. string_bytes reporter.prefix ≡ prefix_of form name.now) }
+        ensures prefix { IfOk result (λ reporter. string_bytes reporter.prefix ≡ prefix_of style.form name.now) }
     {
-        let prefix = prefix(alloc, form, name)?;
+        let prefix = prefix(alloc, style.form, name)?;
         Ok(Reporter {
-            form,
+            style,
             text,
             prefix,
             lines: String::new(alloc),
@@ -143,11 +143,11 @@ impl<'t> Reporter<'t> {
         requires order { begin ≤ end }
         ensures ready { OnOk result (IsReady self.new) }
         ensures kept { OnOk result (Keeps self.old self.new) }
-        ensures lines { OnOk result (string_bytes self.new.lines ≡ token_report self.old.form (string_bytes self.old.prefix)
+        ensures lines { OnOk result (string_bytes self.new.lines ≡ token_report self.old.style.form (string_bytes self.old.prefix)
             (position_at self.old.text.now begin) (position_at self.old.text.now end) (token_view token.now)) }
     {
         self.lines.clear();
-        if self.form.has_only_faults() {
+        if self.style.form.has_only_faults() {
             return Ok(());
         }
         let begin = Position::nearest(self.here, self.last_fault, self.text, begin);
@@ -155,7 +155,7 @@ impl<'t> Reporter<'t> {
         self.here = end;
         push_token(
             &mut self.lines,
-            self.form,
+            self.style.form,
             self.prefix.as_str(),
             begin,
             end,
@@ -170,7 +170,7 @@ impl<'t> Reporter<'t> {
         requires end { IsCharBoundary self.old.text.now span.end }
         ensures ready { OnOk result (IsReady self.new) }
         ensures kept { OnOk result (Keeps self.old self.new) }
-        ensures lines { OnOk result (string_bytes self.new.lines ≡ fault_report self.old.form (string_bytes self.old.prefix) self.old.text.now
+        ensures lines { OnOk result (string_bytes self.new.lines ≡ fault_report self.old.style.form self.old.style.side (string_bytes self.old.prefix) self.old.text.now
             (position_at self.old.text.now (shown_at self.old.text.now (shown_of_kind kind.now) span.begin span.end))
             (position_at self.old.text.now span.begin) (position_at self.old.text.now span.end) (code_of_kind kind.now) (kind_text kind.now)) }
     {
@@ -185,7 +185,8 @@ impl<'t> Reporter<'t> {
         self.lines.clear();
         push_fault(
             &mut self.lines,
-            self.form,
+            self.style.form,
+            self.style.side,
             self.prefix.as_str(),
             self.text,
             Fault {
@@ -195,6 +196,34 @@ impl<'t> Reporter<'t> {
                 code: code_of(kind),
                 message: self.message.as_str(),
             },
+        )
+    }
+    /// Makes no line for a fault that isn't shown.
+    pub fn hide(&mut self)
+        requires ready { IsReady self.old }
+        ensures ready { IsReady self.new }
+        ensures kept { Keeps self.old self.new }
+        ensures lines { string_bytes self.new.lines ≡ [] }
+    {
+        self.lines.clear();
+    }
+
+    /// Makes the line that counts the faults which aren't shown, if there are some.
+    #[tactic(auto, unfolding(crate::specs::Reports::rest_report))]
+    pub fn rest(&mut self, hidden: usize) -> Result<(), AllocError>
+        ensures { OnOk result (string_bytes self.new.lines ≡ rest_report self.old.style.form (string_bytes self.old.prefix) hidden) }
+    {
+        self.lines.clear();
+        if hidden == 0 {
+            return Ok(());
+        }
+        if !self.style.form.shows_faults() {
+            return Ok(());
+        }
+        self.lines.push_str(self.prefix.as_str())?;
+        write!(
+            self.lines,
+            " faults not shown: {hidden}; --max-faults 0 shows all\n"
         )
     }
 }

@@ -1,12 +1,17 @@
 //! What the arguments of `starlark_tokens` ask for.
 
 ghost use Rattle.std.specs.Prelude.{◌≡◌, ◌≤◌, IfOk, length, map};
+ghost use Rattle.std.specs.Char.{is_ascii_digit};
+ghost use Rattle.std.specs.List.{list_all};
 ghost use Rattle.std.specs.Option.{option_map};
 ghost use Rattle.starlark_tokens.specs.Requests as spec;
 ghost use Rattle.starlark_tokens.specs.Requests.{Asks, Wants};
 
 use crate::command_words::{Words, begins_with, is_any, is_same};
 use std::alloc::{AllocError, Global};
+
+/// What the option with a number of faults begins with.
+const MAX_FAULTS: &str = "--max-faults=";
 
 /// What the arguments ask for.
 #[derive(Drop)]
@@ -44,6 +49,8 @@ pub struct Reports<'a> {
     pub format: Format,
     /// Whether no count of faults is printed.
     pub quiet: bool,
+    /// Number of faults of a file that are shown, if it is asked for; 0 is all.
+    pub max_faults: Option<usize>,
     /// Globs of files and folders that are left out.
     pub excluded: Vec<&'a [u8]>,
     /// Globs of files that are read besides those that are read anyway.
@@ -108,11 +115,64 @@ fn is_valued(word: &[u8]) -> bool
         || begins_with(word, "--explain=")
 }
 
+/// Whether all bytes are decimal digits.
+fn are_digits(text: &[u8]) -> bool
+    ensures { result ≡ list_all is_ascii_digit text.now }
+{
+    for byte in text {
+        if !byte.is_ascii_digit() {
+            return false;
+        }
+    }
+    true
+}
+
+/// Whether a text is a number in decimal digits.
+fn is_number(text: &[u8]) -> bool
+    ensures { result ≡ spec.is_number text.now }
+{
+    text.len() > 0 && are_digits(text)
+}
+
+/// The number that decimal digits write, but at most `usize::MAX`.
+fn number(digits: &[u8]) -> usize
+    ensures { result ≡ spec.number digits.now }
+{
+    let mut number: usize = 0;
+    for byte in digits {
+        number = number
+            .saturating_mul(10)
+            .saturating_add(usize::from(byte.saturating_sub(b'0')));
+    }
+    number
+}
+
+/// Whether a word is this option, which ends with `=`, with a number.
+fn has_number(word: &[u8], option: &str) -> bool
+    ensures { result ≡ spec.has_number option.now word.now }
+{
+    begins_with(word, option) && is_number(&word[option.len()..])
+}
+
+/// Whether a word is an option with a number.
+fn is_numbered(word: &[u8]) -> bool
+    ensures { result ≡ spec.is_numbered word.now }
+{
+    has_number(word, MAX_FAULTS)
+}
+
+/// Number of faults of a file that are shown, if words ask for it; 0 is all.
+fn max_faults(words: &[Vec<u8>]) -> Option<usize>
+    ensures { result ≡ spec.max_faults (map (λ word. word.items) words.now) }
+{
+    first_value(words, MAX_FAULTS).map(|digits| number(digits))
+}
+
 /// Whether a word is an option that the program doesn't have.
 fn is_unknown(word: &[u8]) -> bool
     ensures { result ≡ spec.is_unknown word.now }
 {
-    is_option(word) && !(is_flag(word) || is_format(word) || is_valued(word))
+    is_option(word) && !(is_flag(word) || is_format(word) || is_valued(word) || is_numbered(word))
 }
 
 /// Whether an option is among words.
@@ -231,6 +291,7 @@ fn wanted<'a>(alloc: Global, words: &'a Words) -> Result<Reports<'a>, AllocError
         check: has(leading, "--check"),
         format: format_of(leading),
         quiet: is_quiet(leading),
+        max_faults: max_faults(leading),
         excluded: values(alloc, leading, "--exclude=")?,
         included: values(alloc, leading, "--include=")?,
         lists: values(alloc, leading, "--files-from=")?,

@@ -4,14 +4,14 @@ use Rattle.std.specs.List.{AllByRecursion}
 use Rattle.starlark_base.specs.Places.{Text}
 use Rattle.starlark_tokens.specs.FileReports.{Giving, ReadSource, reports}
 use Rattle.starlark_tokens.specs.Totals.{totals_of}
-use Rattle.starlark_tokens.specs.declared.form.Form.{Form}
+use Rattle.starlark_tokens.specs.declared.form.Style.{Style}
 use Rattle.starlark_tokens.specs.declared.sources.Sources.{Sources}
 use Rattle.starlark_tokens.specs.declared.totals.Totals.{Totals}
 
 -- these are the totals and reports of all sources, each with the text that reading it gave, in order
-pub record AreCollected (gives : Giving) (form : Form) (sources : Sources) (totals : Totals) (collected : Text) : Type 0 where
+pub record AreCollected (gives : Giving) (style : Style) (sources : Sources) (totals : Totals) (collected : Text) : Type 0 where
   pub reads : List ReadSource
   pub each : map (λ read. read.source) reads ≡ sources.all.items
   pub given : AllByRecursion (λ read. gives read.source read.text) reads
   pub counted : totals ≡ totals_of sources.lost (map (λ read. read.text) reads)
-  pub written : collected ≡ reports form reads
+  pub written : collected ≡ reports style reads

@@ -10,9 +10,9 @@ pub record IsReady (reporter : Reporter) : Type 0 where
   pub here : IsPosition reporter.text.now reporter.here
   pub last_fault : IsPosition reporter.text.now reporter.last_fault
 
--- form, text and prefix are those of before
+-- style, text and prefix are those of before
 pub record Keeps (old new : Reporter) : Type 0 where
-  pub form : new.form ≡ old.form
+  pub style : new.style ≡ old.style
   pub text : new.text.now ≡ old.text.now
   pub prefix : string_bytes new.prefix ≡ string_bytes old.prefix
 

@@ -12,7 +12,7 @@ invariant-loop-item g l = record {
   ready : IsReady l.reporter;
   kept : Keeps l.fn.reporter l.reporter;
   source : l.lexer.text ≡ l.fn.reporter.text.now;
-  written : (done : Text) × Took g.W.WriteDevice.calls Going l.fn.writer l.writer done × (done ++ items_report l.fn.reporter.form (string_bytes l.fn.reporter.prefix) l.fn.reporter.text.now l.lexer.left ≡ items_report l.fn.reporter.form (string_bytes l.fn.reporter.prefix) l.fn.reporter.text.now l.fn.lexer.left);
+  written : (done : Text) × Took g.W.WriteDevice.calls Going l.fn.writer l.writer done × (done ++ items_report l.fn.reporter.style (string_bytes l.fn.reporter.prefix) l.fn.reporter.text.now (l.most - l.faults) l.lexer.left ≡ items_report l.fn.reporter.style (string_bytes l.fn.reporter.prefix) l.fn.reporter.text.now l.most l.fn.lexer.left);
   fits : l.faults ≤ 2 ^ 64 - 1;
   counted : min (l.faults + count_by is_fault l.lexer.left) (2 ^ 64 - 1) ≡ min (count_by is_fault l.fn.lexer.left) (2 ^ 64 - 1);
 }

@@ -21,4 +21,4 @@ no_token Sarif prefix begin end node is = refl
 
 pub returns-then-has_only_faults-clause-lines : goal.returns-then-has_only_faults-clause-lines
 returns-then-has_only_faults-clause-lines c =
-    c.clear.ensures.bytes ∙ sym (no_token c.args.self.now.form _ _ _ _ (sym c.has_only_faults.ensures ∙ c.if-has_only_faults.true))
+    c.clear.ensures.bytes ∙ sym (no_token c.args.self.now.style.form _ _ _ _ (sym c.has_only_faults.ensures ∙ c.if-has_only_faults.true))
