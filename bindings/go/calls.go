@@ -3,7 +3,7 @@
 package starlarklexer
 
 // Tokenize returns the tokens of a text. If the text has a fault, they are those before the first
-// one, which is the error: an *Error. Other errors are those of Scanner.Err.
+// one, which is the error: an *Error. With any other error, one of Scanner.Err, there are no tokens.
 func Tokenize(filename, src string) ([]Token, error) {
 	s := NewScanner(filename, src)
 	defer s.release()
@@ -11,6 +11,9 @@ func Tokenize(filename, src string) ([]Token, error) {
 	for !s.ended {
 		s.lexPiece()
 		tokens = s.piece.append(tokens, s.records)
+	}
+	if _, isFault := s.err.(*Error); s.err != nil && !isFault {
+		return nil, s.err
 	}
 	return tokens, s.err
 }
@@ -40,7 +43,7 @@ func Recover(filename, src string) ([]Token, error) {
 	tokens := make([]Token, 0, len(src)/6+16)
 	for !s.ended {
 		s.lexPiece()
-		if _, ok := s.err.(*Error); ok {
+		if _, isFault := s.err.(*Error); isFault {
 			return s.recoverRest(tokens)
 		}
 		tokens = s.piece.append(tokens, s.records)

@@ -50,7 +50,7 @@
 //
 // One call of C lexes some 64 KB. So the border to C is crossed a few times a text, not once a token.
 // A Token's Text and Value share the memory of the source where the value is in it byte for byte.
-// Values with escapes share one copy for each piece of some 64 KB.
+// Other values, as those with escapes, share copies of up to 16 KB.
 //
 // Functions may be called by any number of goroutines. A Scanner is used by one goroutine at a time.
 // A Document takes calls of any goroutine, one at a time.

@@ -31,11 +31,12 @@ type Change struct {
 // NewDocument lexes a text, and goes on after its faults. The error is a NotUTF8Error, ErrTooLong or
 // ErrMemory.
 func NewDocument(src string) (*Document, error) {
-	if err := check(src); err != nil {
-		return nil, err
-	}
 	d := new(Document)
-	if status := d.document.open(src); status != statusWhole {
+	switch status := d.document.open(src); status {
+	case statusWhole:
+	case statusNotUTF8:
+		return nil, NotUTF8Error(firstInvalid(src))
+	default:
 		return nil, statusError(status)
 	}
 	runtime.SetFinalizer(d, (*Document).Close)

@@ -5,7 +5,6 @@ package starlarklexer
 import (
 	"errors"
 	"fmt"
-	"math"
 	"unicode/utf8"
 )
 
@@ -74,17 +73,6 @@ func (l ErrorList) Err() error {
 		return nil
 	}
 	return l
-}
-
-// check returns why a text has no tokens, or nil if it may have some.
-func check(text string) error {
-	if uint64(len(text)) > math.MaxUint32 {
-		return ErrTooLong
-	}
-	if !utf8.ValidString(text) {
-		return NotUTF8Error(firstInvalid(text))
-	}
-	return nil
 }
 
 // firstInvalid returns the offset of the first byte that isn't UTF-8, or the length of the text.

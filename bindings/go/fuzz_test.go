@@ -37,8 +37,9 @@ func FuzzRecover(f *testing.F) {
 		tokens, err := starlarklexer.Tokenize("", src)
 		all, allErr := starlarklexer.Recover("", src)
 		if !utf8.ValidString(src) {
-			if _, ok := err.(starlarklexer.NotUTF8Error); !ok || err != allErr {
-				t.Fatalf("%q: %v, %v", src, err, allErr)
+			_, openErr := starlarklexer.NewDocument(src)
+			if _, ok := err.(starlarklexer.NotUTF8Error); !ok || err != allErr || err != openErr {
+				t.Fatalf("%q: %v, %v, %v", src, err, allErr, openErr)
 			}
 			return
 		}

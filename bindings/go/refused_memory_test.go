@@ -9,18 +9,7 @@ import (
 	"example.org/starlarklexer/internal/refusing"
 )
 
-// sameTokens reports whether tokens begin others.
-func sameTokens(got, want []starlarklexer.Token) bool {
-	for i := range got {
-		if i >= len(want) || got[i] != want[i] {
-			return false
-		}
-	}
-	return true
-}
-
-// Each allocation of a call is refused in turn: the call returns ErrMemory, with the first tokens of
-// the text or with none.
+// Each allocation of a call is refused in turn: the call returns ErrMemory and no tokens.
 func TestRefusedMemory(t *testing.T) {
 	refusals := 0
 	for _, src := range append(seeds, "x = 'a\nif y:\n  z = 01\n\n$\nf'{b!r} c' + \"\\q\nclass\nd(  # e\n") {
@@ -36,7 +25,7 @@ func TestRefusedMemory(t *testing.T) {
 				}
 				break
 			}
-			if err != starlarklexer.ErrMemory || !sameTokens(got, want) {
+			if err != starlarklexer.ErrMemory || got != nil {
 				t.Fatalf("%q: %d tokens and %v without allocation %d", src, len(got), err, number)
 			}
 			refusals++

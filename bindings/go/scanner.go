@@ -2,7 +2,10 @@
 
 package starlarklexer
 
-import "strings"
+import (
+	"math"
+	"strings"
+)
 
 const (
 	firstWindow = 1 << 16 // how many bytes one call of C lexes at first
@@ -26,9 +29,7 @@ type Scanner struct {
 	cursor  cursor
 }
 
-// NewScanner returns a scanner of a text. The filename is that of its positions.
-//
-// A text that isn't UTF-8, or has more than 4,294,967,295 bytes, has no tokens: Next returns false.
+// NewScanner returns a scanner of a text of UTF-8. The filename is that of its positions.
 func NewScanner(filename, src string) *Scanner {
 	return &Scanner{filename: filename, text: src, window: firstWindow, cursor: newCursor(src)}
 }
@@ -52,8 +53,12 @@ func (s *Scanner) Next() bool {
 // Token.
 func (s *Scanner) Token() Token { return s.token }
 
-// Err returns why Next returned false: nil at the end of the text, an *Error for its first fault, a
-// NotUTF8Error, ErrTooLong, or ErrMemory.
+// Err returns why Next returned false: nil at the end of the text, or else
+//
+//	*Error        its first fault, after the tokens before it
+//	NotUTF8Error  the text isn't UTF-8, wherever its first fault is; some tokens may come before
+//	ErrTooLong    the text has more than 4,294,967,295 bytes; no token comes before
+//	ErrMemory     C ran out of memory; some tokens may come before
 func (s *Scanner) Err() error { return s.err }
 
 // Position returns the position of an offset in the source. It panics if the source has no such
@@ -72,11 +77,11 @@ func (s *Scanner) release() {
 	}
 }
 
-// begin tests the text, and takes buffers.
+// begin tests the length of the text, and takes buffers.
 func (s *Scanner) begin() {
 	s.begun = true
-	if s.err = check(s.text); s.err != nil {
-		s.ended = true
+	if uint64(len(s.text)) > math.MaxUint32 {
+		s.ended, s.err = true, ErrTooLong
 		return
 	}
 	length := len(s.text)

@@ -5,6 +5,7 @@ package starlarklexer
 import (
 	"math/big"
 	"strconv"
+	"strings"
 )
 
 // A Token is a token of a text, with its place.
@@ -73,9 +74,13 @@ func (t Token) Quotes() Quotes {
 type piece struct {
 	text   string
 	begin  int    // offset of the part in the whole text
-	values []byte // the values, of which C wrote the records' offsets
-	copied string // of values, once a token needs it
+	values []byte // the values, in which the records' offsets count
+	copies strings.Builder
 }
+
+// Values that the text doesn't have share copies of up to so many bytes: fewer allocations than one
+// each, and less memory than a copy of all values.
+const copySize = 1 << 14
 
 // append adds the tokens of records to others.
 func (p *piece) append(tokens []Token, records []lexemeRecord) []Token {
@@ -116,8 +121,24 @@ func (p *piece) value(t *Token, begin, length int) string {
 			return text[end-length : end]
 		}
 	}
-	if p.copied == "" {
-		p.copied = string(p.values)
+	return p.copy(value, len(p.values)-begin)
+}
+
+// copy returns a copy of a value. What has been written into a strings.Builder never changes: so one
+// has several values, one after another. No more than some bytes of values are left to copy.
+func (p *piece) copy(value []byte, left int) string {
+	if p.copies.Cap()-p.copies.Len() < len(value) {
+		size := copySize
+		if left < size {
+			size = left
+		}
+		if size < len(value) {
+			size = len(value)
+		}
+		p.copies.Reset()
+		p.copies.Grow(size)
 	}
-	return p.copied[begin : begin+length]
+	begin := p.copies.Len()
+	p.copies.Write(value)
+	return p.copies.String()[begin:]
 }
