@@ -5,6 +5,7 @@ import (
 	"encoding/json"
 	"fmt"
 	"os"
+	"regexp"
 	"strconv"
 	"strings"
 	"testing"
@@ -33,7 +34,7 @@ func theirs(text string) ([]string, error) {
 func ours(text string) ([]string, error) {
 	var lines []string
 	s := starlarklexer.NewScanner("f", text)
-	lineHasToken := false
+	lineHasToken, blocks := false, 0
 	for s.Next() {
 		tok := s.Token()
 		value := ""
@@ -41,15 +42,18 @@ func ours(text string) ([]string, error) {
 		case starlarklexer.Comment:
 			continue
 		case starlarklexer.Newline:
-			if lineHasToken && tok.Text != "" {
+			// At the end of a text without an LF starlark-go has a newline only in a block.
+			if lineHasToken && (tok.Text != "" || blocks > 0) {
 				lines = append(lines, "newline")
 			}
 			lineHasToken = false
 			continue
 		case starlarklexer.Indent:
+			blocks++
 			lines = append(lines, "indent")
 			continue
 		case starlarklexer.Dedent:
+			blocks--
 			lines = append(lines, "outdent")
 			continue
 		case starlarklexer.String:
@@ -67,19 +71,36 @@ func ours(text string) ([]string, error) {
 	return lines, s.Err()
 }
 
-// firstDifference returns the lines where two lists begin to differ.
-func firstDifference(got, want []string) string {
-	for i := 0; i < len(got) || i < len(want); i++ {
-		switch {
-		case i >= len(got):
-			return "nothing, starlark-go " + want[i]
-		case i >= len(want):
-			return got[i] + ", starlark-go nothing"
-		case got[i] != want[i]:
-			return got[i] + ", starlark-go " + want[i]
+// A difference is where the tokens of a text begin to differ, and how both scanners ended.
+type difference struct {
+	text            string
+	got, want       string // a line of each list, or "" after its end
+	gotErr, wantErr error
+}
+
+// compare returns the first difference of a text; none has neither lines nor errors.
+func compare(text string) difference {
+	d := difference{text: text}
+	var got, want []string
+	got, d.gotErr = ours(text)
+	want, d.wantErr = theirs(text)
+	for i := 0; d.got == d.want && (i < len(got) || i < len(want)); i++ {
+		d.got, d.want = "", ""
+		if i < len(got) {
+			d.got = got[i]
+		}
+		if i < len(want) {
+			d.want = want[i]
 		}
 	}
-	return ""
+	if d.got == d.want {
+		d.got, d.want = "", ""
+	}
+	return d
+}
+
+func (d difference) isNone() bool {
+	return d.got == d.want && d.gotErr == nil && d.wantErr == nil
 }
 
 // TestMadeTexts: texts that both take have the same tokens, values, positions and blocks.
@@ -87,52 +108,92 @@ func TestMadeTexts(t *testing.T) {
 	tokens := 0
 	for seed := int64(1); seed <= 300; seed++ {
 		text := Text(seed, 4000)
-		want, err := theirs(text)
-		if err != nil {
-			t.Fatal(err)
+		if d := compare(text); !d.isNone() {
+			t.Fatalf("seed %d: %s, starlark-go %s; %v, %v", seed, d.got, d.want, d.gotErr, d.wantErr)
 		}
-		got, err := ours(text)
-		if err != nil {
-			t.Fatal(err)
-		}
-		if different := firstDifference(got, want); different != "" {
-			t.Fatalf("seed %d: %s", seed, different)
-		}
-		tokens += len(got)
+		lines, _ := ours(text)
+		tokens += len(lines)
 	}
 	t.Log(tokens, "tokens of 300 texts are the same")
 }
 
-// reason names the known difference that a text has, or "".
-func reason(text string, gotErr, wantErr error) string {
-	has := func(parts ...string) bool {
-		for _, part := range parts {
-			if strings.Contains(text, part) {
-				return true
-			}
-		}
-		return false
+// part returns the text and the value of a token in a line, or "" for another line.
+func part(line string) (raw, value string) {
+	_, quoted, _ := strings.Cut(line, " ")
+	prefix, err := strconv.QuotedPrefix(quoted)
+	if err != nil {
+		return "", ""
 	}
-	switch {
-	case has("\ufeff"):
-		return "a BOM"
-	case has("\t") && gotErr != nil && strings.Contains(gotErr.Error(), "tabs"):
-		return "a tab in code"
-	case has("assert"):
-		return "assert"
-	case has("\r"):
-		return "a CR"
-	case has(`\`):
-		return "a backslash"
-	case has("f'", `f"`, "b'", `b"`):
-		return "a bytes literal or an f-string"
-	case has("while", "..."):
-		return "while, or an ellipsis"
-	}
-	return ""
+	raw, _ = strconv.Unquote(prefix)
+	value, _ = strconv.Unquote(strings.TrimSpace(quoted[len(prefix):]))
+	return raw, value
 }
 
-// TestRandomTexts counts how the two differ on random texts, most of which have faults.
+// says reports whether an error has some words.
+func says(err error, words string) bool { return err != nil && strings.Contains(err.Error(), words) }
+
+var (
+	literal = regexp.MustCompile(`^(?:b|br|rb|f|fr|rf)['"]`)
+	prefix  = regexp.MustCompile(`^(?:b|br|rb|f|fr|rf)$`)
+
+	backslash = regexp.MustCompile(`(?m)^ *\\$`)
+)
+
+func isNumber(raw string) bool {
+	return strings.IndexAny(raw, "0123456789") == 0 || strings.IndexAny(raw, ".") == 0 && len(raw) > 1
+}
+
+// reasons are the known differences: the first that fits names one.
+var reasons = []struct {
+	name string
+	fits func(d difference, got, want string) bool
+}{
+	{"a bytes literal or an f-string is a name and a string there", func(d difference, got, want string) bool {
+		return literal.MatchString(got) || got == "" && prefix.MatchString(want)
+	}},
+	{"-> and ... are tokens here", func(d difference, got, want string) bool { return got == "->" || got == "..." }},
+	{"a reserved word is a fault here, and there a token, or for assert a name", func(d difference, got, want string) bool {
+		return d.got == "" && want != "" && says(d.gotErr, "cannot use reserved keyword `"+want+"`")
+	}},
+	{"a tab in code is a fault here", func(d difference, got, want string) bool {
+		return says(d.gotErr, "tabs are not allowed")
+	}},
+	{"a name that isn't ASCII is a fault here", func(d difference, got, want string) bool {
+		return says(d.gotErr, "invalid input") && strings.ContainsAny(want, "é日本")
+	}},
+	{"a closing bracket without its opening one is a fault there", func(d difference, got, want string) bool {
+		return len(got) == 1 && strings.Contains(")]}", got) && says(d.wantErr, "unexpected '"+got+"'")
+	}},
+	{"some escapes are faults there, and have a value here", func(d difference, got, want string) bool {
+		return strings.Contains(got, `\`) && d.want == "" && says(d.wantErr, "escape sequence")
+	}},
+	{"a backslash and a quote in a raw string are one character here", func(d difference, got, want string) bool {
+		return got == want && strings.HasPrefix(got, "r") && (strings.Contains(got, `\"`) || strings.Contains(got, `\'`))
+	}},
+	{"a number ends before a letter here", func(d difference, got, want string) bool {
+		return isNumber(got) && d.want == "" && says(d.wantErr, " literal")
+	}},
+	{"00 is a fault here", func(d difference, got, want string) bool {
+		return d.got == "" && isNumber(want) && says(d.gotErr, "cannot have leading 0, got `"+want+"`")
+	}},
+	{"escapes above \\x7F are characters here, and bytes there", func(d difference, got, want string) bool {
+		return got == want && (strings.Contains(got, `\x`) || strings.Contains(got, `\3`))
+	}},
+	{"a line of nothing but a backslash has a newline there", func(d difference, got, want string) bool {
+		return d.want == "newline" && backslash.MatchString(d.text)
+	}},
+	{"a bracket that stays open to the end of the text", func(d difference, got, want string) bool {
+		return d.got == "newline" && d.want == "outdent"
+	}},
+	{"a text that isn't UTF-8 has no tokens here", func(d difference, got, want string) bool {
+		_, ok := d.gotErr.(starlarklexer.NotUTF8Error)
+		return ok
+	}},
+	{"a NUL ends a text there", func(d difference, got, want string) bool { return strings.Contains(d.text, "\x00") }},
+}
+
+// TestRandomTexts names each difference on random texts, most of which have faults. CRs are left out:
+// here they are dropped in literals, and there they are LFs.
 func TestRandomTexts(t *testing.T) {
 	file := os.Getenv("STARLARK_RANDOM_TEXTS")
 	if file == "" {
@@ -149,25 +210,28 @@ func TestRandomTexts(t *testing.T) {
 			t.Fatal(err)
 		}
 		bytes, _ := hex.DecodeString(pair[0])
-		text := string(bytes)
-		want, wantErr := theirs(text)
-		got, gotErr := ours(text)
-		different := firstDifference(got, want)
-		switch {
-		case gotErr == nil && wantErr == nil && different == "":
-			counts["the same"]++
-		case gotErr != nil && wantErr != nil:
-			counts["a fault for both"]++
-		default:
-			why := reason(text, gotErr, wantErr)
-			if why == "" {
-				why = "another reason"
-				if counts[why] < 10 {
-					t.Logf("%q: %s; %v, starlark-go %v", text, different, gotErr, wantErr)
-				}
-			}
-			counts[why]++
+		counts[nameOf(t, compare(strings.ReplaceAll(string(bytes), "\r", "")))]++
+	}
+	for name, count := range counts {
+		t.Logf("%6d %s", count, name)
+	}
+}
+
+// nameOf returns the name of a difference. One without a name fails.
+func nameOf(t *testing.T, d difference) string {
+	if d.isNone() {
+		return "the same tokens"
+	}
+	got, _ := part(d.got)
+	want, _ := part(d.want)
+	for _, reason := range reasons {
+		if reason.fits(d, got, want) {
+			return reason.name
 		}
 	}
-	t.Log(counts)
+	if d.gotErr != nil && d.wantErr != nil && (d.got == "" || d.want == "") {
+		return "the same tokens before a fault for both"
+	}
+	t.Errorf("%q: %s, starlark-go %s; %v, starlark-go %v", d.text, d.got, d.want, d.gotErr, d.wantErr)
+	return "no known reason"
 }
