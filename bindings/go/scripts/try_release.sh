@@ -27,7 +27,7 @@ run() {
 }
 
 unzip -q "$module" -d proxy
-export GOFLAGS=-mod=mod GOPROXY="file://$PWD/proxy" GOSUMDB=off GOTOOLCHAIN=local GOWORK=off
+export GOFLAGS='-mod=mod -modcacherw' GOPROXY="file://$PWD/proxy" GOSUMDB=off GOTOOLCHAIN=local GOWORK=off
 export GOPATH="$PWD/gopath" GOCACHE="$PWD/cache"
 mkdir first second
 awk '/^```go$/ { inside = 1; next } /^```$/ { if (inside) exit } inside' "$page" >first/main.go
@@ -38,4 +38,3 @@ diff wanted printed >&2 || { cat said >&2 && exit 1; }
 [ -s wanted ] || { echo 'the page has no program' >&2 && exit 1; }
 cp "$top/release/try/main.go" second
 (cd second && run) || { cat said >&2 && exit 1; }
-chmod -R u+w gopath
