@@ -136,8 +136,11 @@ var (
 	literal = regexp.MustCompile(`^(?:b|br|rb|f|fr|rf)['"]`)
 	prefix  = regexp.MustCompile(`^(?:b|br|rb|f|fr|rf)$`)
 
+	prefixes  = regexp.MustCompile(`(?:br|rb|fr|rf|b|f)['"]`)
 	backslash = regexp.MustCompile(`(?m)^ *\\$`)
 )
+
+var leftOut = strings.NewReplacer("\r", "", "\x00", "")
 
 func isNumber(raw string) bool {
 	return strings.IndexAny(raw, "0123456789") == 0 || strings.IndexAny(raw, ".") == 0 && len(raw) > 1
@@ -189,11 +192,11 @@ var reasons = []struct {
 		_, ok := d.gotErr.(starlarklexer.NotUTF8Error)
 		return ok
 	}},
-	{"a NUL ends a text there", func(d difference, got, want string) bool { return strings.Contains(d.text, "\x00") }},
 }
 
-// TestRandomTexts names each difference on random texts, most of which have faults. CRs are left out:
-// here they are dropped in literals, and there they are LFs.
+// TestRandomTexts names each difference on random texts, most of which have faults. Some things
+// are left out, since they'd hide all else: CRs, which are dropped in literals here, and are LFs there;
+// NULs, which end a text there; and the prefixes of literals that starlark-go lacks.
 func TestRandomTexts(t *testing.T) {
 	file := os.Getenv("STARLARK_RANDOM_TEXTS")
 	if file == "" {
@@ -210,10 +213,16 @@ func TestRandomTexts(t *testing.T) {
 			t.Fatal(err)
 		}
 		bytes, _ := hex.DecodeString(pair[0])
-		counts[nameOf(t, compare(strings.ReplaceAll(string(bytes), "\r", "")))]++
+		text := prefixes.ReplaceAllStringFunc(leftOut.Replace(string(bytes)), func(opening string) string {
+			if strings.Contains(opening, "r") {
+				return "r" + opening[len(opening)-1:]
+			}
+			return opening[len(opening)-1:]
+		})
+		counts[nameOf(t, compare(text))]++
 	}
 	for name, count := range counts {
-		t.Logf("%6d %s", count, name)
+		t.Logf("%6d texts: %s", count, name)
 	}
 }
 
