@@ -34,6 +34,9 @@ type cursor struct {
 
 func newCursor(text string) cursor { return cursor{text: text, line: 1, col: 1} }
 
+// In parts of up to so many bytes a loop takes less time than calls that look at several at once.
+const shortPart = 48
+
 // move sets line and col to those of an offset. It panics if the text has no such offset.
 func (c *cursor) move(offset int) {
 	if offset < c.offset {
@@ -45,17 +48,22 @@ func (c *cursor) move(offset int) {
 	}
 	part := c.text[c.offset:offset]
 	c.offset = offset
-	if i := strings.LastIndexByte(part, '\n'); i >= 0 {
-		c.line += int32(strings.Count(part, "\n"))
-		c.col = 1
-		part = part[i+1:]
-	}
-	// Most parts are a few bytes of ASCII, for which a call of RuneCountInString takes longer.
-	for i := 0; i < len(part); i++ {
-		if part[i] >= utf8.RuneSelf {
-			c.col += int32(utf8.RuneCountInString(part[i:]))
-			return
+	if len(part) > shortPart {
+		if i := strings.LastIndexByte(part, '\n'); i >= 0 {
+			c.line += int32(strings.Count(part, "\n"))
+			c.col = 1
+			part = part[i+1:]
 		}
-		c.col++
+		c.col += int32(utf8.RuneCountInString(part))
+		return
+	}
+	for i := 0; i < len(part); i++ {
+		switch b := part[i]; {
+		case b == '\n':
+			c.line++
+			c.col = 1
+		case utf8.RuneStart(b):
+			c.col++
+		}
 	}
 }

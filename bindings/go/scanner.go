@@ -23,7 +23,8 @@ type Scanner struct {
 
 	buffers *buffers // from the first piece to the last
 	piece   piece
-	records []lexemeRecord // of the piece, those that are still to come
+	records []lexemeRecord // of the piece
+	next    int            // index of the record that Next moves to
 	rest    int            // offset of the next piece
 	token   Token
 	cursor  cursor
@@ -37,15 +38,15 @@ func NewScanner(filename, src string) *Scanner {
 // Next moves on to the next token, and reports whether there is one. Once it returns false it always
 // does.
 func (s *Scanner) Next() bool {
-	for len(s.records) == 0 {
+	for s.next == len(s.records) {
 		if s.ended {
 			s.release()
 			return false
 		}
 		s.lexPiece()
 	}
-	s.piece.set(&s.token, &s.records[0])
-	s.records = s.records[1:]
+	s.piece.set(&s.token, &s.records[s.next])
+	s.next++
 	return true
 }
 
@@ -73,7 +74,7 @@ func (s *Scanner) Position(offset int) Position {
 func (s *Scanner) release() {
 	if s.buffers != nil {
 		s.buffers.release()
-		s.buffers, s.piece = nil, piece{}
+		s.buffers, s.piece, s.records, s.next = nil, piece{}, nil, 0
 	}
 }
 
@@ -124,7 +125,7 @@ func (s *Scanner) lexPiece() {
 
 // take makes the lexemes of a call the piece that Next yields.
 func (s *Scanner) take(text string, outcome *lexOutcome) {
-	s.records = s.buffers.lexemes[:outcome.lexemes]
+	s.records, s.next = s.buffers.lexemes[:outcome.lexemes], 0
 	s.piece = piece{text: text, begin: s.rest, values: s.buffers.values[:outcome.values]}
 }
 

@@ -2,7 +2,7 @@
 # Tests the package for Go, where there is a go and a C compiler.
 #
 #     bindings/go/scripts/check.sh [test | compare | scanner | all]
-#     bindings/go/scripts/check.sh fuzz [SECONDS] | speed
+#     bindings/go/scripts/check.sh fuzz [SECONDS] | speed | windows FOLDER
 #
 # STARLARK_LEX_DIR names the folder with libstarlark_lex.a and starlark_lex.h; without it, it is
 # out/bindings, which `scripts/bindings.sh library` makes. The parts are
@@ -14,6 +14,7 @@
 #                starlarkgo/failing.txt says, and no other way
 #     fuzz       each fuzz target for some seconds (60)
 #     speed      both scanners on one text of 1 MB, or on that of the file SPEED_TEXT
+#     windows    the package's tests under wine, over the libstarlark_lex.a of a folder, by mingw's gcc
 #
 # Without an argument it is all of the first three. starlark-go is that of Debian's
 # golang-starlark-dev, or of the folder STARLARK_GO. What a missing tool leaves out is named.
@@ -145,7 +146,7 @@ compare() {
     gather_comparison
     write_random_texts
     (cd "$comparison" && go vet .)
-    run_tests "$comparison" -short
+    run_tests "$comparison" -run Texts
 }
 
 speed() {
@@ -191,11 +192,32 @@ fuzz() {
     done
 }
 
+# Runs the tests as a program for Windows, which wine runs.
+test_windows() {
+    for tool in x86_64-w64-mingw32-gcc wine winepath; do
+        command -v $tool >/dev/null || {
+            echo "Go: Windows was left out: there is no $tool"
+            return 0
+        }
+    done
+    cp "$1/libstarlark_lex.a" "$module/lib/windows_amd64"
+    (cd "$module" && GOOS=windows GOARCH=amd64 CC=x86_64-w64-mingw32-gcc go test -c -o "$made/tests.exe" .)
+    write_random_texts
+    (cd "$made" && STARLARK_STORED_TEXTS=$(winepath -w "$STARLARK_STORED_TEXTS") \
+        STARLARK_RANDOM_TEXTS=$(winepath -w "$STARLARK_RANDOM_TEXTS") \
+        wine ./tests.exe -test.v) >"$made/tests" 2>/dev/null || {
+        grep -v -e '^=== ' -e '^--- PASS' "$made/tests" >&2
+        return 1
+    }
+    sed -n 's/^ *[a-z_]*_test.go:[0-9]*: /Go, Windows: /p' "$made/tests"
+}
+
 part=${1:-all}
 case $part in
 test | compare | scanner | fuzz | speed | all) ;;
+windows) [ $# = 2 ] || fail 'windows wants the folder of the library' ;;
 *)
-    echo 'usage: check.sh [test | compare | scanner | all | fuzz [SECONDS] | speed]' >&2
+    echo 'usage: check.sh [test | compare | scanner | all | fuzz [SECONDS] | speed | windows FOLDER]' >&2
     exit 2
     ;;
 esac
@@ -210,4 +232,5 @@ case $part in scanner | all) replace_scanner ;; esac
 case $part in
 fuzz) fuzz "${2:-60}" ;;
 speed) speed ;;
+windows) test_windows "$2" ;;
 esac

@@ -24,7 +24,7 @@ func TestSpeed(t *testing.T) {
 	}
 	text := speedText(nil)
 	least := map[string]time.Duration{}
-	for turn := 0; turn < 15; turn++ {
+	for turn := 0; turn < 40; turn++ {
 		for name, run := range runs {
 			begun := processorTime()
 			const times = 4

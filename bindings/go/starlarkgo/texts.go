@@ -26,7 +26,7 @@ func (m *maker) name() string {
 // sentence returns some words.
 func (m *maker) sentence() string {
 	sentence := m.name()
-	for n := 3 + m.dice.Intn(8); n > 0; n-- {
+	for n := 6 + m.dice.Intn(8); n > 0; n-- {
 		sentence += " " + words[m.dice.Intn(len(words))]
 	}
 	return sentence
@@ -53,13 +53,20 @@ func (m *maker) rule() {
 	for n := m.dice.Intn(6); n >= 0; n-- {
 		fmt.Fprintf(&m.text, "        %s,\n", m.literal())
 	}
-	fmt.Fprintf(&m.text, "    ],  # %s\n    deps = [%s, %s],\n)\n\n# %s\n", m.sentence(), m.literal(), m.literal(), m.sentence())
+	fmt.Fprintf(&m.text, "    ],  # %s\n    deps = [%s, %s],\n)\n\n", m.sentence(), m.literal(), m.literal())
+	for n := m.dice.Intn(3); n > 0; n-- {
+		fmt.Fprintf(&m.text, "# %s\n", m.sentence())
+	}
 }
 
 // function adds a function as in a .bzl file.
 func (m *maker) function() {
 	fmt.Fprintf(&m.text, "def %s(ctx, %s = %s, *args, **kwargs):\n", m.name(), m.name(), m.literal())
-	fmt.Fprintf(&m.text, "    \"\"\"The %s.\n\n    Args:\n      %s: %s.\n    \"\"\"\n", m.sentence(), m.name(), m.sentence())
+	fmt.Fprintf(&m.text, "    \"\"\"The %s.\n\n    Args:\n", m.sentence())
+	for n := m.dice.Intn(6); n >= 0; n-- {
+		fmt.Fprintf(&m.text, "      %s: %s,\n        %s.\n", m.name(), m.sentence(), m.sentence())
+	}
+	m.text.WriteString("    \"\"\"\n")
 	for n := m.dice.Intn(5); n >= 0; n-- {
 		a, b, c := m.name(), m.name(), m.name()
 		fmt.Fprintf(&m.text, "    for %s in %s.%s[1:-1]:\n        if %s != %s and not (%s or %s in {%s: %s}):\n", a, b, c, a, m.literal(), b, c, a, m.literal())
@@ -69,7 +76,7 @@ func (m *maker) function() {
 	fmt.Fprintf(&m.text, "    return struct(%s = lambda x: x // %s)\n\n", m.name(), m.literal())
 }
 
-// Text returns a text of about so many bytes: rules and functions as in real files.
+// Text returns a text of about so many bytes: rules and functions, with comments and docstrings.
 func Text(seed int64, length int) string {
 	m := &maker{dice: rand.New(rand.NewSource(seed))}
 	m.text.WriteString("# Made for a comparison.\nload(\"//a:b.bzl\", \"c\", d = \"e\")\n\n")
