@@ -7,7 +7,7 @@ package starlarklexer
 func Tokenize(filename, src string) ([]Token, error) {
 	s := NewScanner(filename, src)
 	defer s.release()
-	tokens := make([]Token, 0, len(src)/6+16)
+	tokens := tokensOf(len(src))
 	for !s.ended {
 		s.lexPiece()
 		tokens = s.piece.append(tokens, s.records)
@@ -16,6 +16,17 @@ func Tokenize(filename, src string) ([]Token, error) {
 		return nil, s.err
 	}
 	return tokens, s.err
+}
+
+// tokensOf returns a slice with room for the tokens of most texts of a length, or for the first ones of
+// a long text.
+func tokensOf(length int) []Token {
+	const most = 1 << 18
+	capacity := length/6 + 16
+	if capacity > most {
+		capacity = most
+	}
+	return make([]Token, 0, capacity)
 }
 
 // Tokens returns a function that yields the tokens of a text, each with a nil error, and last the
@@ -40,7 +51,7 @@ func Tokens(filename, src string) func(yield func(Token, error) bool) {
 func Recover(filename, src string) ([]Token, error) {
 	s := NewScanner(filename, src)
 	defer s.release()
-	tokens := make([]Token, 0, len(src)/6+16)
+	tokens := tokensOf(len(src))
 	for !s.ended {
 		s.lexPiece()
 		if _, isFault := s.err.(*Error); isFault {
@@ -59,7 +70,12 @@ func Recover(filename, src string) ([]Token, error) {
 // matters.
 func (s *Scanner) recoverRest(tokens []Token) ([]Token, error) {
 	text, b := s.text[s.rest:], s.buffers
-	b.grow(len(text)/4+16, len(text)+16, 16)
+	// What is enough for most texts. Of a longer one a first call tells how much it needs.
+	room := len(text)
+	if room > 1<<22 {
+		room = 1 << 22
+	}
+	b.grow(room/4+16, room+16, 16)
 	b.fill(func() { b.recover(text) })
 	if b.recovered.status != statusWhole {
 		return nil, statusError(b.recovered.status)

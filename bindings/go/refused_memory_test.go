@@ -4,6 +4,7 @@ package starlarklexer_test
 
 import (
 	"testing"
+	"unsafe"
 
 	"example.org/starlarklexer"
 	"example.org/starlarklexer/internal/refusing"
@@ -105,4 +106,25 @@ func refuseEdit(t *testing.T, src, part string) (refusals int) {
 			return refusals
 		}
 	}
+}
+
+// A text of 4 GB that nothing reads or writes, so that it takes no memory.
+func TestTooLong(t *testing.T) {
+	bytes := make([]byte, 1<<32)
+	src := *(*string)(unsafe.Pointer(&bytes))
+	if tokens, err := starlarklexer.Tokenize("", src); err != starlarklexer.ErrTooLong || tokens != nil {
+		t.Error("Tokenize:", err)
+	}
+	if tokens, err := starlarklexer.Recover("", src); err != starlarklexer.ErrTooLong || tokens != nil {
+		t.Error("Recover:", err)
+	}
+	if _, err := starlarklexer.NewDocument(src); err != starlarklexer.ErrTooLong {
+		t.Error("NewDocument:", err)
+	}
+	d := open(t, "x")
+	defer d.Close()
+	if _, err := d.Edit(0, 0, src); err != starlarklexer.ErrTooLong {
+		t.Error("Edit:", err)
+	}
+	compareDocument(t, d, "x")
 }

@@ -117,7 +117,7 @@ test_package() {
     lint
     write_random_texts
     run_tests "$module" -race
-    CGO_LDFLAGS_ALLOW='-Wl,--wrap=.*' run_tests "$module" -tags refused_memory -run RefusedMemory
+    CGO_LDFLAGS_ALLOW='-Wl,--wrap=.*' run_tests "$module" -tags refused_memory -run 'RefusedMemory|TooLong'
     if has_sanitizer; then
         run_tests "$module" -asan -run 'Pieces|WithFaults|Document|Fuzz' >/dev/null
         echo 'Go: the tests passed with the address sanitizer'
