@@ -45,7 +45,8 @@ gather() {
 
 # Writes random texts, with what the plain lexer finds in them.
 write_random_texts() {
-    python3 "$top/bindings/web/tests/random_texts.py" 20000 1 >"$made/random_texts"
+    [ -f "$made/random_texts" ] ||
+        python3 "$top/bindings/web/tests/random_texts.py" 20000 1 >"$made/random_texts"
     STARLARK_RANDOM_TEXTS="$made/random_texts"
     STARLARK_STORED_TEXTS="$top/crates/starlark_rows"
     export STARLARK_RANDOM_TEXTS STARLARK_STORED_TEXTS
