@@ -38,7 +38,6 @@ link_libraries() {
 compare_numbers() {
     if command -v python3 >/dev/null; then
         python3 "$top/scripts/binding_numbers.py"
-        python3 "$top/bindings/go/scripts/kinds.py"
     fi
 }
 

@@ -10,8 +10,8 @@
 #     starlark-lex-VERSION-TARGET-linux.tar.gz        for C, with the programs
 #     libstarlark-lex0_.. libstarlark-lex-dev_.. starlark-tokens_...deb
 #     starlark_lexer-VERSION.crate                    for Rust, with the libraries of all targets
-#     starlark_lexer-VERSION-...whl, starlark_lexer-VERSION.tar.gz  for Python
 #     starlarklexer-go-VERSION.zip                    for Go, with the libraries of all targets
+#     starlark_lexer-VERSION-...whl, starlark_lexer-VERSION.tar.gz  for Python
 #     PROVED.txt                                      what was proved, and by what
 #     SHA256SUMS
 #
@@ -194,8 +194,8 @@ for target in $targets; do
 done
 has dpkg-deb || leave_out 'the Debian packages: there is no dpkg-deb'
 make_crate
-make_wheels
 bindings/go/scripts/release.sh "$work" "$targets" "$output"
+make_wheels
 if [ -x bindings/web/release.sh ]; then bindings/web/release.sh "$output"; fi
 (cd "$output" && LC_ALL=C sha256sum -- * >"$work/sums" && mv "$work/sums" SHA256SUMS)
 echo "release $version: $(wc -l <"$output/SHA256SUMS") files in out/release"

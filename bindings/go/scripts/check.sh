@@ -64,7 +64,6 @@ run_tests() {
 }
 
 lint() {
-    python3 "$package/scripts/kinds.py"
     unformatted=$(gofmt -l "$package")
     [ -z "$unformatted" ] || fail "gofmt lays out otherwise: $unformatted"
     (cd "$module" && go vet ./...)
@@ -222,6 +221,7 @@ windows) [ $# = 2 ] || fail 'windows wants the folder of the library' ;;
     exit 2
     ;;
 esac
+if command -v python3 >/dev/null; then python3 "$package/scripts/kinds.py"; fi
 if ! command -v go >/dev/null || ! command -v "${CC:-cc}" >/dev/null; then
     echo 'Go was left out: there is no go, or no C compiler'
     exit 0
