@@ -1,7 +1,7 @@
 #!/bin/sh
 # Makes the lexer's library for C, Rust, Python and browsers, and tests it from each.
 #
-#     scripts/bindings.sh [c | rust | python | web | library]
+#     scripts/bindings.sh [c | rust | python | go | web | library]
 #
 # It lets scripts/bindings/build_archive.py prove and build the archive of crates/starlark_c, where that is
 # missing or older than a source. Then out/bindings has
@@ -11,8 +11,9 @@
 #     web/                                                        for browsers and Node
 #
 # and the tests of the part that is named, or of all, were run; of `library` none. The crate for
-# Rust is built where it is, in bindings/rust, with the archive. Where there is no C compiler with
-# its binary tools, no cargo, or no python3, it says what was left out.
+# Rust is built where it is, in bindings/rust, with the archive, the package for Go in
+# out/bindings/go. Where there is no C compiler with its binary tools, no cargo, no python3 or no go,
+# it says what was left out.
 set -eu
 
 top=$(CDPATH='' cd -- "$(dirname -- "$0")/.." && pwd)
@@ -147,16 +148,16 @@ test_python() {
 
 part=${1:-all}
 case $part in
-c | rust | python | library | all) ;;
+c | rust | python | go | library | all) ;;
 web) exec "$top/scripts/web.sh" ;;
 *)
-    echo 'usage: scripts/bindings.sh [c | rust | python | web | library]' >&2
+    echo 'usage: scripts/bindings.sh [c | rust | python | go | web | library]' >&2
     exit 2
     ;;
 esac
 command -v rt >/dev/null || fail "the Rattle kit's rt is not on the path"
 if ! cc=$(compiler) || ! command -v objcopy >/dev/null; then
-    echo 'C, Rust and Python were left out: there is no C compiler with its binary tools'
+    echo 'C, Rust, Python and Go were left out: there is no C compiler with its binary tools'
     case $part in all) exec "$top/scripts/web.sh" ;; esac
     exit 0
 fi
@@ -165,5 +166,6 @@ link_libraries
 case $part in c | all) test_c ;; esac
 case $part in rust | all) test_rust ;; esac
 case $part in python | all) test_python ;; esac
-case $part in rust | python | all) compare_numbers ;; esac
+case $part in go | all) "$top/bindings/go/scripts/check.sh" ;; esac
+case $part in rust | python | go | all) compare_numbers ;; esac
 case $part in all) "$top/scripts/web.sh" ;; esac

@@ -3,7 +3,7 @@
 
     scripts/checks/version.py
 
-These are the library's call, the header, the crate for Rust, the packages for Python and npm, what
+These are the library's call, the header, the crate for Rust, the packages for Python, Go and npm, what
 both programs print for `--version`, and the top entry of CHANGELOG.md. A package for npm that isn't
 there is left out. The exit status is 0 where all agree, and 1 where some don't.
 """
@@ -25,6 +25,7 @@ PLACES = [
     ("bindings/c/starlark_lex.h", HEADER, True),
     ("bindings/rust/Cargo.toml", [r'(?m)^version = "(.*)"$'], True),
     ("bindings/python/starlark_lexer/__init__.py", [r'(?m)^__version__ = "(.*)"$'], True),
+    ("bindings/go/doc.go", [r'(?m)^const Version = "(.*)"$'], True),
     ("bindings/web/package.json", [r'"version": "(.*?)"'], False),
     ("crates/starlark_tokens/src/main.rt", PROGRAM, True),
     ("crates/starlark_tokens/src/rules.rt", SARIF, False),

@@ -10,6 +10,7 @@
 #     starlark-lex-VERSION-TARGET-linux.tar.gz        for C, with the programs
 #     libstarlark-lex0_.. libstarlark-lex-dev_.. starlark-tokens_...deb
 #     starlark_lexer-VERSION.crate                    for Rust, with the libraries of all targets
+#     starlarklexer-go-VERSION.zip                    for Go, with the libraries of all targets
 #     starlark_lexer-VERSION-...whl, starlark_lexer-VERSION.tar.gz  for Python
 #     starlark-conformance-VERSION.tar.gz             the conformance suite, for any lexer
 #     PROVED.txt                                      what was proved, and by what
@@ -194,6 +195,7 @@ for target in $targets; do
 done
 has dpkg-deb || leave_out 'the Debian packages: there is no dpkg-deb'
 make_crate
+bindings/go/scripts/release.sh "$work" "$targets" "$output"
 make_wheels
 conformance/making/install.sh "$work/archives/starlark-conformance-$version"
 pack "$work/archives" "starlark-conformance-$version"

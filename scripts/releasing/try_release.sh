@@ -172,6 +172,11 @@ try_sdist() {
     print_by_python
 }
 
+# Takes the module for Go from a proxy of files.
+try_go() {
+    clean "$top/bindings/go/scripts/try_release.sh" "$release" <"$sample"
+}
+
 # Installs the Debian packages into a root of their own.
 install_debs() {
     needs dpkg
@@ -246,6 +251,7 @@ try 'C++ by CMake, shared' try_cmake_shared
 try 'Rust, a crate of its own, offline' try_crate
 try 'Python, the wheel in a virtual environment' try_wheel
 try 'Python, the sdist over the archive' try_sdist
+try 'Go, the module from a proxy of files' try_go
 try 'Debian, starlark_lex in a root of its own' try_deb_program
 try 'Debian, C by pkg-config in that root' try_deb_library
 try 'ARM, C, static, under qemu' try_arm .a

@@ -9,7 +9,7 @@ from shared.programs import TOP
 
 SPAN = r"`([^`\n]+)`"
 NAME = re.compile(r"[A-Za-z_]\w*")
-SOURCES = {".rt", ".antt", ".py", ".sh", ".rs", ".c", ".h", ".toml", ".js", ".mjs", ".ts", ".html", ".yml"}
+SOURCES = {".rt", ".antt", ".py", ".sh", ".rs", ".c", ".h", ".toml", ".go", ".js", ".mjs", ".ts", ".html", ".yml"}
 
 
 @functools.cache
