@@ -1,4 +1,4 @@
-//! Ranges of characters by their width on a terminal, of Unicode 14.0.0. Made by `scripts/character_widths.py`.
+//! Ranges of characters by their width on a terminal, of Unicode 14.0.0. Made by `scripts/checks/character_widths.py`.
 
 /// Characters that take no column, since they combine with the one before them.
 pub const COMBINING: &[(char, char)] = &[

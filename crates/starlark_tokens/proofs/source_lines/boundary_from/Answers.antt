@@ -1,4 +1,4 @@
-use Rattle.starlark_tokens.proofs.Boundaries.{boundary_is, first_boundary}
+use Rattle.starlark_tokens.proofs.CharacterBoundaries.{boundary_is, first_boundary}
 use Rattle.starlark_tokens.proofs.source_lines.boundary_from.Goals as goal
 
 pub returns-clause-value : goal.returns-clause-value
