@@ -9,7 +9,11 @@ const FOLDER: &str = "STARLARK_LEX_DIR";
 const ARCHIVE: &str = "libstarlark_lex.a";
 
 /// The targets of which a released crate has the library.
-const TARGETS: [&str; 2] = ["x86_64-unknown-linux-gnu", "aarch64-unknown-linux-gnu"];
+const TARGETS: [&str; 3] = [
+    "x86_64-unknown-linux-gnu",
+    "aarch64-unknown-linux-gnu",
+    "x86_64-pc-windows-gnu",
+];
 
 fn main() {
     println!("cargo:rerun-if-env-changed={FOLDER}");
@@ -40,7 +44,7 @@ fn fail(missing: &str) -> ! {
     eprintln!(
         "starlark_lexer: there is no {missing}; the released crate has the library for {}, and {FOLDER} \
          may name a folder with {ARCHIVE} for another target",
-        TARGETS.join(" and ")
+        TARGETS.join(", ")
     );
     exit(1);
 }
