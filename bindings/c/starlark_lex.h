@@ -165,8 +165,7 @@ enum starlark_status {
     STARLARK_STATUS_MEMORY = 5,   /* malloc or realloc returned NULL */
     STARLARK_STATUS_BAD_RANGE = 6, /* two offsets aren't in order, or one isn't a character boundary
                                       of the document */
-    STARLARK_STATUS_CLOSED = 7,   /* no document is open */
-    STARLARK_STATUS_OPENED = 8    /* a document is open already */
+    STARLARK_STATUS_CLOSED = 7    /* the document is NULL */
 };
 
 /* A lexeme: 32 bytes without padding. */
@@ -239,17 +238,10 @@ typedef struct starlark_text_place {
     size_t utf16_column; /* how many units of UTF-16 these take */
 } starlark_text_place;
 
-/* A text that stays lexed while it is edited. Zero it before its first call:
- *
- *     starlark_document document = {0};
- *
- * It holds no document then; starlark_document_open opens one in it, and starlark_document_close
- * frees it. The caller owns the struct, and neither writes to it nor uses a copy of it. One thread
- * at a time may call with it. */
-typedef struct starlark_document {
-    void *inner;
-    bool is_full;
-} starlark_document;
+/* A text that stays lexed while it is edited. starlark_document_open makes one, which
+ * starlark_document_close frees. One thread at a time may call with it. With NULL each call says that
+ * no document is open. */
+typedef struct starlark_document starlark_document;
 
 /* What an edit of a document changed. Before `begin` and after the ends all lexemes and faults are
  * the old ones; those after are moved by new_end - old_end. */
@@ -276,7 +268,6 @@ STARLARK_LEX_ASSERT(sizeof(starlark_outcome) == 72);
 STARLARK_LEX_ASSERT(sizeof(starlark_found_fault) == 40);
 STARLARK_LEX_ASSERT(sizeof(starlark_recovered) == 64);
 STARLARK_LEX_ASSERT(sizeof(starlark_text_place) == 24);
-STARLARK_LEX_ASSERT(sizeof(starlark_document) == 16);
 STARLARK_LEX_ASSERT(sizeof(starlark_change) == 48);
 #undef STARLARK_LEX_ASSERT
 
@@ -416,19 +407,24 @@ STARLARK_LEX_API
 bool starlark_move_place(const uint8_t *text, size_t text_len, size_t from, size_t to,
                          starlark_text_place *place);
 
-/* Writes the name of a kind, such as "Identifier", if there is room for it, without a terminating
- * zero. Returns its length in bytes, which is 0 for a number that no kind has. */
+/* Returns the name of a kind, such as "Identifier"; NULL for a number that no kind has. This string,
+ * and those of the calls below, are the library's, and stay. */
 STARLARK_LEX_API
-size_t starlark_kind_name(uint32_t kind, uint8_t *name, size_t name_cap);
+const char *starlark_kind_name(uint32_t kind);
 
 /* Returns the class of a kind, an enum starlark_class; 0 for a number that no kind has. */
 STARLARK_LEX_API
 uint32_t starlark_kind_class(uint32_t kind);
 
-/* Writes the code of a fault, such as "SL008", if there is room for it, without a terminating zero.
- * Returns its length in bytes, which is 0 for a number that no fault has. A code never changes. */
+/* Returns the code of a fault, such as "SL008"; NULL for a number that no fault has. A code never
+ * changes. */
 STARLARK_LEX_API
-size_t starlark_fault_code(uint32_t kind, uint8_t *code, size_t code_cap);
+const char *starlark_fault_code(uint32_t kind);
+
+/* Returns what a status means, such as "the bytes are not UTF-8"; NULL for a number that no status
+ * has. */
+STARLARK_LEX_API
+const char *starlark_status_text(uint32_t status);
 
 /* Writes the message of a fault, if there is room for it, without a terminating zero. `named` is
  * the text that the fault names. Returns the message's length in bytes, which is 0 for a number
@@ -440,13 +436,13 @@ size_t starlark_fault_message(uint32_t kind, const uint8_t *named, size_t named_
 /* What starlark_document_offset_at_utf16 returns where there is no offset. */
 #define STARLARK_NO_OFFSET SIZE_MAX
 
-/* Opens a document of a text, lexes it, and returns a status.
+/* Returns a new document of a text, which it lexes, and says in *status how that ended.
  *
- * With STARLARK_STATUS_WHOLE the document has this text. With any other status *document is as it
- * was: STARLARK_STATUS_OPENED where it has a document already, STARLARK_STATUS_NOT_UTF8,
- * STARLARK_STATUS_TOO_LONG or STARLARK_STATUS_MEMORY. */
+ * With STARLARK_STATUS_WHOLE the document has this text. Else it returns NULL, and the status is
+ * STARLARK_STATUS_NOT_UTF8, STARLARK_STATUS_TOO_LONG or STARLARK_STATUS_MEMORY. `status` may be
+ * NULL. */
 STARLARK_LEX_API
-uint32_t starlark_document_open(starlark_document *document, const uint8_t *text, size_t text_len);
+starlark_document *starlark_document_open(const uint8_t *text, size_t text_len, uint32_t *status);
 
 /* Replaces the bytes from `begin` to `end` by a text, lexes what that touches, and returns a status.
  *
@@ -471,7 +467,7 @@ uint32_t starlark_document_edit(starlark_document *document, size_t begin, size_
  * After an edit the lexemes that touched the old range of its change are to be replaced by those
  * that touch the new one. */
 STARLARK_LEX_API
-uint32_t starlark_document_lexemes(starlark_document *document, size_t begin, size_t end,
+uint32_t starlark_document_lexemes(const starlark_document *document, size_t begin, size_t end,
                                    starlark_lexeme *lexemes, size_t lexemes_cap,
                                    uint8_t *values, size_t values_cap,
                                    starlark_recovered *outcome);
@@ -480,7 +476,7 @@ uint32_t starlark_document_lexemes(starlark_document *document, size_t begin, si
  * name, one after another, and a record for each. All else is as of starlark_document_lexemes. In
  * the records `lexemes_before` is 0. */
 STARLARK_LEX_API
-uint32_t starlark_document_faults(starlark_document *document, size_t begin, size_t end,
+uint32_t starlark_document_faults(const starlark_document *document, size_t begin, size_t end,
                                   uint8_t *values, size_t values_cap,
                                   starlark_found_fault *faults, size_t faults_cap,
                                   starlark_recovered *outcome);
@@ -491,25 +487,27 @@ uint32_t starlark_document_faults(starlark_document *document, size_t begin, siz
  * STARLARK_STATUS_FULL where it has no room, STARLARK_STATUS_BAD_RANGE, STARLARK_STATUS_MEMORY or
  * STARLARK_STATUS_CLOSED. */
 STARLARK_LEX_API
-uint32_t starlark_document_text(starlark_document *document, size_t begin, size_t end,
+uint32_t starlark_document_text(const starlark_document *document, size_t begin, size_t end,
                                 uint8_t *text, size_t text_cap);
 
-/* Returns the length of the text in bytes; 0 where no document is open. */
+/* Returns the length of the text in bytes; 0 of NULL. */
 STARLARK_LEX_API
-size_t starlark_document_len(starlark_document *document);
+size_t starlark_document_len(const starlark_document *document);
 
 /* Tells the line and columns of an offset in *place, and returns true. Where the offset is no
- * character boundary of the text, or no document is open, it returns false, and *place is as it
+ * character boundary of the text, or the document is NULL, it returns false, and *place is as it
  * was. It reads one segment of the text, of some 1 to 4 KB. */
 STARLARK_LEX_API
-bool starlark_document_place(starlark_document *document, size_t at, starlark_text_place *place);
+bool starlark_document_place(const starlark_document *document, size_t at,
+                             starlark_text_place *place);
 
 /* Returns the offset of a line and a column in units of UTF-16, both from 0, or STARLARK_NO_OFFSET
- * where no character boundary is there, or no document is open. */
+ * where no character boundary is there, or the document is NULL. */
 STARLARK_LEX_API
-size_t starlark_document_offset_at_utf16(starlark_document *document, size_t line, size_t column);
+size_t starlark_document_offset_at_utf16(const starlark_document *document, size_t line,
+                                         size_t column);
 
-/* Frees the document, if one is open. Then *document holds none, and may be opened again. */
+/* Frees a document. NULL is none. */
 STARLARK_LEX_API
 void starlark_document_close(starlark_document *document);
 

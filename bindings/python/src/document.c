@@ -8,7 +8,7 @@
 typedef struct document_object {
     PyObject_HEAD
     PyObject *module;
-    starlark_document document;
+    starlark_document *document; /* NULL where it is closed */
 } document_object;
 
 /* What touches a range of a document, as a piece of the lines that it is on. */
@@ -39,15 +39,15 @@ static PyObject *refuse(uint32_t status)
 
 static starlark_document *document_of(PyObject *self)
 {
-    return &((document_object *)self)->document;
+    return ((document_object *)self)->document;
 }
 
 /* Whether a document is open. Sets ValueError if not. */
 static bool is_open(PyObject *self)
 {
-    if (!document_of(self)->is_full)
+    if (document_of(self) == NULL)
         refuse(STARLARK_STATUS_CLOSED);
-    return document_of(self)->is_full;
+    return document_of(self) != NULL;
 }
 
 static void document_dealloc(PyObject *self)
@@ -67,7 +67,7 @@ static int open_text(document_object *made, PyObject *source)
     int is_text = text_open(&opened, source);
     if (is_text == 0) {
         Py_BEGIN_ALLOW_THREADS
-        status = starlark_document_open(&made->document, opened.start, opened.len);
+        made->document = starlark_document_open(opened.start, opened.len, &status);
         Py_END_ALLOW_THREADS
         if (status != STARLARK_STATUS_WHOLE)
             refuse(status);
@@ -337,6 +337,7 @@ static Py_ssize_t document_len(PyObject *self)
 static PyObject *document_close(PyObject *self, PyObject *Py_UNUSED(none))
 {
     starlark_document_close(document_of(self));
+    ((document_object *)self)->document = NULL;
     Py_RETURN_NONE;
 }
 

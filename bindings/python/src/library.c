@@ -160,12 +160,11 @@ static PyObject *library_lex_columns(PyObject *module, PyObject *arguments, PyOb
 
 static PyObject *library_kind_name(PyObject *Py_UNUSED(module), PyObject *kind)
 {
-    uint8_t name[64];
     unsigned long number = PyLong_AsUnsignedLong(kind);
     if (number == (unsigned long)-1 && PyErr_Occurred())
         return NULL;
-    return str_of(
-        name, number > UINT32_MAX ? 0 : starlark_kind_name((uint32_t)number, name, sizeof name));
+    const char *name = number > UINT32_MAX ? NULL : starlark_kind_name((uint32_t)number);
+    return PyUnicode_FromString(name == NULL ? "" : name);
 }
 
 static PyObject *library_kind_class(PyObject *Py_UNUSED(module), PyObject *kind)
@@ -178,12 +177,11 @@ static PyObject *library_kind_class(PyObject *Py_UNUSED(module), PyObject *kind)
 
 static PyObject *library_fault_code(PyObject *Py_UNUSED(module), PyObject *kind)
 {
-    uint8_t code[16];
     unsigned long number = PyLong_AsUnsignedLong(kind);
     if (number == (unsigned long)-1 && PyErr_Occurred())
         return NULL;
-    return str_of(
-        code, number > UINT32_MAX ? 0 : starlark_fault_code((uint32_t)number, code, sizeof code));
+    const char *code = number > UINT32_MAX ? NULL : starlark_fault_code((uint32_t)number);
+    return PyUnicode_FromString(code == NULL ? "" : code);
 }
 
 static PyObject *library_version(PyObject *Py_UNUSED(module), PyObject *Py_UNUSED(none))
