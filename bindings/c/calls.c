@@ -5,7 +5,9 @@
  * the library is linked, the name of each proved call gets `proved_` before it. */
 #include "starlark_lex.h"
 
-#include <stdlib.h>
+/* For macOS this is compiled without the headers of C. */
+void *malloc(size_t size);
+void free(void *block);
 
 /* A document as the proved calls take it: a slot, which is free where it is zeroed. They read and
  * write a slot in each call, so calls that only read a document are given a copy of its slot. */

@@ -263,30 +263,46 @@ try_windows_static() {
 
 # Prints the tokens over the DLL, which CMake finds.
 try_windows_dll() {
-    needs cmake make x86_64-w64-mingw32-g++
+    needs cmake make
     unpack_windows
     mkdir source
-    sed "s/@VERSION@/$version/" "$top/release/try/CMakeLists.txt" >source/CMakeLists.txt
-    cp "$top/release/try/tokens.cpp" source
+    cat >source/CMakeLists.txt <<END
+cmake_minimum_required(VERSION 3.13)
+project(try_starlark_lex C)
+find_package(starlark_lex $version REQUIRED)
+add_executable(shared print_tokens.c)
+target_link_libraries(shared starlark_lex::starlark_lex)
+END
     cp "$archive/share/doc/starlark-lex/examples/print_tokens.c" source
     clean cmake -S source -B build -DCMAKE_SYSTEM_NAME=Windows -DCMAKE_PREFIX_PATH="$archive" \
-        -DCMAKE_C_COMPILER=x86_64-w64-mingw32-gcc -DCMAKE_CXX_COMPILER=x86_64-w64-mingw32-g++ \
-        -DCMAKE_FIND_ROOT_PATH_MODE_PACKAGE=BOTH -DCMAKE_EXE_LINKER_FLAGS=-static-libstdc++ >&2
+        -DCMAKE_C_COMPILER=x86_64-w64-mingw32-gcc >&2
     clean cmake --build build >&2
     cp "$archive"/bin/*.dll build
     run_windows build/shared.exe <"$sample"
 }
 
-# Builds the crate's program for Windows, by a rustc that has its library.
+# Prints the first rustc, that of the path or the system's, that can build the crate for a target.
+rustc_for() {
+    least=$(sed -n 's/^rust-version = "\(.*\)"/\1/p' "$top/bindings/rust/Cargo.toml")
+    for name in rustc /usr/bin/rustc; do
+        folder=$(clean "$name" --print target-libdir --target "$1" 2>/dev/null) || continue
+        found=$(clean "$name" --version | cut -d ' ' -f 2)
+        if [ -d "$folder" ] && printf '%s\n%s\n' "$least" "$found" | sort -CV; then
+            echo "$name"
+            return 0
+        fi
+    done
+    echo "no rustc from $least on has the library of $1" >&2
+    return 1
+}
+
+# Builds the crate's program for Windows.
 try_windows_crate() {
     needs cargo x86_64-w64-mingw32-gcc wine
     triple=x86_64-pc-windows-gnu
-    [ -d "$(clean rustc --print target-libdir --target "$triple")" ] || {
-        echo "rustc has no library for $triple" >&2
-        exit 3
-    }
+    compiler=$(rustc_for "$triple") || exit 3
     make_tool
-    clean cargo build --offline --quiet --target "$triple" || return 1
+    clean env RUSTC="$compiler" cargo build --offline --quiet --target "$triple" || return 1
     run_windows "target/$triple/debug/tool.exe" <"$sample"
 }
 
@@ -347,7 +363,7 @@ try 'ARM, C, static, under qemu' try_arm .a
 try 'ARM, C, shared, under qemu' try_arm .so
 try 'x86-64 without v2, C, under qemu' try_baseline
 try 'Windows, C, static and its tests, under wine' try_windows_static
-try 'Windows, C++ by CMake, the DLL, under wine' try_windows_dll
+try 'Windows, C by CMake, the DLL, under wine' try_windows_dll
 try 'Windows, Rust, under wine' try_windows_crate
 try 'Node, the package for npm' try_npm
 lint_debs
