@@ -93,14 +93,38 @@ test_c() {
     "$made/refused_documents"
 }
 
-# Lints the crate for Rust, where clippy and rustfmt are there.
+# Lints the crate for Rust and its documentation, where clippy and rustfmt are there.
 lint_rust() {
     if cargo clippy --version >/dev/null 2>&1; then
         cargo clippy --offline --quiet --all-targets -- -D warnings
+        RUSTDOCFLAGS='-D warnings' cargo doc --offline --quiet --no-deps
     fi
     if cargo fmt --version >/dev/null 2>&1; then
         cargo fmt --check
     fi
+}
+
+# Calls Debian's cargo.
+debians_cargo() {
+    env PATH="/usr/bin:$PATH" CARGO_TARGET_DIR="$made/cargo_debian" cargo "$@"
+}
+
+# Tests the crate by the oldest Rust that it takes, where Debian's is that one, and checks it for other
+# targets, of which the crate has no library. That Rust lays out a lexeme with a word more.
+test_oldest_rust() {
+    oldest=$(sed -n 's/^rust-version = "\(.*\)"/\1/p' Cargo.toml)
+    case $(/usr/bin/rustc --version 2>/dev/null) in
+    "rustc $oldest".*) ;;
+    *)
+        echo "Rust $oldest was left out: Debian's is not there, or another one"
+        return 0
+        ;;
+    esac
+    debians_cargo test --offline --quiet --lib -- --skip a_lexeme_has_five_words
+    for target in x86_64-pc-windows-gnu wasm32-unknown-unknown; do
+        [ ! -d "/usr/lib/rustlib/$target" ] ||
+            (unset STARLARK_LEX_DIR && debians_cargo check --offline --quiet --target "$target")
+    done
 }
 
 test_rust() {
@@ -116,6 +140,7 @@ test_rust() {
     cd "$top/bindings/rust"
     cargo test --offline --quiet
     lint_rust
+    test_oldest_rust
     cd "$top"
     echo 'Rust: the tests of the crate passed'
 }

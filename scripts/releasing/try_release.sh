@@ -116,8 +116,8 @@ try_cmake_static() {
     clean build/static <"$sample"
 }
 
-# Makes a crate of its own over the released one, by a cargo and a rustc.
-try_crate() {
+# Makes a crate of its own over the released one, with features of it.
+make_tool() {
     needs cargo cc
     crate="$release/starlark_lexer-$version.crate"
     [ -f "$crate" ] || { echo 'there is no crate' >&2 && exit 3; }
@@ -131,10 +131,26 @@ version = "0.1.0"
 edition = "2021"
 
 [dependencies]
-starlark_lexer = { path = "../starlark_lexer-$version" }
+starlark_lexer = { path = "../starlark_lexer-$version", features = [${1:-}] }
 END
+}
+
+# Runs it by a cargo and a rustc.
+try_crate() {
+    make_tool
     cd tool || exit 1
     clean cargo run --offline --quiet <"$sample"
+}
+
+# The same over the shared library of the archive.
+try_crate_over_system() {
+    needs pkg-config
+    unpack x86_64
+    make_tool '"system"'
+    cd tool || exit 1
+    clean env PKG_CONFIG_PATH="$archive/lib/pkgconfig" LD_LIBRARY_PATH="$archive/lib" \
+        cargo run --offline --quiet <"$sample" || return 1
+    readelf -d target/debug/tool | grep -q 'NEEDED.*libstarlark_lex\.so'
 }
 
 # Installs the wheel into a new virtual environment, in which nothing else is.
@@ -249,6 +265,7 @@ try 'C by pkg-config, shared' try_pkg_config
 try 'C by CMake, static' try_cmake_static
 try 'C++ by CMake, shared' try_cmake_shared
 try 'Rust, a crate of its own, offline' try_crate
+try 'Rust over the shared library, by pkg-config' try_crate_over_system
 try 'Python, the wheel in a virtual environment' try_wheel
 try 'Python, the sdist over the archive' try_sdist
 try 'Go, the module from a proxy of files' try_go
