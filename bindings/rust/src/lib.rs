@@ -40,6 +40,7 @@
 #![warn(missing_docs)]
 
 mod document;
+mod document_lexemes;
 mod fault;
 #[allow(unsafe_code)]
 mod ffi;
@@ -53,7 +54,8 @@ mod span;
 mod token;
 mod value;
 
-pub use crate::document::{Change, Document, DocumentFaults, DocumentLexemes, EditError};
+pub use crate::document::{Change, Document, DocumentFaults, EditError};
+pub use crate::document_lexemes::{DocumentLexemes, DocumentLexemesIter};
 pub use crate::fault::{Fault, FaultKind, TooLong};
 pub use crate::lexeme::Lexeme;
 pub use crate::lexer::Lexer;
