@@ -62,16 +62,29 @@ compile() {
         "$cc" $flags -I "$made" $inputs -o "$made/$1"
 }
 
+# Prints a program in C++17 that compiles where no call of the header may throw.
+program_of_calls() {
+    echo '#include "starlark_lex.h"'
+    echo 'template <class R, class... A> constexpr bool no_throw(R (*)(A...) noexcept) { return true; }'
+    sed -n 's/^[a-z].*[ *]\(starlark_[a-z_0-9]*\)(.*/static_assert(no_throw(\1));/p' "$1"
+}
+
 # Compiles the header by itself as C of three standards, and as C++ where the compiler takes it.
 compile_header() {
     header="$made/starlark_lex.h"
+    flags='-Wall -Wextra -Wpedantic -Wconversion -Wsign-conversion -Werror -fsyntax-only'
     for standard in c99 c11 c17; do
-        "$cc" -std=$standard -Wall -Wextra -Wpedantic -Werror -fsyntax-only -x c "$header"
+        # shellcheck disable=SC2086
+        "$cc" -std=$standard $flags -x c "$header"
     done
     echo 'int main() {}' | "$cc" -x c++ -fsyntax-only - 2>/dev/null || return 0
-    for standard in c++98 c++11 c++17; do
-        "$cc" -std=$standard -Wall -Wextra -Werror -fsyntax-only -x c++ "$header"
+    for standard in c++98 c++11 c++14 c++17 c++20; do
+        # shellcheck disable=SC2086
+        "$cc" -std=$standard $flags -Wold-style-cast -x c++ "$header"
     done
+    # shellcheck disable=SC2086
+    "$cc" -std=c++11 $flags -Wold-style-cast -I "$made" "$top/release/try/tokens.cpp"
+    program_of_calls "$header" | "$cc" -std=c++17 -fsyntax-only -I "$made" -x c++ -
 }
 
 test_c() {

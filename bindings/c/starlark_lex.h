@@ -30,6 +30,13 @@
 #include <stddef.h>
 #include <stdint.h>
 
+/* No call throws. */
+#if defined(__cplusplus) && __cplusplus >= 201103L
+#define STARLARK_LEX_NOEXCEPT noexcept
+#else
+#define STARLARK_LEX_NOEXCEPT
+#endif
+
 #ifdef __cplusplus
 extern "C" {
 #endif
@@ -234,7 +241,7 @@ typedef struct starlark_text_place {
 
 /* A text that stays lexed while it is edited. Zero it before its first call:
  *
- *     starlark_document document = {0};
+ *     starlark_document document = {0};    // {} in C++
  *
  * It holds no document then; starlark_document_open opens one in it, and starlark_document_close
  * frees it. The caller owns the struct, and neither writes to it nor uses a copy of it. One thread
@@ -274,7 +281,7 @@ STARLARK_LEX_ASSERT(sizeof(starlark_change) == 48);
 #undef STARLARK_LEX_ASSERT
 
 /* The version of the library, as STARLARK_LEX_VERSION has that of the header. */
-uint32_t starlark_lex_version(void);
+uint32_t starlark_lex_version(void) STARLARK_LEX_NOEXCEPT;
 
 /* Lexes a text into two buffers, says in *outcome how that ended, and returns its status.
  *
@@ -294,7 +301,7 @@ uint32_t starlark_lex_version(void);
 uint32_t starlark_lex(const uint8_t *text, size_t text_len,
                       starlark_lexeme *lexemes, size_t lexemes_cap,
                       uint8_t *values, size_t values_cap,
-                      starlark_outcome *outcome);
+                      starlark_outcome *outcome) STARLARK_LEX_NOEXCEPT;
 
 /* Lexes the front of a longer text up to the last offset in it where the lexer finds that the text
  * may be cut. Does all else as starlark_lex with the front.
@@ -312,12 +319,13 @@ uint32_t starlark_lex(const uint8_t *text, size_t text_len,
 uint32_t starlark_lex_front(const uint8_t *front, size_t front_len,
                             starlark_lexeme *lexemes, size_t lexemes_cap,
                             uint8_t *values, size_t values_cap,
-                            starlark_outcome *outcome);
+                            starlark_outcome *outcome) STARLARK_LEX_NOEXCEPT;
 
 /* Returns whether the fault of a front, which ends at an offset, is final: then it and all lexemes
  * before it are those of the longer text, whatever follows the front. It is final where the front
  * goes on after it, and ends with an LF. Give a longer front where it isn't. */
-bool starlark_fault_is_final(const uint8_t *front, size_t front_len, uint32_t fault_end);
+bool starlark_fault_is_final(const uint8_t *front, size_t front_len,
+                             uint32_t fault_end) STARLARK_LEX_NOEXCEPT;
 
 /* Lexes a whole text, on after each of its faults, into three buffers. Says in *outcome how that
  * ended, and returns its status.
@@ -344,7 +352,7 @@ uint32_t starlark_lex_recovering(const uint8_t *text, size_t text_len,
                                  starlark_lexeme *lexemes, size_t lexemes_cap,
                                  uint8_t *values, size_t values_cap,
                                  starlark_found_fault *faults, size_t faults_cap,
-                                 starlark_recovered *outcome);
+                                 starlark_recovered *outcome) STARLARK_LEX_NOEXCEPT;
 
 /* What starlark_restart returns where no fault of the text has the numbers. */
 #define STARLARK_NO_RESTART SIZE_MAX
@@ -378,12 +386,14 @@ uint32_t starlark_lex_recovering(const uint8_t *text, size_t text_len,
  * times. starlark_lex_recovering reads the text once, and finds more: it goes on within the line
  * after a fault that keeps its line. */
 size_t starlark_restart(const uint8_t *text, size_t text_len,
-                        uint32_t fault_begin, uint32_t fault_end, uint32_t fault_kind);
+                        uint32_t fault_begin, uint32_t fault_end,
+                        uint32_t fault_kind) STARLARK_LEX_NOEXCEPT;
 
 /* Tells the line and columns of an offset in *place, and returns true. Where the offset is past the
  * end of the text, or the text up to it is not UTF-8, as inside a character, it returns false, and
  * *place is as it was. It reads the text up to the offset. */
-bool starlark_place(const uint8_t *text, size_t text_len, size_t at, starlark_text_place *place);
+bool starlark_place(const uint8_t *text, size_t text_len, size_t at,
+                    starlark_text_place *place) STARLARK_LEX_NOEXCEPT;
 
 /* Moves *place from one offset of a text to a later one, and returns true. It has to be the place
  * of the first offset, and is then what starlark_place tells of the later one. Where the offsets
@@ -399,24 +409,24 @@ bool starlark_place(const uint8_t *text, size_t text_len, size_t at, starlark_te
  *         show(&lexemes[index], &place);
  *     } */
 bool starlark_move_place(const uint8_t *text, size_t text_len, size_t from, size_t to,
-                         starlark_text_place *place);
+                         starlark_text_place *place) STARLARK_LEX_NOEXCEPT;
 
 /* Writes the name of a kind, such as "Identifier", if there is room for it, without a terminating
  * zero. Returns its length in bytes, which is 0 for a number that no kind has. */
-size_t starlark_kind_name(uint32_t kind, uint8_t *name, size_t name_cap);
+size_t starlark_kind_name(uint32_t kind, uint8_t *name, size_t name_cap) STARLARK_LEX_NOEXCEPT;
 
 /* Returns the class of a kind, an enum starlark_class; 0 for a number that no kind has. */
-uint32_t starlark_kind_class(uint32_t kind);
+uint32_t starlark_kind_class(uint32_t kind) STARLARK_LEX_NOEXCEPT;
 
 /* Writes the code of a fault, such as "SL008", if there is room for it, without a terminating zero.
  * Returns its length in bytes, which is 0 for a number that no fault has. A code never changes. */
-size_t starlark_fault_code(uint32_t kind, uint8_t *code, size_t code_cap);
+size_t starlark_fault_code(uint32_t kind, uint8_t *code, size_t code_cap) STARLARK_LEX_NOEXCEPT;
 
 /* Writes the message of a fault, if there is room for it, without a terminating zero. `named` is
  * the text that the fault names. Returns the message's length in bytes, which is 0 for a number
  * that no fault has. */
 size_t starlark_fault_message(uint32_t kind, const uint8_t *named, size_t named_len,
-                              uint8_t *message, size_t message_cap);
+                              uint8_t *message, size_t message_cap) STARLARK_LEX_NOEXCEPT;
 
 /* What starlark_document_offset_at_utf16 returns where there is no offset. */
 #define STARLARK_NO_OFFSET SIZE_MAX
@@ -426,7 +436,8 @@ size_t starlark_fault_message(uint32_t kind, const uint8_t *named, size_t named_
  * With STARLARK_STATUS_WHOLE the document has this text. With any other status *document is as it
  * was: STARLARK_STATUS_OPENED where it has a document already, STARLARK_STATUS_NOT_UTF8,
  * STARLARK_STATUS_TOO_LONG or STARLARK_STATUS_MEMORY. */
-uint32_t starlark_document_open(starlark_document *document, const uint8_t *text, size_t text_len);
+uint32_t starlark_document_open(starlark_document *document, const uint8_t *text,
+                                size_t text_len) STARLARK_LEX_NOEXCEPT;
 
 /* Replaces the bytes from `begin` to `end` by a text, lexes what that touches, and returns a status.
  *
@@ -435,7 +446,8 @@ uint32_t starlark_document_open(starlark_document *document, const uint8_t *text
  * bytes are not, STARLARK_STATUS_BAD_RANGE, STARLARK_STATUS_TOO_LONG where the text would have more
  * than 4294967295 bytes, or STARLARK_STATUS_MEMORY. */
 uint32_t starlark_document_edit(starlark_document *document, size_t begin, size_t end,
-                                const uint8_t *text, size_t text_len, starlark_change *change);
+                                const uint8_t *text, size_t text_len,
+                                starlark_change *change) STARLARK_LEX_NOEXCEPT;
 
 /* Fills two buffers with the lexemes that touch the range from `begin` to `end`, says in *outcome
  * how that ended, and returns its status. A lexeme touches it that ends at `begin` or later, and
@@ -452,7 +464,7 @@ uint32_t starlark_document_edit(starlark_document *document, size_t begin, size_
 uint32_t starlark_document_lexemes(starlark_document *document, size_t begin, size_t end,
                                    starlark_lexeme *lexemes, size_t lexemes_cap,
                                    uint8_t *values, size_t values_cap,
-                                   starlark_recovered *outcome);
+                                   starlark_recovered *outcome) STARLARK_LEX_NOEXCEPT;
 
 /* Fills two buffers with the faults that touch the range from `begin` to `end`: the texts that they
  * name, one after another, and a record for each. All else is as of starlark_document_lexemes. In
@@ -460,7 +472,7 @@ uint32_t starlark_document_lexemes(starlark_document *document, size_t begin, si
 uint32_t starlark_document_faults(starlark_document *document, size_t begin, size_t end,
                                   uint8_t *values, size_t values_cap,
                                   starlark_found_fault *faults, size_t faults_cap,
-                                  starlark_recovered *outcome);
+                                  starlark_recovered *outcome) STARLARK_LEX_NOEXCEPT;
 
 /* Writes the bytes from `begin` to `end` into a buffer, and returns a status.
  *
@@ -468,25 +480,29 @@ uint32_t starlark_document_faults(starlark_document *document, size_t begin, siz
  * STARLARK_STATUS_FULL where it has no room, STARLARK_STATUS_BAD_RANGE, STARLARK_STATUS_MEMORY or
  * STARLARK_STATUS_CLOSED. */
 uint32_t starlark_document_text(starlark_document *document, size_t begin, size_t end,
-                                uint8_t *text, size_t text_cap);
+                                uint8_t *text, size_t text_cap) STARLARK_LEX_NOEXCEPT;
 
 /* Returns the length of the text in bytes; 0 where no document is open. */
-size_t starlark_document_len(starlark_document *document);
+size_t starlark_document_len(starlark_document *document) STARLARK_LEX_NOEXCEPT;
 
 /* Tells the line and columns of an offset in *place, and returns true. Where the offset is no
  * character boundary of the text, or no document is open, it returns false, and *place is as it
  * was. It reads one segment of the text, of some 1 to 4 KB. */
-bool starlark_document_place(starlark_document *document, size_t at, starlark_text_place *place);
+bool starlark_document_place(starlark_document *document, size_t at,
+                             starlark_text_place *place) STARLARK_LEX_NOEXCEPT;
 
 /* Returns the offset of a line and a column in units of UTF-16, both from 0, or STARLARK_NO_OFFSET
  * where no character boundary is there, or no document is open. */
-size_t starlark_document_offset_at_utf16(starlark_document *document, size_t line, size_t column);
+size_t starlark_document_offset_at_utf16(starlark_document *document, size_t line,
+                                         size_t column) STARLARK_LEX_NOEXCEPT;
 
 /* Frees the document, if one is open. Then *document holds none, and may be opened again. */
-void starlark_document_close(starlark_document *document);
+void starlark_document_close(starlark_document *document) STARLARK_LEX_NOEXCEPT;
 
 #ifdef __cplusplus
 }
 #endif
+
+#undef STARLARK_LEX_NOEXCEPT
 
 #endif

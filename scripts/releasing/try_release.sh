@@ -100,8 +100,7 @@ build_by_cmake() {
     unpack x86_64
     mkdir source
     sed "s/@VERSION@/$version/" "$top/release/try/CMakeLists.txt" >source/CMakeLists.txt
-    cp "$top/release/try/tokens.cpp" source
-    cp "$archive/share/doc/starlark-lex/examples/print_tokens.c" source
+    cp "$archive/share/doc/starlark-lex/examples/"* source
     clean cmake -S source -B build -DCMAKE_PREFIX_PATH="$archive" >&2
     clean cmake --build build >&2
 }
