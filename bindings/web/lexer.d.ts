@@ -129,10 +129,10 @@ export type Value = string | number | bigint | Uint8Array | undefined;
 /** The place of a token or a fault in its text. Offsets count from 0; an end is the offset after it. */
 export interface Span {
     /** Offset in units of UTF-16, as of `String.prototype.slice`. */
-    readonly start: number;
+    readonly begin: number;
     readonly end: number;
     /** Offset in bytes of UTF-8. */
-    readonly startByte: number;
+    readonly beginByte: number;
     readonly endByte: number;
 }
 
@@ -154,9 +154,9 @@ export interface Tokens extends Iterable<Token> {
     at(index: number): Token | undefined;
     kind(index: number): Kind;
     kindClass(index: number): KindClass;
-    start(index: number): number;
+    begin(index: number): number;
     end(index: number): number;
-    startByte(index: number): number;
+    beginByte(index: number): number;
     endByte(index: number): number;
     value(index: number): Value;
 }

@@ -63,9 +63,9 @@ export class Token {
 
     constructor(tokens, index) {
         this.kind = tokens.kind(index);
-        this.start = tokens.start(index);
+        this.begin = tokens.begin(index);
         this.end = tokens.end(index);
-        this.startByte = tokens.startByte(index);
+        this.beginByte = tokens.beginByte(index);
         this.endByte = tokens.endByte(index);
         this.#tokens = tokens;
         this.#index = index;
@@ -119,7 +119,7 @@ export class Tokens {
         return this.#names.classes[this.#number(index)];
     }
 
-    start(index) {
+    begin(index) {
         return this.#units ? this.#units[2 * index] : this.#words[8 * index];
     }
 
@@ -127,7 +127,7 @@ export class Tokens {
         return this.#units ? this.#units[2 * index + 1] : this.#words[8 * index + 1];
     }
 
-    startByte(index) {
+    beginByte(index) {
         return this.#words[8 * index];
     }
 
@@ -425,15 +425,15 @@ class Call {
 
     // A fault of which the memory has kind, begin and end, and from `named` on the text that it names.
     #fault(told, named, tokensBefore, values) {
-        const [number, startByte, endByte] = [0, 4, 8].map((field) => told.getUint32(field, true));
-        const [begin, length] = [named, named + 8].map((field) => Number(told.getBigUint64(field, true)));
+        const [number, beginByte, endByte] = [0, 4, 8].map((field) => told.getUint32(field, true));
+        const [namedAt, length] = [named, named + 8].map((field) => Number(told.getBigUint64(field, true)));
         return {
             code: this.#names.codes[number],
             kind: FAULT_KINDS[number],
-            message: this.#message(number, { at: values.at + begin, length }),
-            start: this.#units ? this.#units.before(startByte) : startByte,
+            message: this.#message(number, { at: values.at + namedAt, length }),
+            begin: this.#units ? this.#units.before(beginByte) : beginByte,
             end: this.#units ? this.#units.before(endByte) : endByte,
-            startByte,
+            beginByte,
             endByte,
             tokensBefore,
         };

@@ -81,7 +81,7 @@ test("each stored text has one result up to its first fault", () => {
 
 test("a token has its kind, its spans and its value", () => {
     const token = lex("x = 'ä🔬\\n'\n").tokens.at(2);
-    assert.deepEqual({ ...token }, { kind: "String", start: 4, end: 11, startByte: 4, endByte: 14 });
+    assert.deepEqual({ ...token }, { kind: "String", begin: 4, end: 11, beginByte: 4, endByte: 14 });
     assert.equal(token.value, "ä🔬\n");
     assert.equal(lex("x").tokens.at(2), undefined);
     assert.equal(lex("x").tokens.at(-1), undefined);
@@ -135,7 +135,7 @@ test("values are decoded", () => {
 test("offsets count units of UTF-16", () => {
     const text = "a = '🔬🔬' + '汉' # é\nb = '\u{10ffff}' ?";
     const { tokens, faults: found } = lex(text);
-    const written = [...Array.from(tokens), ...found].map(({ start, end }) => text.slice(start, end));
+    const written = [...Array.from(tokens), ...found].map(({ begin, end }) => text.slice(begin, end));
     assert.deepEqual(written, ["a", "=", "'🔬🔬'", "+", "'汉'", "# é", "\n", "b", "=", "'\u{10ffff}'", "?"]);
 });
 
@@ -144,7 +144,7 @@ test("a lone surrogate is lexed as U+FFFD", () => {
         const text = `a = '${lone}' + b`;
         const { tokens } = lex(text);
         assert.equal(tokens.at(2).value, "\ufffd");
-        assert.deepEqual({ ...tokens.at(4) }, { kind: "Identifier", start: 10, end: 11, startByte: 12, endByte: 13 });
+        assert.deepEqual({ ...tokens.at(4) }, { kind: "Identifier", begin: 10, end: 11, beginByte: 12, endByte: 13 });
         assert.equal(linesOf(new TextEncoder().encode(text), lex(text)), linesOf(new TextEncoder().encode(text), lex(new TextEncoder().encode(text))));
     }
     assert.equal(lex("\ud800").faults[0].message, "Parse error: invalid input `\ufffd`");
@@ -157,15 +157,15 @@ test("a fault has its code, its kind, its message and its place", () => {
         code: "SL008",
         kind: "StartsZero",
         message: "Parse error: integer cannot have leading 0, got `01`",
-        start: 15,
+        begin: 15,
         end: 17,
-        startByte: 18,
+        beginByte: 18,
         endByte: 20,
         tokensBefore: 6,
     });
     const kinds = ["InvalidInput", "StartsZero", "UnfinishedStringLiteral", "InvalidEscapeSequence", "ReservedKeyword"];
     assert.deepEqual(found.map((fault) => fault.kind), kinds);
-    assert.equal(text.slice(found[4].start, found[4].end), "class");
+    assert.equal(text.slice(found[4].begin, found[4].end), "class");
 });
 
 test("faults are named as in the header", () => {
@@ -208,10 +208,10 @@ test("what is no text is refused", () => {
 
 test("a result stays as it is after later calls", () => {
     const first = lex("a = 'b' # é");
-    const before = Array.from(first.tokens, (token) => [token.kind, token.start, token.value]);
+    const before = Array.from(first.tokens, (token) => [token.kind, token.begin, token.value]);
     lex("some other text = 'with other values'");
     lexRecovering("x = 1\n".repeat(1000));
-    assert.deepEqual(Array.from(first.tokens, (token) => [token.kind, token.start, token.value]), before);
+    assert.deepEqual(Array.from(first.tokens, (token) => [token.kind, token.begin, token.value]), before);
 });
 
 test("texts of any density have room", () => {
