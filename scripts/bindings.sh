@@ -18,7 +18,7 @@ set -eu
 
 top=$(CDPATH='' cd -- "$(dirname -- "$0")/.." && pwd)
 crate="$top/crates/starlark_c"
-archive="$crate/out/libstarlark_c.a"
+module="$crate/out/starlark_c.bc"
 made="$top/out/bindings"
 stored="$top/crates/starlark_rows"
 
@@ -29,8 +29,7 @@ fail() {
 
 # Makes the static and the shared library.
 link_libraries() {
-    kit=$(dirname "$(rt doc)")
-    CC=$cc "$top/scripts/bindings/link_library.sh" '' "$archive" "$kit/c/liblibc_c.a" "$made"
+    CC=$cc "$top/scripts/bindings/link_library.sh" x86_64-linux "$module" "$made"
 }
 
 # Compares the numbers that cross to the header, the crate and the package, where there is a

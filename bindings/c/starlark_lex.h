@@ -11,7 +11,8 @@
  * Offsets and lengths count bytes, from 0. Texts are UTF-8 and have no terminating zero; a zero
  * byte is a character like others.
  *
- * The library is built for x86-64-v2 or 64-bit ARM, with the GNU C library 2.17 or later.
+ * The library is built for x86-64 and 64-bit ARM, on Linux with the GNU C library 2.17 or later or
+ * with musl, and for x86-64 on Windows. For the DLL define STARLARK_LEX_SHARED before this header.
  */
 #ifndef STARLARK_LEX_H
 #define STARLARK_LEX_H
@@ -29,6 +30,12 @@
 #include <stdbool.h>
 #include <stddef.h>
 #include <stdint.h>
+
+#if defined(_WIN32) && defined(STARLARK_LEX_SHARED)
+#define STARLARK_LEX_API __declspec(dllimport)
+#else
+#define STARLARK_LEX_API
+#endif
 
 /* No call throws. */
 #if defined(__cplusplus) && __cplusplus >= 201103L
@@ -281,6 +288,7 @@ STARLARK_LEX_ASSERT(sizeof(starlark_change) == 48);
 #undef STARLARK_LEX_ASSERT
 
 /* The version of the library, as STARLARK_LEX_VERSION has that of the header. */
+STARLARK_LEX_API
 uint32_t starlark_lex_version(void) STARLARK_LEX_NOEXCEPT;
 
 /* Lexes a text into two buffers, says in *outcome how that ended, and returns its status.
@@ -298,6 +306,7 @@ uint32_t starlark_lex_version(void) STARLARK_LEX_NOEXCEPT;
  *
  * A text of n bytes has at most 2n + 1 lexemes, and n bytes of values with the text that its fault
  * names. So buffers for these are never too small. */
+STARLARK_LEX_API
 uint32_t starlark_lex(const uint8_t *text, size_t text_len,
                       starlark_lexeme *lexemes, size_t lexemes_cap,
                       uint8_t *values, size_t values_cap,
@@ -316,6 +325,7 @@ uint32_t starlark_lex(const uint8_t *text, size_t text_len,
  * A front ends at a character boundary, so best after an LF. It is tested for UTF-8 once. So a text
  * of any length is lexed with small buffers that stay in the caches of the processor, and a text
  * that is still being read is lexed as far as it is known. */
+STARLARK_LEX_API
 uint32_t starlark_lex_front(const uint8_t *front, size_t front_len,
                             starlark_lexeme *lexemes, size_t lexemes_cap,
                             uint8_t *values, size_t values_cap,
@@ -324,6 +334,7 @@ uint32_t starlark_lex_front(const uint8_t *front, size_t front_len,
 /* Returns whether the fault of a front, which ends at an offset, is final: then it and all lexemes
  * before it are those of the longer text, whatever follows the front. It is final where the front
  * goes on after it, and ends with an LF. Give a longer front where it isn't. */
+STARLARK_LEX_API
 bool starlark_fault_is_final(const uint8_t *front, size_t front_len,
                              uint32_t fault_end) STARLARK_LEX_NOEXCEPT;
 
@@ -348,6 +359,7 @@ bool starlark_fault_is_final(const uint8_t *front, size_t front_len,
  *
  * The call tests once that the bytes are UTF-8, and lexes each byte once. Of a text with a fault
  * that keeps its line it allocates a copy, which it frees before it returns. */
+STARLARK_LEX_API
 uint32_t starlark_lex_recovering(const uint8_t *text, size_t text_len,
                                  starlark_lexeme *lexemes, size_t lexemes_cap,
                                  uint8_t *values, size_t values_cap,
@@ -385,6 +397,7 @@ uint32_t starlark_lex_recovering(const uint8_t *text, size_t text_len,
  * that all bytes from there on are UTF-8. So a text with n faults, far from each other, is read n
  * times. starlark_lex_recovering reads the text once, and finds more: it goes on within the line
  * after a fault that keeps its line. */
+STARLARK_LEX_API
 size_t starlark_restart(const uint8_t *text, size_t text_len,
                         uint32_t fault_begin, uint32_t fault_end,
                         uint32_t fault_kind) STARLARK_LEX_NOEXCEPT;
@@ -392,6 +405,7 @@ size_t starlark_restart(const uint8_t *text, size_t text_len,
 /* Tells the line and columns of an offset in *place, and returns true. Where the offset is past the
  * end of the text, or the text up to it is not UTF-8, as inside a character, it returns false, and
  * *place is as it was. It reads the text up to the offset. */
+STARLARK_LEX_API
 bool starlark_place(const uint8_t *text, size_t text_len, size_t at,
                     starlark_text_place *place) STARLARK_LEX_NOEXCEPT;
 
@@ -408,23 +422,28 @@ bool starlark_place(const uint8_t *text, size_t text_len, size_t at,
  *         at = lexemes[index].begin;
  *         show(&lexemes[index], &place);
  *     } */
+STARLARK_LEX_API
 bool starlark_move_place(const uint8_t *text, size_t text_len, size_t from, size_t to,
                          starlark_text_place *place) STARLARK_LEX_NOEXCEPT;
 
 /* Writes the name of a kind, such as "Identifier", if there is room for it, without a terminating
  * zero. Returns its length in bytes, which is 0 for a number that no kind has. */
+STARLARK_LEX_API
 size_t starlark_kind_name(uint32_t kind, uint8_t *name, size_t name_cap) STARLARK_LEX_NOEXCEPT;
 
 /* Returns the class of a kind, an enum starlark_class; 0 for a number that no kind has. */
+STARLARK_LEX_API
 uint32_t starlark_kind_class(uint32_t kind) STARLARK_LEX_NOEXCEPT;
 
 /* Writes the code of a fault, such as "SL008", if there is room for it, without a terminating zero.
  * Returns its length in bytes, which is 0 for a number that no fault has. A code never changes. */
+STARLARK_LEX_API
 size_t starlark_fault_code(uint32_t kind, uint8_t *code, size_t code_cap) STARLARK_LEX_NOEXCEPT;
 
 /* Writes the message of a fault, if there is room for it, without a terminating zero. `named` is
  * the text that the fault names. Returns the message's length in bytes, which is 0 for a number
  * that no fault has. */
+STARLARK_LEX_API
 size_t starlark_fault_message(uint32_t kind, const uint8_t *named, size_t named_len,
                               uint8_t *message, size_t message_cap) STARLARK_LEX_NOEXCEPT;
 
@@ -436,6 +455,7 @@ size_t starlark_fault_message(uint32_t kind, const uint8_t *named, size_t named_
  * With STARLARK_STATUS_WHOLE the document has this text. With any other status *document is as it
  * was: STARLARK_STATUS_OPENED where it has a document already, STARLARK_STATUS_NOT_UTF8,
  * STARLARK_STATUS_TOO_LONG or STARLARK_STATUS_MEMORY. */
+STARLARK_LEX_API
 uint32_t starlark_document_open(starlark_document *document, const uint8_t *text,
                                 size_t text_len) STARLARK_LEX_NOEXCEPT;
 
@@ -445,6 +465,7 @@ uint32_t starlark_document_open(starlark_document *document, const uint8_t *text
  * other status both are as they were: STARLARK_STATUS_CLOSED, STARLARK_STATUS_NOT_UTF8 where the new
  * bytes are not, STARLARK_STATUS_BAD_RANGE, STARLARK_STATUS_TOO_LONG where the text would have more
  * than 4294967295 bytes, or STARLARK_STATUS_MEMORY. */
+STARLARK_LEX_API
 uint32_t starlark_document_edit(starlark_document *document, size_t begin, size_t end,
                                 const uint8_t *text, size_t text_len,
                                 starlark_change *change) STARLARK_LEX_NOEXCEPT;
@@ -461,6 +482,7 @@ uint32_t starlark_document_edit(starlark_document *document, size_t begin, size_
  *
  * After an edit the lexemes that touched the old range of its change are to be replaced by those
  * that touch the new one. */
+STARLARK_LEX_API
 uint32_t starlark_document_lexemes(starlark_document *document, size_t begin, size_t end,
                                    starlark_lexeme *lexemes, size_t lexemes_cap,
                                    uint8_t *values, size_t values_cap,
@@ -469,6 +491,7 @@ uint32_t starlark_document_lexemes(starlark_document *document, size_t begin, si
 /* Fills two buffers with the faults that touch the range from `begin` to `end`: the texts that they
  * name, one after another, and a record for each. All else is as of starlark_document_lexemes. In
  * the records `lexemes_before` is 0. */
+STARLARK_LEX_API
 uint32_t starlark_document_faults(starlark_document *document, size_t begin, size_t end,
                                   uint8_t *values, size_t values_cap,
                                   starlark_found_fault *faults, size_t faults_cap,
@@ -479,24 +502,29 @@ uint32_t starlark_document_faults(starlark_document *document, size_t begin, siz
  * With STARLARK_STATUS_WHOLE the buffer begins with them. With any other status it is as it was:
  * STARLARK_STATUS_FULL where it has no room, STARLARK_STATUS_BAD_RANGE, STARLARK_STATUS_MEMORY or
  * STARLARK_STATUS_CLOSED. */
+STARLARK_LEX_API
 uint32_t starlark_document_text(starlark_document *document, size_t begin, size_t end,
                                 uint8_t *text, size_t text_cap) STARLARK_LEX_NOEXCEPT;
 
 /* Returns the length of the text in bytes; 0 where no document is open. */
+STARLARK_LEX_API
 size_t starlark_document_len(starlark_document *document) STARLARK_LEX_NOEXCEPT;
 
 /* Tells the line and columns of an offset in *place, and returns true. Where the offset is no
  * character boundary of the text, or no document is open, it returns false, and *place is as it
  * was. It reads one segment of the text, of some 1 to 4 KB. */
+STARLARK_LEX_API
 bool starlark_document_place(starlark_document *document, size_t at,
                              starlark_text_place *place) STARLARK_LEX_NOEXCEPT;
 
 /* Returns the offset of a line and a column in units of UTF-16, both from 0, or STARLARK_NO_OFFSET
  * where no character boundary is there, or no document is open. */
+STARLARK_LEX_API
 size_t starlark_document_offset_at_utf16(starlark_document *document, size_t line,
                                          size_t column) STARLARK_LEX_NOEXCEPT;
 
 /* Frees the document, if one is open. Then *document holds none, and may be opened again. */
+STARLARK_LEX_API
 void starlark_document_close(starlark_document *document) STARLARK_LEX_NOEXCEPT;
 
 #ifdef __cplusplus

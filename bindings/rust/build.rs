@@ -13,7 +13,11 @@ const ARCHIVE: &str = "libstarlark_lex.a";
 const PKG_CONFIG: &str = "PKG_CONFIG";
 
 /// The targets of which a released crate has the library.
-const TARGETS: [&str; 2] = ["x86_64-unknown-linux-gnu", "aarch64-unknown-linux-gnu"];
+const TARGETS: [&str; 3] = [
+    "x86_64-unknown-linux-gnu",
+    "aarch64-unknown-linux-gnu",
+    "x86_64-pc-windows-gnu",
+];
 
 fn main() {
     println!("cargo:rerun-if-changed=build.rs");
@@ -52,7 +56,7 @@ fn link_archive(folder: &Path) -> Result<(), String> {
             "there is no {}: the released crate has the library for {}; for another target {FOLDER} \
              names a folder with {ARCHIVE}, or the feature `system` takes the system's library",
             archive.display(),
-            TARGETS.join(" and ")
+            TARGETS.join(", ")
         ));
     }
     println!("cargo:rustc-link-search=native={}", folder.display());

@@ -115,9 +115,8 @@ try_cmake_static() {
     clean build/static <"$sample"
 }
 
-# Makes a crate of its own over the released one, with features of it.
+# Makes a crate of its own over the released one, with features of it, and goes to its folder.
 make_tool() {
-    needs cargo cc
     crate="$release/starlark_lexer-$version.crate"
     [ -f "$crate" ] || { echo 'there is no crate' >&2 && exit 3; }
     tar -xzf "$crate"
@@ -132,21 +131,21 @@ edition = "2021"
 [dependencies]
 starlark_lexer = { path = "../starlark_lexer-$version", features = [${1:-}] }
 END
+    cd tool || exit 1
 }
 
-# Runs it by a cargo and a rustc.
+# Runs a crate over the released one, by a cargo and a rustc.
 try_crate() {
+    needs cargo cc
     make_tool
-    cd tool || exit 1
     clean cargo run --offline --quiet <"$sample"
 }
 
 # The same over the shared library of the archive.
 try_crate_over_system() {
-    needs pkg-config
+    needs cargo cc pkg-config readelf
     unpack x86_64
     make_tool '"system"'
-    cd tool || exit 1
     clean env PKG_CONFIG_PATH="$archive/lib/pkgconfig" LD_LIBRARY_PATH="$archive/lib" \
         cargo run --offline --quiet <"$sample" || return 1
     readelf -d target/debug/tool | grep -q 'NEEDED.*libstarlark_lex\.so'
@@ -219,13 +218,97 @@ try_deb_library() {
 }
 
 try_arm() {
-    needs aarch64-linux-gnu-gcc qemu-aarch64
+    needs aarch64-linux-gnu-gcc
+    emulator=qemu-aarch64
+    clean sh -c 'command -v qemu-aarch64' >/dev/null || emulator=qemu-aarch64-static
+    needs "$emulator"
     unpack aarch64
     example="$archive/share/doc/starlark-lex/examples/print_tokens.c"
     clean aarch64-linux-gnu-gcc -I "$archive/include" "$example" \
         "$archive/lib/libstarlark_lex$1" -o print_tokens
     clean env QEMU_LD_PREFIX=/usr/aarch64-linux-gnu LD_LIBRARY_PATH="$archive/lib" \
-        qemu-aarch64 -E LD_LIBRARY_PATH="$archive/lib" ./print_tokens <"$sample"
+        "$emulator" -E LD_LIBRARY_PATH="$archive/lib" ./print_tokens <"$sample"
+}
+
+# Runs a program on a processor that has no more than the first x86-64.
+try_baseline() {
+    needs cc qemu-x86_64
+    unpack x86_64
+    clean cc -I "$archive/include" "$archive/share/doc/starlark-lex/examples/print_tokens.c" \
+        "$archive/lib/libstarlark_lex.a" -o print_tokens
+    clean qemu-x86_64 -cpu qemu64 ./print_tokens <"$sample"
+}
+
+# Unpacks the archive for Windows.
+unpack_windows() {
+    needs x86_64-w64-mingw32-gcc wine unzip
+    archive="$PWD/starlark-lex-$version-x86_64-windows"
+    [ -f "$release/starlark-lex-$version-x86_64-windows.zip" ] || {
+        echo 'there is no archive for Windows' >&2
+        exit 3
+    }
+    unzip -q "$release/starlark-lex-$version-x86_64-windows.zip"
+}
+
+# Runs a program for Windows. Its lines end with CR and LF.
+run_windows() {
+    clean env WINEPREFIX="$work/wine" WINEDEBUG=-all timeout 120 wine "$@" >windows_lines || return 1
+    tr -d '\r' <windows_lines
+}
+
+# Prints the tokens over the static library, and runs the tests of C.
+try_windows_static() {
+    unpack_windows
+    for program in print_tokens small_calls edited_documents stored_texts; do
+        clean x86_64-w64-mingw32-gcc -std=c11 -O2 -I "$archive/include" \
+            "$top/bindings/c/$program.c" "$archive/lib/libstarlark_lex.a" -o "$program.exe" || return 1
+    done
+    stored="Z:$top/crates/starlark_rows"
+    run_windows ./stored_texts.exe "$stored/stdin" "$stored/stdout" >&2 || return 1
+    run_windows ./small_calls.exe >&2 || return 1
+    run_windows ./edited_documents.exe 2000 >&2 || return 1
+    run_windows ./print_tokens.exe <"$sample"
+}
+
+# Prints the tokens over the DLL, which CMake finds.
+try_windows_dll() {
+    needs cmake make x86_64-w64-mingw32-g++
+    unpack_windows
+    mkdir source
+    sed "s/@VERSION@/$version/" "$top/release/try/CMakeLists.txt" >source/CMakeLists.txt
+    cp "$top/release/try/tokens.cpp" source
+    cp "$archive/share/doc/starlark-lex/examples/print_tokens.c" source
+    clean cmake -S source -B build -DCMAKE_SYSTEM_NAME=Windows -DCMAKE_PREFIX_PATH="$archive" \
+        -DCMAKE_C_COMPILER=x86_64-w64-mingw32-gcc -DCMAKE_CXX_COMPILER=x86_64-w64-mingw32-g++ \
+        -DCMAKE_FIND_ROOT_PATH_MODE_PACKAGE=BOTH -DCMAKE_EXE_LINKER_FLAGS=-static-libstdc++ >&2
+    clean cmake --build build >&2
+    cp "$archive"/bin/*.dll build
+    run_windows build/shared.exe <"$sample"
+}
+
+# Builds the crate's program for Windows, by a rustc that has its library.
+try_windows_crate() {
+    needs cargo x86_64-w64-mingw32-gcc wine
+    triple=x86_64-pc-windows-gnu
+    [ -d "$(clean rustc --print target-libdir --target "$triple")" ] || {
+        echo "rustc has no library for $triple" >&2
+        exit 3
+    }
+    make_tool
+    clean cargo build --offline --quiet --target "$triple" || return 1
+    run_windows "target/$triple/debug/tool.exe" <"$sample"
+}
+
+# Lexes the text by the package for npm, by `import` and by `require`.
+try_npm() {
+    needs node
+    [ -f "$release/starlark-lexer-$version.tgz" ] || { echo 'there is no package' >&2 && exit 3; }
+    mkdir -p node_modules
+    tar -xzf "$release/starlark-lexer-$version.tgz" && mv package node_modules/starlark-lexer
+    cp "$top/release/try/tokens.mjs" "$top/release/try/tokens.cjs" .
+    clean node tokens.cjs <"$sample" >required
+    clean node tokens.mjs <"$sample" | tee imported
+    cmp imported required
 }
 
 # Says what lintian finds in the packages; errors fail.
@@ -272,5 +355,10 @@ try 'Debian, starlark_lex in a root of its own' try_deb_program
 try 'Debian, C by pkg-config in that root' try_deb_library
 try 'ARM, C, static, under qemu' try_arm .a
 try 'ARM, C, shared, under qemu' try_arm .so
+try 'x86-64 without v2, C, under qemu' try_baseline
+try 'Windows, C, static and its tests, under wine' try_windows_static
+try 'Windows, C++ by CMake, the DLL, under wine' try_windows_dll
+try 'Windows, Rust, under wine' try_windows_crate
+try 'Node, the package for npm' try_npm
 lint_debs
 exit $failed

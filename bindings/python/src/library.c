@@ -291,20 +291,13 @@ static int fetch_tuple_new(library_state *state)
     return state->tuple_new == NULL ? -1 : 0;
 }
 
-/* Whether the library is that of the header and runs on this processor. Sets ImportError if not. */
+/* Whether the library is that of the header. Sets ImportError if not. */
 static bool is_usable(void)
 {
     if (starlark_lex_version() != STARLARK_LEX_VERSION) {
         PyErr_SetString(PyExc_ImportError, "the library has another version than its header");
         return false;
     }
-#ifdef __x86_64__
-    __builtin_cpu_init();
-    if (!__builtin_cpu_supports("sse4.2") || !__builtin_cpu_supports("popcnt")) {
-        PyErr_SetString(PyExc_ImportError, "the library needs a processor with x86-64-v2");
-        return false;
-    }
-#endif
     return true;
 }
 

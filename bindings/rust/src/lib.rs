@@ -32,9 +32,10 @@
 //! The library is proved to yield exactly the lexemes of a written grammar. The lines of this crate
 //! are not proved, but tested. Its calls share nothing, so they may run in any number of threads.
 //!
-//! The crate has the library for `x86_64-unknown-linux-gnu` and `aarch64-unknown-linux-gnu`. The
-//! feature `system` links the system's shared library instead, which pkg-config finds. The variable
-//! `STARLARK_LEX_DIR` names a folder with another `libstarlark_lex.a`, and goes before both.
+//! The crate has the library for `x86_64-unknown-linux-gnu`, `aarch64-unknown-linux-gnu` and
+//! `x86_64-pc-windows-gnu`. The feature `system` links the system's shared library instead, which
+//! pkg-config finds. The variable `STARLARK_LEX_DIR` names a folder with another
+//! `libstarlark_lex.a`, and goes before both.
 #![deny(unsafe_code)]
 #![deny(unsafe_op_in_unsafe_fn)]
 #![warn(missing_docs)]

@@ -1,4 +1,4 @@
-/* The calls of the header, which take any pointer with a length of 0.
+/* The calls of the header, over the proved ones.
  *
  * A proved call takes no NULL. Each call here passes its arguments on to the proved one, and with a
  * length of 0 the address of an object that nothing reads or writes in place of the pointer. Where
@@ -54,7 +54,7 @@ uint32_t starlark_lex(const uint8_t *text, size_t text_len, starlark_lexeme *lex
                       starlark_outcome *outcome)
 {
     return proved_starlark_lex(input(text, text_len), text_len, output(lexemes, lexemes_cap),
-                               lexemes_cap, output(values, values_cap), values_cap, outcome);
+                              lexemes_cap, output(values, values_cap), values_cap, outcome);
 }
 
 uint32_t starlark_lex_front(const uint8_t *front, size_t front_len, starlark_lexeme *lexemes,
@@ -62,8 +62,8 @@ uint32_t starlark_lex_front(const uint8_t *front, size_t front_len, starlark_lex
                             starlark_outcome *outcome)
 {
     return proved_starlark_lex_front(input(front, front_len), front_len,
-                                     output(lexemes, lexemes_cap), lexemes_cap,
-                                     output(values, values_cap), values_cap, outcome);
+                                    output(lexemes, lexemes_cap), lexemes_cap,
+                                    output(values, values_cap), values_cap, outcome);
 }
 
 bool starlark_fault_is_final(const uint8_t *front, size_t front_len, uint32_t fault_end)
@@ -85,7 +85,7 @@ size_t starlark_restart(const uint8_t *text, size_t text_len, uint32_t fault_beg
                         uint32_t fault_end, uint32_t fault_kind)
 {
     return proved_starlark_restart(input(text, text_len), text_len, fault_begin, fault_end,
-                                   fault_kind);
+                                  fault_kind);
 }
 
 bool starlark_place(const uint8_t *text, size_t text_len, size_t at, starlark_text_place *place)
@@ -118,7 +118,7 @@ size_t starlark_fault_message(uint32_t kind, const uint8_t *named, size_t named_
                               uint8_t *message, size_t message_cap)
 {
     return proved_starlark_fault_message(kind, input(named, named_len), named_len,
-                                         output(message, message_cap), message_cap);
+                                        output(message, message_cap), message_cap);
 }
 
 uint32_t starlark_document_open(starlark_document *document, const uint8_t *text, size_t text_len)
@@ -130,7 +130,7 @@ uint32_t starlark_document_edit(starlark_document *document, size_t begin, size_
                                 const uint8_t *text, size_t text_len, starlark_change *change)
 {
     return proved_starlark_document_edit(document, begin, end, input(text, text_len), text_len,
-                                         change);
+                                        change);
 }
 
 uint32_t starlark_document_lexemes(starlark_document *document, size_t begin, size_t end,
@@ -138,8 +138,8 @@ uint32_t starlark_document_lexemes(starlark_document *document, size_t begin, si
                                    size_t values_cap, starlark_recovered *outcome)
 {
     return proved_starlark_document_lexemes(document, begin, end, output(lexemes, lexemes_cap),
-                                            lexemes_cap, output(values, values_cap), values_cap,
-                                            outcome);
+                                           lexemes_cap, output(values, values_cap), values_cap,
+                                           outcome);
 }
 
 uint32_t starlark_document_faults(starlark_document *document, size_t begin, size_t end,
@@ -147,8 +147,8 @@ uint32_t starlark_document_faults(starlark_document *document, size_t begin, siz
                                   size_t faults_cap, starlark_recovered *outcome)
 {
     return proved_starlark_document_faults(document, begin, end, output(values, values_cap),
-                                           values_cap, output(faults, faults_cap), faults_cap,
-                                           outcome);
+                                          values_cap, output(faults, faults_cap), faults_cap,
+                                          outcome);
 }
 
 uint32_t starlark_document_text(starlark_document *document, size_t begin, size_t end,
