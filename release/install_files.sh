@@ -52,7 +52,7 @@ install_documents() {
     mkdir -p "$prefix/$docdir/examples" "$prefix/$docdir/use"
     cp "$top/LICENSE" "$top/CHANGELOG.md" "$top/docs/GRAMMAR.md" "$prefix/$docdir"
     cp "$top"/docs/use/*.md "$prefix/$docdir/use"
-    cp "$top/bindings/c/print_tokens.c" "$prefix/$docdir/examples"
+    cp "$top/bindings/c/print_tokens.c" "$top/release/try/tokens.cpp" "$prefix/$docdir/examples"
 }
 
 install_library

@@ -37,6 +37,13 @@
 #define STARLARK_LEX_API
 #endif
 
+/* No call throws. */
+#if defined(__cplusplus) && __cplusplus >= 201103L
+#define STARLARK_LEX_NOEXCEPT noexcept
+#else
+#define STARLARK_LEX_NOEXCEPT
+#endif
+
 #ifdef __cplusplus
 extern "C" {
 #endif
@@ -239,8 +246,8 @@ typedef struct starlark_text_place {
 } starlark_text_place;
 
 /* A text that stays lexed while it is edited. starlark_document_open makes one, which
- * starlark_document_close frees. One thread at a time may call with it. With NULL each call says that
- * no document is open. */
+ * starlark_document_close frees. One thread at a time may call with it. With NULL each call says
+ * that no document is open. */
 typedef struct starlark_document starlark_document;
 
 /* What an edit of a document changed. Before `begin` and after the ends all lexemes and faults are
@@ -273,7 +280,7 @@ STARLARK_LEX_ASSERT(sizeof(starlark_change) == 48);
 
 /* The version of the library, as STARLARK_LEX_VERSION has that of the header. */
 STARLARK_LEX_API
-uint32_t starlark_lex_version(void);
+uint32_t starlark_lex_version(void) STARLARK_LEX_NOEXCEPT;
 
 /* Lexes a text into two buffers, says in *outcome how that ended, and returns its status.
  *
@@ -294,7 +301,7 @@ STARLARK_LEX_API
 uint32_t starlark_lex(const uint8_t *text, size_t text_len,
                       starlark_lexeme *lexemes, size_t lexemes_cap,
                       uint8_t *values, size_t values_cap,
-                      starlark_outcome *outcome);
+                      starlark_outcome *outcome) STARLARK_LEX_NOEXCEPT;
 
 /* Lexes the front of a longer text up to the last offset in it where the lexer finds that the text
  * may be cut. Does all else as starlark_lex with the front.
@@ -313,13 +320,14 @@ STARLARK_LEX_API
 uint32_t starlark_lex_front(const uint8_t *front, size_t front_len,
                             starlark_lexeme *lexemes, size_t lexemes_cap,
                             uint8_t *values, size_t values_cap,
-                            starlark_outcome *outcome);
+                            starlark_outcome *outcome) STARLARK_LEX_NOEXCEPT;
 
 /* Returns whether the fault of a front, which ends at an offset, is final: then it and all lexemes
  * before it are those of the longer text, whatever follows the front. It is final where the front
  * goes on after it, and ends with an LF. Give a longer front where it isn't. */
 STARLARK_LEX_API
-bool starlark_fault_is_final(const uint8_t *front, size_t front_len, uint32_t fault_end);
+bool starlark_fault_is_final(const uint8_t *front, size_t front_len,
+                             uint32_t fault_end) STARLARK_LEX_NOEXCEPT;
 
 /* Lexes a whole text, on after each of its faults, into three buffers. Says in *outcome how that
  * ended, and returns its status.
@@ -347,7 +355,7 @@ uint32_t starlark_lex_recovering(const uint8_t *text, size_t text_len,
                                  starlark_lexeme *lexemes, size_t lexemes_cap,
                                  uint8_t *values, size_t values_cap,
                                  starlark_found_fault *faults, size_t faults_cap,
-                                 starlark_recovered *outcome);
+                                 starlark_recovered *outcome) STARLARK_LEX_NOEXCEPT;
 
 /* What starlark_restart returns where no fault of the text has the numbers. */
 #define STARLARK_NO_RESTART SIZE_MAX
@@ -382,13 +390,15 @@ uint32_t starlark_lex_recovering(const uint8_t *text, size_t text_len,
  * after a fault that keeps its line. */
 STARLARK_LEX_API
 size_t starlark_restart(const uint8_t *text, size_t text_len,
-                        uint32_t fault_begin, uint32_t fault_end, uint32_t fault_kind);
+                        uint32_t fault_begin, uint32_t fault_end,
+                        uint32_t fault_kind) STARLARK_LEX_NOEXCEPT;
 
 /* Tells the line and columns of an offset in *place, and returns true. Where the offset is past the
  * end of the text, or the text up to it is not UTF-8, as inside a character, it returns false, and
  * *place is as it was. It reads the text up to the offset. */
 STARLARK_LEX_API
-bool starlark_place(const uint8_t *text, size_t text_len, size_t at, starlark_text_place *place);
+bool starlark_place(const uint8_t *text, size_t text_len, size_t at,
+                    starlark_text_place *place) STARLARK_LEX_NOEXCEPT;
 
 /* Moves *place from one offset of a text to a later one, and returns true. It has to be the place
  * of the first offset, and is then what starlark_place tells of the later one. Where the offsets
@@ -405,33 +415,33 @@ bool starlark_place(const uint8_t *text, size_t text_len, size_t at, starlark_te
  *     } */
 STARLARK_LEX_API
 bool starlark_move_place(const uint8_t *text, size_t text_len, size_t from, size_t to,
-                         starlark_text_place *place);
+                         starlark_text_place *place) STARLARK_LEX_NOEXCEPT;
 
-/* Returns the name of a kind, such as "Identifier"; NULL for a number that no kind has. This string,
- * and those of the calls below, are the library's, and stay. */
+/* Returns the name of a kind, such as "Identifier"; NULL for a number that no kind has. This
+ * string, and those of the calls below, are the library's, and stay. */
 STARLARK_LEX_API
-const char *starlark_kind_name(uint32_t kind);
+const char *starlark_kind_name(uint32_t kind) STARLARK_LEX_NOEXCEPT;
 
 /* Returns the class of a kind, an enum starlark_class; 0 for a number that no kind has. */
 STARLARK_LEX_API
-uint32_t starlark_kind_class(uint32_t kind);
+uint32_t starlark_kind_class(uint32_t kind) STARLARK_LEX_NOEXCEPT;
 
 /* Returns the code of a fault, such as "SL008"; NULL for a number that no fault has. A code never
  * changes. */
 STARLARK_LEX_API
-const char *starlark_fault_code(uint32_t kind);
+const char *starlark_fault_code(uint32_t kind) STARLARK_LEX_NOEXCEPT;
 
 /* Returns what a status means, such as "the bytes are not UTF-8"; NULL for a number that no status
  * has. */
 STARLARK_LEX_API
-const char *starlark_status_text(uint32_t status);
+const char *starlark_status_text(uint32_t status) STARLARK_LEX_NOEXCEPT;
 
 /* Writes the message of a fault, if there is room for it, without a terminating zero. `named` is
  * the text that the fault names. Returns the message's length in bytes, which is 0 for a number
  * that no fault has. */
 STARLARK_LEX_API
 size_t starlark_fault_message(uint32_t kind, const uint8_t *named, size_t named_len,
-                              uint8_t *message, size_t message_cap);
+                              uint8_t *message, size_t message_cap) STARLARK_LEX_NOEXCEPT;
 
 /* What starlark_document_offset_at_utf16 returns where there is no offset. */
 #define STARLARK_NO_OFFSET SIZE_MAX
@@ -442,7 +452,8 @@ size_t starlark_fault_message(uint32_t kind, const uint8_t *named, size_t named_
  * STARLARK_STATUS_NOT_UTF8, STARLARK_STATUS_TOO_LONG or STARLARK_STATUS_MEMORY. `status` may be
  * NULL. */
 STARLARK_LEX_API
-starlark_document *starlark_document_open(const uint8_t *text, size_t text_len, uint32_t *status);
+starlark_document *starlark_document_open(const uint8_t *text, size_t text_len,
+                                          uint32_t *status) STARLARK_LEX_NOEXCEPT;
 
 /* Replaces the bytes from `begin` to `end` by a text, lexes what that touches, and returns a status.
  *
@@ -452,7 +463,8 @@ starlark_document *starlark_document_open(const uint8_t *text, size_t text_len, 
  * than 4294967295 bytes, or STARLARK_STATUS_MEMORY. */
 STARLARK_LEX_API
 uint32_t starlark_document_edit(starlark_document *document, size_t begin, size_t end,
-                                const uint8_t *text, size_t text_len, starlark_change *change);
+                                const uint8_t *text, size_t text_len,
+                                starlark_change *change) STARLARK_LEX_NOEXCEPT;
 
 /* Fills two buffers with the lexemes that touch the range from `begin` to `end`, says in *outcome
  * how that ended, and returns its status. A lexeme touches it that ends at `begin` or later, and
@@ -470,7 +482,7 @@ STARLARK_LEX_API
 uint32_t starlark_document_lexemes(const starlark_document *document, size_t begin, size_t end,
                                    starlark_lexeme *lexemes, size_t lexemes_cap,
                                    uint8_t *values, size_t values_cap,
-                                   starlark_recovered *outcome);
+                                   starlark_recovered *outcome) STARLARK_LEX_NOEXCEPT;
 
 /* Fills two buffers with the faults that touch the range from `begin` to `end`: the texts that they
  * name, one after another, and a record for each. All else is as of starlark_document_lexemes. In
@@ -479,7 +491,7 @@ STARLARK_LEX_API
 uint32_t starlark_document_faults(const starlark_document *document, size_t begin, size_t end,
                                   uint8_t *values, size_t values_cap,
                                   starlark_found_fault *faults, size_t faults_cap,
-                                  starlark_recovered *outcome);
+                                  starlark_recovered *outcome) STARLARK_LEX_NOEXCEPT;
 
 /* Writes the bytes from `begin` to `end` into a buffer, and returns a status.
  *
@@ -488,31 +500,33 @@ uint32_t starlark_document_faults(const starlark_document *document, size_t begi
  * STARLARK_STATUS_CLOSED. */
 STARLARK_LEX_API
 uint32_t starlark_document_text(const starlark_document *document, size_t begin, size_t end,
-                                uint8_t *text, size_t text_cap);
+                                uint8_t *text, size_t text_cap) STARLARK_LEX_NOEXCEPT;
 
 /* Returns the length of the text in bytes; 0 of NULL. */
 STARLARK_LEX_API
-size_t starlark_document_len(const starlark_document *document);
+size_t starlark_document_len(const starlark_document *document) STARLARK_LEX_NOEXCEPT;
 
 /* Tells the line and columns of an offset in *place, and returns true. Where the offset is no
  * character boundary of the text, or the document is NULL, it returns false, and *place is as it
  * was. It reads one segment of the text, of some 1 to 4 KB. */
 STARLARK_LEX_API
 bool starlark_document_place(const starlark_document *document, size_t at,
-                             starlark_text_place *place);
+                             starlark_text_place *place) STARLARK_LEX_NOEXCEPT;
 
 /* Returns the offset of a line and a column in units of UTF-16, both from 0, or STARLARK_NO_OFFSET
  * where no character boundary is there, or the document is NULL. */
 STARLARK_LEX_API
 size_t starlark_document_offset_at_utf16(const starlark_document *document, size_t line,
-                                         size_t column);
+                                         size_t column) STARLARK_LEX_NOEXCEPT;
 
 /* Frees a document. NULL is none. */
 STARLARK_LEX_API
-void starlark_document_close(starlark_document *document);
+void starlark_document_close(starlark_document *document) STARLARK_LEX_NOEXCEPT;
 
 #ifdef __cplusplus
 }
 #endif
+
+#undef STARLARK_LEX_NOEXCEPT
 
 #endif

@@ -129,10 +129,10 @@ export type Value = string | number | bigint | Uint8Array | undefined;
 /** The place of a token or a fault in its text. Offsets count from 0; an end is the offset after it. */
 export interface Span {
     /** Offset in units of UTF-16, as of `String.prototype.slice`. */
-    readonly start: number;
+    readonly begin: number;
     readonly end: number;
     /** Offset in bytes of UTF-8. */
-    readonly startByte: number;
+    readonly beginByte: number;
     readonly endByte: number;
 }
 
@@ -165,9 +165,9 @@ export interface Tokens extends Iterable<Token> {
     toJSON(): Token[];
     kind(index: number): Kind;
     kindClass(index: number): KindClass;
-    start(index: number): number;
+    begin(index: number): number;
     end(index: number): number;
-    startByte(index: number): number;
+    beginByte(index: number): number;
     endByte(index: number): number;
     value(index: number): Value;
 }
@@ -225,11 +225,11 @@ export interface Position {
 }
 
 /**
- * What an edit of a document changed. Before `start` and after the ends all tokens and faults are the
+ * What an edit of a document changed. Before `begin` and after the ends all tokens and faults are the
  * old ones; those after are moved by `newEnd - oldEnd`.
  */
 export interface Change {
-    readonly start: number;
+    readonly begin: number;
     /** End of the range in the text before the edit. */
     readonly oldEnd: number;
     /** End of the range in the text after it. */
@@ -246,17 +246,17 @@ export declare class Document {
     /** How many units of UTF-16 the text has. */
     readonly length: number;
     /** Replaces what is between two offsets by a text, and lexes what that touches. */
-    edit(start: number, end: number, text: Source): Change;
+    edit(begin: number, end: number, text: Source): Change;
     /**
-     * The tokens that touch a range: those that end at `start` or later, and begin at `end` or earlier.
+     * The tokens that touch a range: those that end at `begin` or later, and begin at `end` or earlier.
      * Without a range, all. After an edit the tokens that touched its old range are to be replaced by
      * those that touch the new one.
      */
-    tokens(start?: number, end?: number): Tokens;
+    tokens(begin?: number, end?: number): Tokens;
     /** The faults that touch a range, as `tokens` tells it. */
-    faults(start?: number, end?: number): DocumentFault[];
+    faults(begin?: number, end?: number): DocumentFault[];
     /** The text between two offsets. */
-    slice(start?: number, end?: number): string;
+    slice(begin?: number, end?: number): string;
     positionAt(offset: number): Position;
     /** The offset of a position, or undefined where no character is there. */
     offsetAt(position: Position): number | undefined;

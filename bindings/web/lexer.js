@@ -65,9 +65,9 @@ export class Token {
 
     constructor(tokens, index) {
         this.kind = tokens.kind(index);
-        this.start = tokens.start(index);
+        this.begin = tokens.begin(index);
         this.end = tokens.end(index);
-        this.startByte = tokens.startByte(index);
+        this.beginByte = tokens.beginByte(index);
         this.endByte = tokens.endByte(index);
         this.#tokens = tokens;
         this.#index = index;
@@ -83,8 +83,8 @@ export class Token {
 
     /** All of the token, with its value as `starlark_tokens` writes it into JSON. */
     toJSON() {
-        const { kind, start, end, startByte, endByte, value } = this;
-        return { kind, start, end, startByte, endByte, value: plainValue(value) };
+        const { kind, begin, end, beginByte, endByte, value } = this;
+        return { kind, begin, end, beginByte, endByte, value: plainValue(value) };
     }
 }
 
@@ -143,7 +143,7 @@ export class Tokens {
         return this.#names.classes[this.#number(index)];
     }
 
-    start(index) {
+    begin(index) {
         return this.#units ? this.#units[2 * index] : this.#words[8 * index];
     }
 
@@ -151,7 +151,7 @@ export class Tokens {
         return this.#units ? this.#units[2 * index + 1] : this.#words[8 * index + 1];
     }
 
-    startByte(index) {
+    beginByte(index) {
         return this.#words[8 * index];
     }
 
@@ -382,15 +382,15 @@ class Heap extends Memory {
 /** A fault of which the memory has kind, begin and end at an address, and from `named` on the text that
  * it names. */
 function faultOf(memory, names, at, named, values, unitsBefore) {
-    const [number, startByte, endByte] = memory.words(at, 3);
+    const [number, beginByte, endByte] = memory.words(at, 3);
     const text = { at: values + memory.number(at + named), length: memory.number(at + named + 8) };
     return {
         code: names.codes[number],
         kind: FAULT_KINDS[number],
         message: messageOf(memory, number, text),
-        start: unitsBefore(startByte),
+        begin: unitsBefore(beginByte),
         end: unitsBefore(endByte),
-        startByte,
+        beginByte,
         endByte,
     };
 }
@@ -632,37 +632,37 @@ export class Document {
         return this.#offsets.units;
     }
 
-    edit(start, end, text) {
-        const range = this.#range(start, end);
+    edit(begin, end, text) {
+        const range = this.#range(begin, end);
         const bytes = bytesOf(text);
         return this.#heap.within(CHANGE_SIZE, (change) => {
             const { units } = this.#offsets;
             this.#change(bytes, "edit", range.map(BigInt), BigInt(change));
-            this.#offsets.replace(range, [start, end], [bytes.length, unitsIn(bytes)]);
+            this.#offsets.replace(range, [begin, end], [bytes.length, unitsIn(bytes)]);
             const [changed, newEnd] = this.#changed(change);
-            return { start: changed, oldEnd: newEnd - (this.#offsets.units - units), newEnd };
+            return { begin: changed, oldEnd: newEnd - (this.#offsets.units - units), newEnd };
         });
     }
 
-    tokens(start = 0, end = this.length) {
-        return this.#filled("lexemes", start, end, ({ at, length }, values) => {
+    tokens(begin = 0, end = this.length) {
+        return this.#filled("lexemes", begin, end, ({ at, length }, values) => {
             const words = this.#heap.words(at, (length * LEXEME_SIZE) / 4).slice();
             const written = this.#heap.bytes(values.at, values.length).slice();
             return new Tokens(this.#names, words, written, this.#unitsOf(words));
         });
     }
 
-    faults(start = 0, end = this.length) {
+    faults(begin = 0, end = this.length) {
         const before = (byte) => this.#offsets.unitAt(byte);
-        return this.#filled("faults", start, end, ({ at, length }, values) =>
+        return this.#filled("faults", begin, end, ({ at, length }, values) =>
             Array.from({ length }, (_, index) =>
                 faultOf(this.#heap, this.#names, at + index * FAULT_SIZE, 24, values.at, before),
             ),
         );
     }
 
-    slice(start = 0, end = this.length) {
-        const [from, to] = this.#range(start, end);
+    slice(begin = 0, end = this.length) {
+        const [from, to] = this.#range(begin, end);
         return this.#heap.within(to - from, (room) => decoder.decode(this.#read(from, to, room)));
     }
 
@@ -708,10 +708,10 @@ export class Document {
     }
 
     /** The offsets in bytes of a range. */
-    #range(start, end) {
-        const range = [start, end].map((offset) => this.#offsets.byteAt(offset));
-        if (range.includes(undefined) || start > end) {
-            throw new RangeError(`the text has no characters from ${start} to ${end}`);
+    #range(begin, end) {
+        const range = [begin, end].map((offset) => this.#offsets.byteAt(offset));
+        if (range.includes(undefined) || begin > end) {
+            throw new RangeError(`the text has no characters from ${begin} to ${end}`);
         }
         return range;
     }
@@ -726,8 +726,8 @@ export class Document {
     }
 
     /** What an action makes of the records that touch a range, and of their values. */
-    #filled(name, start, end, action) {
-        const range = this.#range(start, end).map(BigInt);
+    #filled(name, begin, end, action) {
+        const range = this.#range(begin, end).map(BigInt);
         const { size, count, wanted } = ITEMS[name];
         const heap = this.#heap;
         return heap.within(OUTCOME_SIZE, (outcome) => {
@@ -787,10 +787,10 @@ class Offsets {
 
     /** Takes a change of the text: the range in bytes and in units that had been replaced, and how many
      * of both it has now. */
-    replace([from, to], [start, end], [bytes, units]) {
+    replace([from, to], [begin, end], [bytes, units]) {
         const kept = lastUpTo(this.#bytes, from) + 1;
         const moved = Math.max(kept, lastUpTo(this.#bytes, to - 1) + 1);
-        const grown = [bytes - (to - from), units - (end - start)];
+        const grown = [bytes - (to - from), units - (end - begin)];
         this.#bytes.splice(kept, Infinity, ...this.#bytes.slice(moved).map((byte) => byte + grown[0]));
         this.#units.splice(kept, Infinity, ...this.#units.slice(moved).map((unit) => unit + grown[1]));
         this.#byteLength += grown[0];

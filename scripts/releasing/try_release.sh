@@ -100,8 +100,7 @@ build_by_cmake() {
     unpack x86_64
     mkdir source
     sed "s/@VERSION@/$version/" "$top/release/try/CMakeLists.txt" >source/CMakeLists.txt
-    cp "$top/release/try/tokens.cpp" source
-    cp "$archive/share/doc/starlark-lex/examples/print_tokens.c" source
+    cp "$archive/share/doc/starlark-lex/examples/"* source
     clean cmake -S source -B build -DCMAKE_PREFIX_PATH="$archive" >&2
     clean cmake --build build >&2
 }
@@ -116,7 +115,7 @@ try_cmake_static() {
     clean build/static <"$sample"
 }
 
-# Makes a crate of its own over the released one, and goes to its folder.
+# Makes a crate of its own over the released one, with features of it, and goes to its folder.
 make_tool() {
     crate="$release/starlark_lexer-$version.crate"
     [ -f "$crate" ] || { echo 'there is no crate' >&2 && exit 3; }
@@ -130,7 +129,7 @@ version = "0.1.0"
 edition = "2021"
 
 [dependencies]
-starlark_lexer = { path = "../starlark_lexer-$version" }
+starlark_lexer = { path = "../starlark_lexer-$version", features = [${1:-}] }
 END
     cd tool || exit 1
 }
@@ -140,6 +139,16 @@ try_crate() {
     needs cargo cc
     make_tool
     clean cargo run --offline --quiet <"$sample"
+}
+
+# The same over the shared library of the archive.
+try_crate_over_system() {
+    needs cargo cc pkg-config readelf
+    unpack x86_64
+    make_tool '"system"'
+    clean env PKG_CONFIG_PATH="$archive/lib/pkgconfig" LD_LIBRARY_PATH="$archive/lib" \
+        cargo run --offline --quiet <"$sample" || return 1
+    readelf -d target/debug/tool | grep -q 'NEEDED.*libstarlark_lex\.so'
 }
 
 # Installs the wheel into a new virtual environment, in which nothing else is.
@@ -354,6 +363,7 @@ try 'C by pkg-config, shared' try_pkg_config
 try 'C by CMake, static' try_cmake_static
 try 'C++ by CMake, shared' try_cmake_shared
 try 'Rust, a crate of its own, offline' try_crate
+try 'Rust over the shared library, by pkg-config' try_crate_over_system
 try 'Python, the wheel in a virtual environment' try_wheel
 try 'Python, the sdist over the archive' try_sdist
 try 'Go, the module from a proxy of files' try_go

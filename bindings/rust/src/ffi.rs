@@ -6,6 +6,7 @@ use crate::{Change, EditError, Place, TooLong};
 use std::alloc::{handle_alloc_error, Layout};
 #[cfg(test)]
 use std::ffi::CStr;
+use std::fmt;
 use std::ops::Range;
 #[cfg(test)]
 use std::os::raw::c_char;
@@ -262,8 +263,15 @@ pub(crate) enum Ending {
     Full { lexemes: usize, values: usize },
 }
 
+/// How many lexemes, bytes of values and faults buffers need room for.
+struct Room {
+    lexemes: usize,
+    values: usize,
+    faults: usize,
+}
+
 /// Buffers for the lexemes of a text, their values, and the faults after which it was lexed on.
-#[derive(Clone, Debug)]
+#[derive(Clone, Default)]
 pub(crate) struct Buffers {
     lexemes: Vec<LexemeRecord>,
     values: Vec<u8>,
@@ -290,9 +298,9 @@ impl Buffers {
         self.values.capacity()
     }
 
-    /// How many lexemes the buffers have.
-    pub(crate) fn lexeme_count(&self) -> usize {
-        self.lexemes.len()
+    /// The records of the lexemes that the buffers have.
+    pub(crate) fn lexemes(&self) -> &[LexemeRecord] {
+        &self.lexemes
     }
 
     /// The record with an index, if there is one.
@@ -305,6 +313,11 @@ impl Buffers {
     #[inline]
     pub(crate) fn fault(&self, index: usize) -> Option<&FaultRecord> {
         self.faults.get(index)
+    }
+
+    /// The values that the buffers have, one after another.
+    pub(crate) fn values(&self) -> &[u8] {
+        &self.values
     }
 
     /// The bytes of a lexeme's value.
@@ -420,7 +433,9 @@ impl Buffers {
     /// grow where the call wants more room.
     fn fill(&mut self, call: impl Fn(&mut Buffers, &mut Recovered)) {
         if let Err(wanted) = self.try_fill(&call) {
-            *self = wanted;
+            self.lexemes.reserve(wanted.lexemes);
+            self.values.reserve(wanted.values);
+            self.faults.reserve(wanted.faults);
             let is_whole = self.try_fill(&call).is_ok();
             assert!(is_whole, "the library wants more room than it told");
         }
@@ -430,8 +445,8 @@ impl Buffers {
     ///
     /// # Errors
     ///
-    /// Empty buffers with the room that is wanted, where these have too little.
-    fn try_fill(&mut self, call: &impl Fn(&mut Buffers, &mut Recovered)) -> Result<(), Buffers> {
+    /// The room that is wanted, where these have too little. They have nothing then.
+    fn try_fill(&mut self, call: &impl Fn(&mut Buffers, &mut Recovered)) -> Result<(), Room> {
         let mut outcome = Recovered::default();
         self.clear();
         call(self, &mut outcome);
@@ -452,10 +467,20 @@ impl Buffers {
     }
 
     /// Drops what the buffers have, and keeps their room.
-    fn clear(&mut self) {
+    pub(crate) fn clear(&mut self) {
         self.lexemes.clear();
         self.values.clear();
         self.faults.clear();
+    }
+}
+
+impl fmt::Debug for Buffers {
+    fn fmt(&self, f: &mut fmt::Formatter<'_>) -> fmt::Result {
+        f.debug_struct("Buffers")
+            .field("lexemes", &self.lexemes.len())
+            .field("values", &self.values.len())
+            .field("faults", &self.faults.len())
+            .finish_non_exhaustive()
     }
 }
 
@@ -486,15 +511,14 @@ impl Outcome {
 }
 
 impl Recovered {
-    /// Buffers with the room that a text needs, where there was too little. The text is UTF-8 that
-    /// isn't too long.
-    fn wanted(&self) -> Option<Buffers> {
+    /// The room that a text needs, where there was too little. The text is UTF-8 that isn't too long.
+    fn wanted(&self) -> Option<Room> {
         match self.status {
             WHOLE => None,
-            FULL => Some(Buffers {
-                lexemes: Vec::with_capacity(self.wanted_lexemes),
-                values: Vec::with_capacity(self.wanted_values),
-                faults: Vec::with_capacity(self.wanted_faults),
+            FULL => Some(Room {
+                lexemes: self.wanted_lexemes,
+                values: self.wanted_values,
+                faults: self.wanted_faults,
             }),
             MEMORY => handle_alloc_error(Layout::new::<LexemeRecord>()),
             NOT_UTF8 | TOO_LONG => unreachable!("a `str` is UTF-8, and its length was tested"),
@@ -548,8 +572,6 @@ impl OpenDocument {
                 old_end: change.old_end,
                 new_end: change.new_end,
                 lexed: change.lexed,
-                starts: change.starts,
-                reads: change.reads,
             }),
             BAD_RANGE => Err(EditError::BadRange),
             TOO_LONG => Err(EditError::TooLong),

@@ -82,7 +82,7 @@ test("each stored text has one result up to its first fault", () => {
 
 test("a token has its kind, its spans and its value", () => {
     const token = lex("x = 'ä🔬\\n'\n").tokens.at(2);
-    assert.deepEqual({ ...token }, { kind: "String", start: 4, end: 11, startByte: 4, endByte: 14 });
+    assert.deepEqual({ ...token }, { kind: "String", begin: 4, end: 11, beginByte: 4, endByte: 14 });
     assert.equal(token.value, "ä🔬\n");
     assert.equal(lex("x").tokens.at(2), undefined);
     assert.equal(lex("x").tokens.at(-1).kind, "Newline");
@@ -93,7 +93,7 @@ test("a token has its kind, its spans and its value", () => {
 test("tokens are written into JSON", () => {
     const text = "e = 'é' + b'\\x00\\xff' 5000000000 0xfffffffffffffffff";
     const { tokens, faults: found } = JSON.parse(JSON.stringify(lex(text)));
-    assert.deepEqual(tokens[0], { kind: "Identifier", start: 0, end: 1, startByte: 0, endByte: 1, value: "e" });
+    assert.deepEqual(tokens[0], { kind: "Identifier", begin: 0, end: 1, beginByte: 0, endByte: 1, value: "e" });
     const values = ["e", null, "é", null, "00ff", 5000000000, "295147905179352825855", null];
     assert.deepEqual(tokens.map(({ value }) => value), values);
     assert.deepEqual(found, []);
@@ -147,7 +147,7 @@ test("values are decoded", () => {
 test("offsets count units of UTF-16", () => {
     const text = "a = '🔬🔬' + '汉' # é\nb = '\u{10ffff}' ?";
     const { tokens, faults: found } = lex(text);
-    const written = [...Array.from(tokens), ...found].map(({ start, end }) => text.slice(start, end));
+    const written = [...Array.from(tokens), ...found].map(({ begin, end }) => text.slice(begin, end));
     assert.deepEqual(written, ["a", "=", "'🔬🔬'", "+", "'汉'", "# é", "\n", "b", "=", "'\u{10ffff}'", "?"]);
 });
 
@@ -156,7 +156,7 @@ test("a lone surrogate is lexed as U+FFFD", () => {
         const text = `a = '${lone}' + b`;
         const { tokens } = lex(text);
         assert.equal(tokens.at(2).value, "\ufffd");
-        assert.deepEqual({ ...tokens.at(4) }, { kind: "Identifier", start: 10, end: 11, startByte: 12, endByte: 13 });
+        assert.deepEqual({ ...tokens.at(4) }, { kind: "Identifier", begin: 10, end: 11, beginByte: 12, endByte: 13 });
         assert.equal(linesOf(new TextEncoder().encode(text), lex(text)), linesOf(new TextEncoder().encode(text), lex(new TextEncoder().encode(text))));
     }
     assert.equal(lex("\ud800").faults[0].message, "Parse error: invalid input `\ufffd`");
@@ -169,15 +169,15 @@ test("a fault has its code, its kind, its message and its place", () => {
         code: "SL008",
         kind: "StartsZero",
         message: "Parse error: integer cannot have leading 0, got `01`",
-        start: 15,
+        begin: 15,
         end: 17,
-        startByte: 18,
+        beginByte: 18,
         endByte: 20,
         tokensBefore: 6,
     });
     const kinds = ["InvalidInput", "StartsZero", "UnfinishedStringLiteral", "InvalidEscapeSequence", "ReservedKeyword"];
     assert.deepEqual(found.map((fault) => fault.kind), kinds);
-    assert.equal(text.slice(found[4].start, found[4].end), "class");
+    assert.equal(text.slice(found[4].begin, found[4].end), "class");
 });
 
 test("faults are named as in the header", () => {
@@ -220,10 +220,10 @@ test("what is no text is refused", () => {
 
 test("a result stays as it is after later calls", () => {
     const first = lex("a = 'b' # é");
-    const before = Array.from(first.tokens, (token) => [token.kind, token.start, token.value]);
+    const before = Array.from(first.tokens, (token) => [token.kind, token.begin, token.value]);
     lex("some other text = 'with other values'");
     lexRecovering("x = 1\n".repeat(1000));
-    assert.deepEqual(Array.from(first.tokens, (token) => [token.kind, token.start, token.value]), before);
+    assert.deepEqual(Array.from(first.tokens, (token) => [token.kind, token.begin, token.value]), before);
 });
 
 test("texts of any density have room", () => {
@@ -359,8 +359,8 @@ function boundary(text, at) {
 }
 
 /** What tokens and faults tell of a range of their text. */
-function told({ tokens, faults: found }, start, end) {
-    const touches = (span) => start <= span.end && span.start <= end;
+function told({ tokens, faults: found }, begin, end) {
+    const touches = (span) => begin <= span.end && span.begin <= end;
     return [
         Array.from(tokens).filter(touches).map((token) => [JSON.stringify(token), token.kindClass]),
         Array.from(found).filter(touches).map(({ tokensBefore, ...fault }) => fault),
@@ -371,16 +371,16 @@ function told({ tokens, faults: found }, start, end) {
 function compareDocument(document, text, random) {
     const whole = lexRecovering(text);
     assert.equal(document.slice(), text);
-    const start = boundary(text, random(text.length + 1));
-    const end = boundary(text, Math.min(text.length, start + 40));
-    for (const range of [[0, text.length], [start, end]]) {
+    const begin = boundary(text, random(text.length + 1));
+    const end = boundary(text, Math.min(text.length, begin + 40));
+    for (const range of [[0, text.length], [begin, end]]) {
         const found = { tokens: document.tokens(...range), faults: document.faults(...range) };
         assert.deepEqual(told(found, ...range), told(whole, ...range));
     }
-    const front = text.slice(0, start).split("\n");
+    const front = text.slice(0, begin).split("\n");
     const position = { line: front.length - 1, character: front.at(-1).length };
-    assert.deepEqual(document.positionAt(start), position);
-    assert.equal(document.offsetAt(position), start);
+    assert.deepEqual(document.positionAt(begin), position);
+    assert.equal(document.offsetAt(position), begin);
 }
 
 /** Edits a document at random, and compares it after each edit. */
@@ -388,15 +388,15 @@ function editAtRandom(text, edits, random) {
     const made = (count) => Array.from({ length: count }, () => PIECES[random(PIECES.length)]).join("");
     const document = open(text);
     for (let edit = 0; edit < edits; edit++) {
-        const before = Array.from(document.tokens(), ({ start }) => start);
-        const start = boundary(text, random(text.length + 1));
-        const end = boundary(text, Math.min(text.length, start + random(12)));
+        const before = Array.from(document.tokens(), ({ begin }) => begin);
+        const begin = boundary(text, random(text.length + 1));
+        const end = boundary(text, Math.min(text.length, begin + random(12)));
         const inserted = made(random(3));
-        const change = document.edit(start, end, random(2) ? inserted : Buffer.from(inserted));
-        text = text.slice(0, start) + inserted + text.slice(end);
+        const change = document.edit(begin, end, random(2) ? inserted : Buffer.from(inserted));
+        text = text.slice(0, begin) + inserted + text.slice(end);
         assert.equal(document.length, text.length);
         const moved = before.filter((at) => at > change.oldEnd).map((at) => at + change.newEnd - change.oldEnd);
-        const after = Array.from(document.tokens(), (token) => token.start);
+        const after = Array.from(document.tokens(), (token) => token.begin);
         assert.deepEqual(after.filter((at) => at > change.newEnd), moved);
         compareDocument(document, text, random);
     }
@@ -415,10 +415,10 @@ test("a document that is edited is as its whole text is lexed", () => {
 test("a refused edit changes nothing", () => {
     const document = open("x = '🔬'\n");
     const refused = { name: "RangeError", message: /^the text has no characters from / };
-    for (const [start, end] of [[2, 1], [0, 10], [10, 10], [-1, 2], [0, 1.5], [6, 6], [NaN, 1], ["0", 1]]) {
-        assert.throws(() => document.edit(start, end, "y"), refused);
-        assert.throws(() => document.tokens(start, end), refused);
-        assert.throws(() => document.slice(start, end), refused);
+    for (const [begin, end] of [[2, 1], [0, 10], [10, 10], [-1, 2], [0, 1.5], [6, 6], [NaN, 1], ["0", 1]]) {
+        assert.throws(() => document.edit(begin, end, "y"), refused);
+        assert.throws(() => document.tokens(begin, end), refused);
+        assert.throws(() => document.slice(begin, end), refused);
     }
     assert.throws(() => document.positionAt(6), refused);
     const notUtf8 = { name: "TypeError", message: "the text is not UTF-8" };
