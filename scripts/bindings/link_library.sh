@@ -134,8 +134,11 @@ link_dll() {
         echo EXPORTS
         sed 's/^/    /' "$work/calls"
     } >"$work/starlark_lex.def"
-    "$compiler" -shared "$work/starlark_lex.o" "$work/starlark_lex.def" -Wl,--no-insert-timestamp \
+    # Else its base address depends on the name of the output.
+    set -- -Wl,--no-insert-timestamp,--disable-auto-image-base
+    "$compiler" -shared "$@" "$work/starlark_lex.o" "$work/starlark_lex.def" \
         -Wl,--out-implib,"$output/libstarlark_lex.dll.a" -Wl,-s -o "$output/starlark_lex-$abi.dll"
+    "${tools}objcopy" --enable-deterministic-archives "$output/libstarlark_lex.dll.a"
 }
 
 # Prints what a library defines for others, as nm shows it.

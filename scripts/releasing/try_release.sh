@@ -290,14 +290,14 @@ END
     run_windows build/shared.exe <"$sample"
 }
 
-# Prints the first rustc, that of the path or the system's, that can build the crate for a target.
-rustc_for() {
+# Prints a path whose first rustc can build the crate for a target: ours, or the system's.
+path_for() {
     least=$(sed -n 's/^rust-version = "\(.*\)"/\1/p' "$top/bindings/rust/Cargo.toml")
-    for name in rustc /usr/bin/rustc; do
-        folder=$(clean "$name" --print target-libdir --target "$1" 2>/dev/null) || continue
-        found=$(clean "$name" --version | cut -d ' ' -f 2)
+    for folders in "$path" /usr/bin:/bin; do
+        folder=$(PATH=$folders rustc --print target-libdir --target "$1" 2>/dev/null) || continue
+        found=$(PATH=$folders rustc --version | cut -d ' ' -f 2)
         if [ -d "$folder" ] && printf '%s\n%s\n' "$least" "$found" | sort -CV; then
-            echo "$name"
+            echo "$folders"
             return 0
         fi
     done
@@ -309,9 +309,9 @@ rustc_for() {
 try_windows_crate() {
     needs cargo x86_64-w64-mingw32-gcc wine
     triple=x86_64-pc-windows-gnu
-    compiler=$(rustc_for "$triple") || exit 3
+    folders=$(path_for "$triple") || exit 3
     make_tool
-    clean env RUSTC="$compiler" cargo build --offline --quiet --target "$triple" || return 1
+    clean env PATH="$folders" cargo build --offline --quiet --target "$triple" || return 1
     run_windows "target/$triple/debug/tool.exe" <"$sample"
 }
 
