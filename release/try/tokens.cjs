@@ -2,6 +2,6 @@
 const { readFileSync } = require("node:fs");
 const { lex } = require("starlark-lexer");
 
-for (const { startByte, endByte, kind } of lex(readFileSync(0)).tokens) {
-    console.log(`${startByte}-${endByte} ${kind}`);
+for (const { beginByte, endByte, kind } of lex(readFileSync(0)).tokens) {
+    console.log(`${beginByte}-${endByte} ${kind}`);
 }

@@ -2,6 +2,6 @@
 import { readFileSync } from "node:fs";
 import { lex } from "starlark-lexer";
 
-for (const { startByte, endByte, kind } of lex(readFileSync(0)).tokens) {
-    console.log(`${startByte}-${endByte} ${kind}`);
+for (const { beginByte, endByte, kind } of lex(readFileSync(0)).tokens) {
+    console.log(`${beginByte}-${endByte} ${kind}`);
 }
