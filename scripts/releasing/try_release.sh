@@ -191,6 +191,13 @@ try_go() {
     clean "$top/bindings/go/scripts/try_release.sh" "$release" <"$sample"
 }
 
+try_go_windows() {
+    needs x86_64-w64-mingw32-gcc wine
+    clean env GOOS=windows GOARCH=amd64 CGO_ENABLED=1 CC=x86_64-w64-mingw32-gcc RUN_BY=wine \
+        WINEPREFIX="$work/wine" WINEDEBUG=-all \
+        "$top/bindings/go/scripts/try_release.sh" "$release" <"$sample"
+}
+
 # Installs the Debian packages into a root of their own.
 install_debs() {
     needs dpkg
@@ -375,6 +382,7 @@ try 'x86-64 without v2, C, under qemu' try_baseline
 try 'Windows, C, static and its tests, under wine' try_windows_static
 try 'Windows, C by CMake, the DLL, under wine' try_windows_dll
 try 'Windows, Rust, under wine' try_windows_crate
+try 'Windows, Go from a proxy of files, under wine' try_go_windows
 try 'Node, the package for npm' try_npm
 lint_debs
 exit $failed
