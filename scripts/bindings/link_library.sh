@@ -70,9 +70,9 @@ calls() {
 # the allocator.
 text_of_module() {
     sed -e '/^target triple = /d' -e 's/ "t[a-z]*-\(cpu\|features\)"="[^"]*"//g' \
-        -e 's/@rattle_\(alloc\|realloc\|dealloc\)(/@alloc_\1(/g' \
         -e '/^define [^@]*@starlark_/s/^define \(dso_local \)\{0,1\}/define \1hidden /' \
-        -e 's/@\(starlark_[a-z_0-9]*\)(/@proved_\1(/g' -e 's/@alloc_/@starlark_lex_/g' "$work/module.ll"
+        -e 's/@starlark_/@proved_starlark_/g' -e 's/@rattle_\(re\|de\)\{0,1\}alloc\>/@starlark_lex_\1alloc/g' \
+        "$work/module.ll"
 }
 
 # Compiles LLVM's text into an object.
