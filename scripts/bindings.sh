@@ -27,8 +27,17 @@ fail() {
     exit 1
 }
 
-# Makes the static and the shared library.
+# Whether the libraries are no older than the archive, the header and what links them.
+are_linked() {
+    [ -e "$made/libstarlark_lex.so" ] || return 1
+    newer=$(find "$archive" "$top/bindings/c" "$top/VERSION" "$top/scripts/bindings/link_library.sh" \
+        -type f -newer "$made/starlark_lex.h" -print)
+    [ -z "$newer" ]
+}
+
+# Makes the static and the shared library, where they aren't current. So parts may run side by side.
 link_libraries() {
+    if are_linked; then return 0; fi
     kit=$(dirname "$(rt doc)")
     CC=$cc "$top/scripts/bindings/link_library.sh" '' "$archive" "$kit/c/liblibc_c.a" "$made"
 }

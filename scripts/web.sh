@@ -48,6 +48,15 @@ wide_memory() {
     return 1
 }
 
+# Prints random texts with what the plain lexer finds: those of the file STARLARK_RANDOM_TEXTS, or new ones.
+random_texts() {
+    if [ -n "${STARLARK_RANDOM_TEXTS:-}" ]; then
+        cat "$STARLARK_RANDOM_TEXTS"
+    else
+        python3 "$tests/random_texts.py" 20000 1
+    fi
+}
+
 run_tests() {
     command -v node >/dev/null || {
         echo 'the tests of the module and of the page were left out: there is no Node'
@@ -63,7 +72,7 @@ run_tests() {
         return 1
     }
     echo 'Node: the tests of the module passed'
-    python3 "$tests/random_texts.py" 20000 1 | node ${option:+"$option"} "$tests/compare_lines.mjs"
+    random_texts | node ${option:+"$option"} "$tests/compare_lines.mjs"
     node ${option:+"$option"} "$tests/page_test.mjs"
 }
 
