@@ -1,18 +1,19 @@
 #!/usr/bin/env python3
-"""Compares the numbers that cross to C, Rust, Python and JavaScript: in the definitions, the header, the
-crate, the package and the module.
+"""Compares the numbers that cross to C, Rust, Python, Go and JavaScript: in the definitions, the header, the
+crate, the packages and the module.
 
     scripts/checks/binding_numbers.py [--write]
 
 The numbers and classes of keywords and symbols are those of the grammar's table (class.rt), those of
 other kinds, of faults and of classes stand in crates/starlark_c/specs, those of statuses in its src. A
 number never changes.
-With --write, keywords and symbols that are new in the table are added after the last ones. The exit
-status is 0 where all agree, and 1 where some don't.
+With --write, keywords and symbols that are new in the table are added after the last ones, and the kinds
+of Go written anew. The exit status is 0 where all agree, and 1 where some don't.
 """
 
 import argparse
 import re
+import subprocess
 import sys
 from pathlib import Path
 
@@ -23,6 +24,7 @@ PACKAGE = TOP / "bindings/python/starlark_lexer"
 RUST = TOP / "bindings/rust/src"
 SCRIPT = TOP / "bindings/web/lexer.js"
 TABLE = TOP / "crates/starlark_grammar/src/class.rt"
+GO = TOP / "bindings/go/scripts/kinds.py"
 
 # Where the last keyword or symbol stands, by its text, name and number, and what goes after it for a
 # new one. Where that is None, the new one takes its place.
@@ -175,9 +177,11 @@ def main():
     """Compares all numbers."""
     parser = argparse.ArgumentParser(description=__doc__.splitlines()[0])
     parser.add_argument("--write", action="store_true", help="add new keywords and symbols first")
-    if parser.parse_args().write:
+    is_written = parser.parse_args().write
+    if is_written:
         write()
-    wrong = 0
+    # That of Go has all kinds from the header and the table.
+    wrong = subprocess.run([sys.executable, GO, *["--write"] * is_written], check=False).returncode
     for name, right, places in compared():
         if not right or [number for _, number in right] != sorted({number for _, number in right}):
             print(f"{name}: the definitions have no numbers, or one twice")
