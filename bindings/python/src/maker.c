@@ -46,12 +46,12 @@ static PyObject *pair_of(size_t first, size_t second)
 
 int maker_begin(maker *begun, const library_state *state, const text *lexed)
 {
-    cursor front = {.start = lexed->start, .len = lexed->len};
+    cursor first = {.start = lexed->start, .len = lexed->len};
     memset(begun, 0, sizeof *begun);
     begun->state = state;
     begun->start = lexed->start;
     begun->len = lexed->len;
-    begun->tokens = begun->faults = front;
+    begun->tokens = begun->faults = first;
     begun->fields = untracked(PyTuple_New(TOKEN_FIELDS));
     if (begun->fields == NULL)
         return -1;
@@ -207,7 +207,7 @@ static PyObject *token_value(maker *of, const pieces *piece, const starlark_lexe
 }
 
 /* Fills the fields up to the line: of a token over several lines it has all of them. */
-static int fill_front(maker *of, unsigned kind, size_t begin, size_t end)
+static int fill_up_to_line(maker *of, unsigned kind, size_t begin, size_t end)
 {
     PyObject *fields = of->fields;
     if (cursor_move(&of->tokens, begin) < 0)
@@ -225,7 +225,7 @@ static int fill_front(maker *of, unsigned kind, size_t begin, size_t end)
 PyObject *maker_token(maker *of, const pieces *piece, const starlark_lexeme *lexeme)
 {
     size_t begin = piece->from + lexeme->begin, end = piece->from + lexeme->end;
-    if (fill_front(of, lexeme->kind, begin, end) < 0
+    if (fill_up_to_line(of, lexeme->kind, begin, end) < 0
         || set_field(of->fields, VALUE, token_value(of, piece, lexeme, begin)) < 0
         || set_field(of->fields, SPAN, pair_of(of->base + begin, of->base + end)) < 0)
         return NULL;
