@@ -6,8 +6,8 @@
 After `rt ci` has passed, crates/*/out/rlib has the libraries that the gate proved. `rt lib` doesn't
 take them: the gate marks none as built, since they fit only each other. Where all of them are newer
 than each source, this script gives them to `rattle build` itself, so that the archive's own crate
-alone is proved, by N jobs (2). Else, and where that fails, it calls `rt lib`, which proves the
-libraries too, unless a check of the same sources has kept them. The archive is
+alone is proved from nothing, by N jobs (2). Else, and where that fails, it calls `rt lib`, which
+proves the libraries too, unless a check of the same sources has kept them. The archive is
 crates/starlark_c/out/libstarlark_c.a.
 
 The toolchain that builds it is one of links to the kit's, whose clang also keeps the LLVM module that
@@ -15,9 +15,9 @@ it is given: crates/starlark_c/out/starlark_c.bc, of which scripts/bindings/web_
 browsers. So one proof serves both.
 
 TARGET is another one than this machine's, as aarch64-unknown-linux-gnu. Then the archive is built
-for it, too, over the same libraries, which hold no compiled code: that is in a folder of the
-target's name beside the other. What the kit said is in out/bindings/rt.log. The exit status is 1
-where an archive isn't proved.
+for it, too, by the proofs that this machine's has kept, and over the same libraries, which hold no
+compiled code: that is in a folder of the target's name beside the other. What the kit said is in
+out/bindings/rt.log. The exit status is 1 where an archive isn't proved.
 """
 
 import argparse
@@ -38,6 +38,7 @@ CRATE = "starlark_c"
 FOLDER = TOP / "crates" / CRATE
 LOG = TOP / "out/bindings/rt.log"
 MODULE = FOLDER / "out" / f"{CRATE}.bc"
+PROOFS = FOLDER / "out/archive_proofs"
 KIT_LIBRARIES = ["std"]
 CLANG = """#!/bin/sh
 for word do
@@ -100,10 +101,10 @@ def words_of_build(kit_folder, toolchain, jobs, target=""):
     words += ["--antt-project", kit_folder / "rattle/logic/antt-project.json"]
     words += ["--logic-built", kit_folder / "logic_built", "--links", f"{CRATE}="]
     words += ["--crate-type", "staticlib", "--jobs", str(jobs)]
-    # What an earlier proof of the same sources has kept serves another target, too.
-    keeps = target and (FOLDER / "out/incremental").is_dir()
+    # What the proof for this machine has kept serves another target, too.
+    kept = [folder for folder in (PROOFS, FOLDER / "out/incremental") if folder.is_dir()]
     words += ["--target", target] if target else []
-    words += ["--incremental", "out/incremental"] if keeps else []
+    words += ["--incremental", kept[0]] if kept else []
     words += ["--toolchain", toolchain, "--backend", "llvm"]
     return [*words, "-o", archive_for(target)]
 
@@ -159,10 +160,13 @@ def build_by_rt(kit_folder, toolchain):
 
 def is_built(kit_folder, toolchain, jobs):
     """Whether this machine's archive is proved and built with a toolchain."""
+    shutil.rmtree(PROOFS, ignore_errors=True)
     if all(is_current(library(name)) for name in crates_below(CRATE)):
         print("proving and building the archive over the gate's libraries", file=sys.stderr)
+        PROOFS.mkdir(parents=True)
         if is_made_by(words_of_build(kit_folder, toolchain, jobs)):
             return True
+        shutil.rmtree(PROOFS)
     print("proving and building the archive and the libraries below it", file=sys.stderr)
     return is_made_by([sys.executable, __file__, "--rt", kit_folder, toolchain])
 
