@@ -33,6 +33,8 @@ from shared.programs import TOP, give_up
 # seconds of one processor. So this many end within five minutes.
 MOST_OF_A_SHARE = 14
 TRIED = re.compile(r"(?m)^rt: must-fail (\S+/\S+\.edit): (.*)$")
+# That a proof names what an edit takes away says nothing of a contract.
+REFUSED = re.compile(r"refused, as it must be(?! \(only because a proof file names)")
 
 
 def git(*words):
@@ -131,7 +133,7 @@ def tried(edits, seconds=0):
 def refused_of(said, edits):
     """The names of the edits that rt refused, by what it said. Prints those of which it says something else, or nothing."""
     answers = dict(TRIED.findall(said))
-    refused = [edit.name for edit in edits if answers.get(edit.name, "").startswith("refused, as it must be")]
+    refused = [edit.name for edit in edits if REFUSED.match(answers.get(edit.name, ""))]
     for edit in edits:
         if edit.name not in refused:
             print(f"not refused: {edit.path.relative_to(TOP)}: {answers.get(edit.name, 'rt says nothing of it')}")
