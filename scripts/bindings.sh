@@ -29,7 +29,7 @@ fail() {
 
 # Whether the libraries are no older than the archive, the header and what links them.
 are_linked() {
-    [ -e "$made/libstarlark_lex.so" ] || return 1
+    [ -e "$made/libstarlark_lex.so" ] && [ -e "$made/starlark_lex.h" ] || return 1
     newer=$(find "$archive" "$top/bindings/c" "$top/VERSION" "$top/scripts/bindings/link_library.sh" \
         -type f -newer "$made/starlark_lex.h" -print)
     [ -z "$newer" ]
