@@ -115,7 +115,7 @@ class OpenFile:
     """A file that the client edits."""
 
     def __init__(self, text: str) -> None:
-        self.document = Document(text)
+        self.document = Document(text.encode())
         self.lines: List[Line] = []
         self.replace_lines(0, 0, 0, len(self.document))
         self.sent: List[Line] = []
@@ -155,7 +155,7 @@ class OpenFile:
 
     def take(self, change: Change) -> None:
         """Makes the lines anew that a change of the document touches."""
-        first, last = self.document.place(change.start), self.document.place(change.new_end)
+        first, last = self.document.place(change.begin), self.document.place(change.new_end)
         assert first is not None and last is not None
         more = self.last_line() + 1 - len(self.lines)
         # A token may begin on a line before the range, and end in it.

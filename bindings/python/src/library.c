@@ -1,6 +1,7 @@
 /* The module `starlark_lexer.library`: what Python calls of the proved lexer. */
 #include "library.h"
 
+#include <stdlib.h>
 #include <string.h>
 
 library_state *state_of(PyObject *module)
@@ -218,8 +219,8 @@ static PyMethodDef methods[] = {
          "begins no token, and a tab in code keep their lines: it goes on after them, with all\n"
          "brackets, f-strings and blocks open. After any other fault it begins again at the next\n"
          "line, as if that began a text of its own.\n\n"
-         "The call itself raises `TypeError` for what is neither `str` nor `bytes`, `UnicodeError`\n"
-         "for what isn't UTF-8, and `ValueError` for more than 4294967295 bytes."),
+         "The call itself raises `TypeError` for what neither is a `str` nor has bytes,\n"
+         "`UnicodeError` for what isn't UTF-8, and `ValueError` for more than 4294967295 bytes."),
     CALL(lex,
          "lex(source)\n--\n\n"
          "All tokens of a text and None, or the tokens before its first fault and that fault."),
@@ -394,24 +395,50 @@ static void library_free(void *module)
     library_clear(module);
 }
 
+/* Slots that the limited API of 3.9 lacks: an interpreter with a lock of its own may import the
+ * module (3.12), and one without any lock (3.13). */
+enum { MULTIPLE_INTERPRETERS = 3, GIL = 4 };
+#define PER_INTERPRETER_GIL ((void *)2)
+#define GIL_NOT_USED ((void *)1)
+
 static PyModuleDef_Slot slots[] = {
     {Py_mod_exec, library_exec},
     {0, NULL},
 };
 
-static PyModuleDef definition = {
-    PyModuleDef_HEAD_INIT,
-    .m_name = "starlark_lexer.library",
-    .m_doc = "The proved lexer of Starlark, called from Python.",
-    .m_size = sizeof(library_state),
-    .m_methods = methods,
-    .m_slots = slots,
-    .m_traverse = library_traverse,
-    .m_clear = library_clear,
-    .m_free = library_free,
+static PyModuleDef_Slot slots_of_3_12[] = {
+    {Py_mod_exec, library_exec},
+    {MULTIPLE_INTERPRETERS, PER_INTERPRETER_GIL},
+    {0, NULL},
 };
 
+static PyModuleDef_Slot slots_of_3_13[] = {
+    {Py_mod_exec, library_exec},
+    {MULTIPLE_INTERPRETERS, PER_INTERPRETER_GIL},
+    {GIL, GIL_NOT_USED},
+    {0, NULL},
+};
+
+#define DEFINITION(its_slots) \
+    { \
+        PyModuleDef_HEAD_INIT, \
+        .m_name = "starlark_lexer.library", \
+        .m_doc = "The proved lexer of Starlark, called from Python.", \
+        .m_size = sizeof(library_state), .m_methods = methods, .m_slots = its_slots, \
+        .m_traverse = library_traverse, .m_clear = library_clear, .m_free = library_free \
+    }
+
+static PyModuleDef definition = DEFINITION(slots);
+static PyModuleDef definition_of_3_12 = DEFINITION(slots_of_3_12);
+static PyModuleDef definition_of_3_13 = DEFINITION(slots_of_3_13);
+
+/* The module for the running interpreter: an older one refuses slots that it doesn't know. */
 PyMODINIT_FUNC PyInit_library(void)
 {
-    return PyModuleDef_Init(&definition);
+    char *end;
+    long major = strtol(Py_GetVersion(), &end, 10);
+    long minor = strtol(end + 1, NULL, 10);
+    if (major == 3 && minor < 12)
+        return PyModuleDef_Init(&definition);
+    return PyModuleDef_Init(major == 3 && minor == 12 ? &definition_of_3_12 : &definition_of_3_13);
 }
