@@ -15,7 +15,7 @@ from setuptools.command.build_ext import build_ext
 FOLDER = "STARLARK_LEX_DIR"
 ARCHIVE = "libstarlark_lex.a"
 HEADER = "starlark_lex.h"
-SOURCES = ["columns.c", "document.c", "library.c", "maker.c", "offsets.c", "pieces.c", "texts.c", "tokens.c"]
+SOURCES = ["columns.c", "document.c", "library.c", "maker.c", "offsets.c", "pieces.c", "semantic.c", "texts.c", "tokens.c"]
 
 # One module serves all versions from 3.9 on. A free-threaded build has no limited API.
 IS_LIMITED = not get_config_var("Py_GIL_DISABLED")

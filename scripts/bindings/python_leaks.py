@@ -76,10 +76,11 @@ def columns(source):
 def document(source):
     """What a document of a text says."""
     from starlark_lexer import Document
+    from starlark_lexer.library import semantic_tokens
 
     with Document(source) as made:
         found = len(made), made.tokens(), made.faults(), made.text(), made.place(len(made))
-        return found, made.edit(0, 0, "é🔬"), len(made)
+        return found, made.edit(0, 0, "é🔬"), len(made), semantic_tokens(made, bytes(99), 16, 0, 0, 1, 1, 6)
 
 
 def calls():

@@ -154,6 +154,7 @@ print_by_python() {
 
 try_wheel() {
     install_wheel
+    clean venv/bin/starlark-lsp --version >&2 || return 1
     print_by_python
 }
 

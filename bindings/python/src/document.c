@@ -294,6 +294,20 @@ static int fill_part(starlark_document *document, pieces *found, size_t begin, s
     return outcome.status == STARLARK_STATUS_WHOLE ? 0 : -1;
 }
 
+int find_lexemes(starlark_document *document, pieces *found, size_t begin, size_t end)
+{
+    return fill_part(document, found, begin, end, true);
+}
+
+starlark_document *open_document(PyObject *module, PyObject *object)
+{
+    if ((PyObject *)Py_TYPE(object) != state_of(module)->document_type) {
+        PyErr_SetString(PyExc_TypeError, "this isn't a document");
+        return NULL;
+    }
+    return is_open(object) ? document_of(object) : NULL;
+}
+
 /* Finds the lines of some offsets: where they begin and end, and the number of the first one. */
 static void find_lines(PyObject *self, size_t *begin, size_t *end, starlark_text_place *first)
 {

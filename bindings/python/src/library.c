@@ -247,6 +247,15 @@ static PyMethodDef methods[] = {
     {"fault_code", library_fault_code, METH_O,
      "fault_code(kind, /)\n--\n\n"
      "The code of a fault's kind, as `SL008`; empty where no fault has the number."},
+    {"semantic_tokens", library_semantic_tokens, METH_VARARGS,
+     "semantic_tokens(document, types, unit, line, begin, first, last, end, /)\n--\n\n"
+     "The tokens that begin from byte `begin`, where a line does, to byte `end`.\n\n"
+     "Returns how many end before byte `first`, the numbers of those that touch `first` to\n"
+     "`last`, and of the one after them, as text; how many these are, and how many follow. A token is\n"
+     "counted once for each of its lines, which LF, CR LF or CR end. Its numbers are those of the\n"
+     "Language Server Protocol: by how many lines and columns it begins after the one before it,\n"
+     "its length, its type, and 0. A column is a unit of UTF-8, 16 or 32. `types` has the type of\n"
+     "each kind, or 255."},
     {"version", library_version, METH_NOARGS, "version()\n--\n\nThe version of the library."},
     {"place_of", library_place_of, METH_VARARGS,
      "place_of(source, at, /)\n--\n\n"

@@ -158,6 +158,16 @@ long number_of(const starlark_lexeme *lexeme);
 size_t read_document_part(starlark_document *document, size_t begin, size_t end, uint8_t *part,
                           size_t part_cap);
 
+/* Finds the lexemes that touch a range of a document, by offsets in bytes. Returns 0, or -1 with an
+ * exception set. */
+int find_lexemes(starlark_document *document, pieces *found, size_t begin, size_t end);
+
+/* The document of an object. NULL with TypeError or ValueError set where it is none, or closed. */
+starlark_document *open_document(PyObject *module, PyObject *object);
+
+/* The call `semantic_tokens`. */
+PyObject *library_semantic_tokens(PyObject *module, PyObject *arguments);
+
 /* An offset of a document, in bytes and in characters. */
 typedef struct offset_mark {
     size_t bytes;
