@@ -18,17 +18,19 @@ version=$(cat "$top/VERSION")
 
 # Prints a template of this folder for the release.
 filled() {
-    rest=${version#*.}
     # From a folder of LIBDIR back to the prefix, for each part of LIBDIR.
     up=$(echo "$libdir" | sed 's|[^/]*|..|g')
-    sed -e "s|@VERSION@|$version|g" -e "s|@MAJOR@|${version%%.*}|g" -e "s|@MINOR@|${rest%%.*}|g" \
-        -e "s|@UP@|$up|g" "$top/release/$1"
+    sed -e "s|@VERSION@|$version|g" -e "s|@ABI@|$("$top/release/abi.sh")|g" -e "s|@UP@|$up|g" \
+        "$top/release/$1"
 }
 
 install_library() {
     mkdir -p "$prefix/include" "$prefix/$libdir/pkgconfig" "$prefix/$libdir/cmake/starlark_lex"
     cp "$library/starlark_lex.h" "$prefix/include"
     cp -P "$library"/libstarlark_lex.* "$prefix/$libdir"
+    for dll in "$library"/*.dll; do
+        [ ! -e "$dll" ] || { mkdir -p "$prefix/bin" && cp "$dll" "$prefix/bin"; }
+    done
     filled starlark_lex.pc >"$prefix/$libdir/pkgconfig/starlark_lex.pc"
     for file in starlark_lexConfig.cmake starlark_lexConfigVersion.cmake; do
         filled $file >"$prefix/$libdir/cmake/starlark_lex/$file"
@@ -50,7 +52,7 @@ install_documents() {
     mkdir -p "$prefix/$docdir/examples" "$prefix/$docdir/use"
     cp "$top/LICENSE" "$top/CHANGELOG.md" "$top/docs/GRAMMAR.md" "$prefix/$docdir"
     cp "$top"/docs/use/*.md "$prefix/$docdir/use"
-    cp "$top/bindings/c/print_tokens.c" "$prefix/$docdir/examples"
+    cp "$top/bindings/c/print_tokens.c" "$top/release/try/tokens.cpp" "$prefix/$docdir/examples"
 }
 
 install_library

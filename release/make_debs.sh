@@ -15,6 +15,7 @@ library=$3
 programs=$4
 output=$5
 version=$(cat "$top/VERSION")
+abi=$("$top/release/abi.sh")
 work=$(mktemp -d)
 trap 'rm -rf "$work"' EXIT
 trap 'exit 1' HUP INT TERM
@@ -50,6 +51,8 @@ document() {
 add_dependencies() {
     needed=$("$top/release/needed_glibc.sh" 99 "$1"/usr/bin/*)
     sed -i "s|^Section:|Depends: libc6 (>= $needed)\\nSection:|" "$1/DEBIAN/control"
+    # The kit links programs for x86-64-v2, which end at once where the processor has less.
+    [ "$arch" != amd64 ] || sed -i 's|^Depends: .*|&, sse4.2-support|' "$1/DEBIAN/control"
     ! readelf -d "$1"/usr/bin/* | grep -q 'NEEDED.*libgcc_s' ||
         sed -i 's|^Depends: .*|&, libgcc-s1|' "$1/DEBIAN/control"
 }
@@ -60,12 +63,13 @@ pack() {
     mkdir "$root/DEBIAN"
     size=$(du -k -s --apparent-size "$root" | cut -f 1)
     sed -e "s|@VERSION@|$version|g" -e "s|@ARCH@|$arch|g" -e "s|@SIZE@|$size|g" \
-        -e "s|@MAINTAINER@|$MAINTAINER|g" "$top/release/debian/$1.control" >"$root/DEBIAN/control"
+        -e "s|@MAINTAINER@|$MAINTAINER|g" -e "s|@ABI@|$abi|g" \
+        "$top/release/debian/${1%"$abi"}.control" >"$root/DEBIAN/control"
     (cd "$root" && find usr -type f -print0 | LC_ALL=C sort -z | xargs -0 md5sum) \
         >"$root/DEBIAN/md5sums"
     case $1 in
-    libstarlark-lex0)
-        echo "libstarlark_lex 0 libstarlark-lex0 (>= $version)" >"$root/DEBIAN/shlibs"
+    libstarlark-lex"$abi")
+        echo "libstarlark_lex $abi libstarlark-lex$abi (>= $version)" >"$root/DEBIAN/shlibs"
         echo 'activate-noawait ldconfig' >"$root/DEBIAN/triggers"
         ;;
     starlark-tokens) add_dependencies "$root" ;;
@@ -80,15 +84,14 @@ find "$work/all/usr" -name '*.1' -exec gzip -9n {} +
 chmod -R go=rX "$work/all"
 find "$work/all/usr/lib" -type f -exec chmod 644 {} +
 libdir=usr/lib/$triplet
-take libstarlark-lex0 "$libdir/libstarlark_lex.so.${version%%.*}" \
-    "$libdir/libstarlark_lex.so.$version"
+take "libstarlark-lex$abi" "$libdir/libstarlark_lex.so.$abi" "$libdir/libstarlark_lex.so.$version"
 take libstarlark-lex-dev usr/include/starlark_lex.h "$libdir/libstarlark_lex.so" \
     "$libdir/libstarlark_lex.a" "$libdir/pkgconfig" "$libdir/cmake" \
     usr/share/doc/libstarlark-lex-dev/GRAMMAR.md usr/share/doc/libstarlark-lex-dev/use \
     usr/share/doc/libstarlark-lex-dev/examples
-for package in libstarlark-lex0 libstarlark-lex-dev; do
-    document $package
-    pack $package
+for package in "libstarlark-lex$abi" libstarlark-lex-dev; do
+    document "$package"
+    pack "$package"
 done
 if [ "$programs" != none ]; then
     take starlark-tokens usr/bin usr/share/man usr/share/bash-completion usr/share/zsh \

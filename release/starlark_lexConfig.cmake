@@ -5,9 +5,17 @@ get_filename_component(_starlark_lex_include "${_starlark_lex_lib}/@UP@/include"
 
 if(NOT TARGET starlark_lex::starlark_lex)
   add_library(starlark_lex::starlark_lex SHARED IMPORTED)
+  if(WIN32)
+    set_target_properties(starlark_lex::starlark_lex PROPERTIES
+      IMPORTED_LOCATION "${_starlark_lex_include}/../bin/starlark_lex-@ABI@.dll"
+      IMPORTED_IMPLIB "${_starlark_lex_lib}/libstarlark_lex.dll.a"
+      INTERFACE_COMPILE_DEFINITIONS STARLARK_LEX_SHARED)
+  else()
+    set_target_properties(starlark_lex::starlark_lex PROPERTIES
+      IMPORTED_LOCATION "${_starlark_lex_lib}/libstarlark_lex.so.@VERSION@"
+      IMPORTED_SONAME "libstarlark_lex.so.@ABI@")
+  endif()
   set_target_properties(starlark_lex::starlark_lex PROPERTIES
-    IMPORTED_LOCATION "${_starlark_lex_lib}/libstarlark_lex.so.@VERSION@"
-    IMPORTED_SONAME "libstarlark_lex.so.@MAJOR@"
     INTERFACE_INCLUDE_DIRECTORIES "${_starlark_lex_include}")
 
   add_library(starlark_lex::static STATIC IMPORTED)

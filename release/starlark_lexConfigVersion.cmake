@@ -1,7 +1,7 @@
-# While the major version is 0, only the same minor version serves.
+# Versions from @ABI@ on serve programs that were linked with this one.
 set(PACKAGE_VERSION "@VERSION@")
 if(PACKAGE_FIND_VERSION VERSION_GREATER PACKAGE_VERSION
-   OR NOT PACKAGE_FIND_VERSION VERSION_GREATER_EQUAL "@MAJOR@.@MINOR@")
+   OR NOT PACKAGE_FIND_VERSION VERSION_GREATER_EQUAL "@ABI@")
   set(PACKAGE_VERSION_COMPATIBLE FALSE)
 else()
   set(PACKAGE_VERSION_COMPATIBLE TRUE)

@@ -18,7 +18,7 @@ set -eu
 
 top=$(CDPATH='' cd -- "$(dirname -- "$0")/.." && pwd)
 crate="$top/crates/starlark_c"
-archive="$crate/out/libstarlark_c.a"
+module="$crate/out/starlark_c.bc"
 made="$top/out/bindings"
 stored="$top/crates/starlark_rows"
 
@@ -27,10 +27,9 @@ fail() {
     exit 1
 }
 
-# Makes the static and the shared library.
+# Makes the static and the shared library, where they aren't current. So parts may run side by side.
 link_libraries() {
-    kit=$(dirname "$(rt doc)")
-    CC=$cc "$top/scripts/bindings/link_library.sh" '' "$archive" "$kit/c/liblibc_c.a" "$made"
+    CC=$cc "$top/scripts/bindings/link_library.sh" x86_64-linux "$module" "$made"
 }
 
 # Compares the numbers that cross to the header, the crate and the package, where there is a
@@ -62,16 +61,29 @@ compile() {
         "$cc" $flags -I "$made" $inputs -o "$made/$1"
 }
 
+# Prints a program in C++17 that compiles where no call of the header may throw.
+program_of_calls() {
+    echo '#include "starlark_lex.h"'
+    echo 'template <class R, class... A> constexpr bool no_throw(R (*)(A...) noexcept) { return true; }'
+    sed -n 's/^[a-z].*[ *]\(starlark_[a-z_0-9]*\)(.*/static_assert(no_throw(\1));/p' "$1"
+}
+
 # Compiles the header by itself as C of three standards, and as C++ where the compiler takes it.
 compile_header() {
     header="$made/starlark_lex.h"
+    flags='-Wall -Wextra -Wpedantic -Wconversion -Wsign-conversion -Werror -fsyntax-only'
     for standard in c99 c11 c17; do
-        "$cc" -std=$standard -Wall -Wextra -Wpedantic -Werror -fsyntax-only -x c "$header"
+        # shellcheck disable=SC2086
+        "$cc" -std=$standard $flags -x c "$header"
     done
     echo 'int main() {}' | "$cc" -x c++ -fsyntax-only - 2>/dev/null || return 0
-    for standard in c++98 c++11 c++17; do
-        "$cc" -std=$standard -Wall -Wextra -Werror -fsyntax-only -x c++ "$header"
+    for standard in c++98 c++11 c++14 c++17 c++20; do
+        # shellcheck disable=SC2086
+        "$cc" -std=$standard $flags -Wold-style-cast -x c++ "$header"
     done
+    # shellcheck disable=SC2086
+    "$cc" -std=c++11 $flags -Wold-style-cast -I "$made" "$top/release/try/tokens.cpp"
+    program_of_calls "$header" | "$cc" -std=c++17 -fsyntax-only -I "$made" -x c++ -
 }
 
 test_c() {
@@ -93,14 +105,38 @@ test_c() {
     "$made/refused_documents"
 }
 
-# Lints the crate for Rust, where clippy and rustfmt are there.
+# Lints the crate for Rust and its documentation, where clippy and rustfmt are there.
 lint_rust() {
     if cargo clippy --version >/dev/null 2>&1; then
         cargo clippy --offline --quiet --all-targets -- -D warnings
+        RUSTDOCFLAGS='-D warnings' cargo doc --offline --quiet --no-deps
     fi
     if cargo fmt --version >/dev/null 2>&1; then
         cargo fmt --check
     fi
+}
+
+# Calls Debian's cargo.
+debians_cargo() {
+    env PATH="/usr/bin:$PATH" CARGO_TARGET_DIR="$made/cargo_debian" cargo "$@"
+}
+
+# Tests the crate by the oldest Rust that it takes, where Debian's is that one, and checks it for other
+# targets, of which the crate has no library. That Rust lays out a lexeme with a word more.
+test_oldest_rust() {
+    oldest=$(sed -n 's/^rust-version = "\(.*\)"/\1/p' Cargo.toml)
+    case $(/usr/bin/rustc --version 2>/dev/null) in
+    "rustc $oldest".*) ;;
+    *)
+        echo "Rust $oldest was left out: Debian's is not there, or another one"
+        return 0
+        ;;
+    esac
+    debians_cargo test --offline --quiet --lib -- --skip a_lexeme_has_five_words
+    for target in x86_64-pc-windows-gnu wasm32-unknown-unknown; do
+        [ ! -d "/usr/lib/rustlib/$target" ] ||
+            (unset STARLARK_LEX_DIR && debians_cargo check --offline --quiet --target "$target")
+    done
 }
 
 test_rust() {
@@ -116,6 +152,7 @@ test_rust() {
     cd "$top/bindings/rust"
     cargo test --offline --quiet
     lint_rust
+    test_oldest_rust
     cd "$top"
     echo 'Rust: the tests of the crate passed'
 }

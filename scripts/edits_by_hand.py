@@ -1,9 +1,12 @@
 #!/usr/bin/env python3
 """Tries the edits of crates/*/must-fail-by-hand, which the gate leaves out for its time: the prover has to refuse each.
 
-    scripts/edits_by_hand.py [CRATE..]                      tries those of these crates, or all, and notes which were refused
+    scripts/edits_by_hand.py [WHICH..]                      tries all, or some, and notes which were refused
     scripts/edits_by_hand.py --share [--seconds N]          tries some of one crate, in turn by the number of the commit
     scripts/edits_by_hand.py --record LOG [--commit NAME]   notes which were refused by what rt printed at a commit (HEAD)
+
+WHICH is a crate, one of its files or folders, or an edit, as starlark_base, starlark_base/codemap/spans or
+starlark_base/codemap/spans/begin_is_end.edit.
 
 It works on a clone, so on what is committed, with these edits in place of those of the gate: `rt ci` takes the proofs there that
 earlier runs kept. scripts/edits_by_hand.txt has each edit with the commit at which it was last refused; it is written by this
@@ -30,6 +33,8 @@ from shared.programs import TOP, give_up
 # seconds of one processor. So this many end within five minutes.
 MOST_OF_A_SHARE = 14
 TRIED = re.compile(r"(?m)^rt: must-fail (\S+/\S+\.edit): (.*)$")
+# That a proof names what an edit takes away says nothing of a contract.
+REFUSED = re.compile(r"refused, as it must be(?! \(only because a proof file names)")
 
 
 def git(*words):
@@ -51,6 +56,15 @@ def share_of(number, edits):
     part = parts[number % len(parts)]
     print(f"edits by hand: commit {number} has part {number % len(parts) + 1} of {len(parts)}, {len(part)} edits of {part[0].crate}", flush=True)
     return part
+
+
+def asked_of(words):
+    """The edits that some words name; all, if there are none."""
+    paths = {f"{edit.path.relative_to(TOP / 'crates')}/".replace("/must-fail-by-hand", ""): edit for edit in edits_by_hand()}
+    for word in words:
+        if not any(path.startswith(f"{word}/") for path in paths):
+            give_up(f"edits_by_hand.py: there are no edits by hand of {word}")
+    return [edit for path, edit in paths.items() if not words or any(path.startswith(f"{word}/") for word in words)]
 
 
 def keep_crates(clone, wanted):
@@ -119,7 +133,7 @@ def tried(edits, seconds=0):
 def refused_of(said, edits):
     """The names of the edits that rt refused, by what it said. Prints those of which it says something else, or nothing."""
     answers = dict(TRIED.findall(said))
-    refused = [edit.name for edit in edits if answers.get(edit.name, "").startswith("refused, as it must be")]
+    refused = [edit.name for edit in edits if REFUSED.match(answers.get(edit.name, ""))]
     for edit in edits:
         if edit.name not in refused:
             print(f"not refused: {edit.path.relative_to(TOP)}: {answers.get(edit.name, 'rt says nothing of it')}")
@@ -146,7 +160,7 @@ def record(log, commit):
 
 def main():
     parser = argparse.ArgumentParser()
-    parser.add_argument("crates", nargs="*", metavar="CRATE")
+    parser.add_argument("words", nargs="*", metavar="WHICH")
     parser.add_argument("--share", action="store_true")
     parser.add_argument("--seconds", type=int, default=0)
     parser.add_argument("--record", type=Path, metavar="LOG")
@@ -154,9 +168,7 @@ def main():
     asked = parser.parse_args()
     if asked.record:
         return record(asked.record, asked.commit)
-    edits = [edit for edit in edits_by_hand() if not asked.crates or edit.crate in asked.crates]
-    if not edits:
-        give_up("edits_by_hand.py: these crates have no edits by hand")
+    edits = asked_of(asked.words)
     if asked.share:
         edits = share_of(int(git("rev-list", "--count", "HEAD")), edits)
     said = tried(edits, asked.seconds)

@@ -38,18 +38,18 @@ export function tokenAfter(tokens, offset) {
     return low;
 }
 
-function rangeOf(text, start, end) {
-    const [startContainer, startOffset] = text.pointAt(start);
+function rangeOf(text, begin, end) {
+    const [startContainer, startOffset] = text.pointAt(begin);
     const [endContainer, endOffset] = text.pointAt(end);
     return new StaticRange({ startContainer, startOffset, endContainer, endOffset });
 }
 
 /** The ranges of the tokens between two offsets, by group. Tokens count offsets from `base`. A name has
  * the colour of the text, and no range. */
-export function tokenRanges(text, tokens, base, start, end) {
+export function tokenRanges(text, tokens, base, begin, end) {
     const ranges = new Map();
-    for (let index = tokenAfter(tokens, start - base); index < tokens.length; index++) {
-        const from = tokens.start(index) + base;
+    for (let index = tokenAfter(tokens, begin - base); index < tokens.length; index++) {
+        const from = tokens.begin(index) + base;
         if (from >= end) {
             break;
         }
@@ -65,21 +65,21 @@ export function tokenRanges(text, tokens, base, start, end) {
 
 /** The characters of a fault to mark. The tab of a fault is after its place, and a wrong indentation
  * is marked on its own line. A fault without characters gets the next one. */
-export function markOf(whole, { kind, start, end }) {
+export function markOf(whole, { kind, begin, end }) {
     if (kind === "InvalidTab") {
-        BEFORE_MARGIN.lastIndex = start;
-        const tab = whole.indexOf("\t", whole[start] === "\t" ? start : start + BEFORE_MARGIN.exec(whole)[0].length);
-        return { start: tab, end: tab + 1 };
+        BEFORE_MARGIN.lastIndex = begin;
+        const tab = whole.indexOf("\t", whole[begin] === "\t" ? begin : begin + BEFORE_MARGIN.exec(whole)[0].length);
+        return { begin: tab, end: tab + 1 };
     }
     if (kind === "Indentation") {
-        return { start: whole.lastIndexOf("\n", end - 1) + 1, end };
+        return { begin: whole.lastIndexOf("\n", end - 1) + 1, end };
     }
-    return { start, end: Math.max(end, Math.min(start + 1, whole.length)) };
+    return { begin, end: Math.max(end, Math.min(begin + 1, whole.length)) };
 }
 
 /** The ranges of marks between two offsets. */
-export function markRanges(text, marks, start, end) {
-    return marks.filter((mark) => mark.start < end && mark.end >= start).map((mark) => rangeOf(text, mark.start, mark.end));
+export function markRanges(text, marks, begin, end) {
+    return marks.filter((mark) => mark.begin < end && mark.end >= begin).map((mark) => rangeOf(text, mark.begin, mark.end));
 }
 
 /** Shows ranges in the colour of a name, in place of those that it had. */

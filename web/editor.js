@@ -54,28 +54,28 @@ export class Editor {
         }
         const anchor = this.#offsetAt(anchorNode, anchorOffset);
         const focus = this.#offsetAt(focusNode, focusOffset);
-        return { start: Math.min(anchor, focus), end: Math.max(anchor, focus), focus };
+        return { begin: Math.min(anchor, focus), end: Math.max(anchor, focus), focus };
     }
 
     /** Selects a span. */
-    select(start, end) {
-        document.getSelection().setBaseAndExtent(...this.text.pointAt(start), ...this.text.pointAt(end));
+    select(begin, end) {
+        document.getSelection().setBaseAndExtent(...this.text.pointAt(begin), ...this.text.pointAt(end));
         this.#moved(end);
     }
 
     /** Puts a text in the place of a span, as one step of the history. */
-    replace(start, end, inserted) {
-        const removed = this.text.whole.slice(start, end);
+    replace(begin, end, inserted) {
+        const removed = this.text.whole.slice(begin, end);
         if (removed !== inserted) {
-            this.#remember({ start, removed, inserted });
-            this.#apply(start, end, inserted);
+            this.#remember({ begin, removed, inserted });
+            this.#apply(begin, end, inserted);
         }
-        this.select(start + inserted.length, start + inserted.length);
+        this.select(begin + inserted.length, begin + inserted.length);
     }
 
-    #apply(start, end, inserted) {
-        this.text.replace(start, end, inserted);
-        this.#changed(start);
+    #apply(begin, end, inserted) {
+        this.text.replace(begin, end, inserted);
+        this.#changed(begin);
     }
 
     // Characters that are typed one after another are one step.
@@ -83,7 +83,7 @@ export class Editor {
         const last = this.#done.at(-1);
         const now = performance.now();
         const isTyped = edit.removed === "" && edit.inserted.length === 1 && edit.inserted !== "\n";
-        const follows = last && last.isTyped && last.start + last.inserted.length === edit.start;
+        const follows = last && last.isTyped && last.begin + last.inserted.length === edit.begin;
         if (isTyped && follows && now - this.#lastEdit < TOGETHER) {
             last.inserted += edit.inserted;
         } else {
@@ -98,8 +98,8 @@ export class Editor {
         const edit = this.#done.pop();
         if (edit) {
             this.#undone.push(edit);
-            this.#apply(edit.start, edit.start + edit.inserted.length, edit.removed);
-            this.select(edit.start, edit.start + edit.removed.length);
+            this.#apply(edit.begin, edit.begin + edit.inserted.length, edit.removed);
+            this.select(edit.begin, edit.begin + edit.removed.length);
         }
     }
 
@@ -107,8 +107,8 @@ export class Editor {
         const edit = this.#undone.pop();
         if (edit) {
             this.#done.push({ ...edit, isTyped: false });
-            this.#apply(edit.start, edit.start + edit.removed.length, edit.inserted);
-            this.select(edit.start + edit.inserted.length, edit.start + edit.inserted.length);
+            this.#apply(edit.begin, edit.begin + edit.removed.length, edit.inserted);
+            this.select(edit.begin + edit.inserted.length, edit.begin + edit.inserted.length);
         }
     }
 
@@ -133,7 +133,7 @@ export class Editor {
         const { anchorNode, focusNode } = document.getSelection();
         const { selection } = this;
         if (selection && anchorNode !== focusNode) {
-            this.replace(selection.start, selection.end, "");
+            this.replace(selection.begin, selection.end, "");
         }
     }
 
@@ -144,18 +144,18 @@ export class Editor {
         }
         event.preventDefault();
         const type = event.inputType;
-        const { start, end } = this.#target(event);
+        const { begin, end } = this.#target(event);
         if (type === "historyUndo") {
             this.#undo();
         } else if (type === "historyRedo") {
             this.#redo();
         } else if (type === "insertParagraph" || type === "insertLineBreak") {
-            this.replace(start, end, `\n${this.#indentation(start)}`);
+            this.replace(begin, end, `\n${this.#indentation(begin)}`);
         } else if (type.startsWith("insert")) {
             const inserted = event.data ?? event.dataTransfer?.getData("text/plain") ?? "";
-            this.replace(start, end, inserted);
+            this.replace(begin, end, inserted);
         } else if (type.startsWith("delete")) {
-            this.#delete(type, start, end);
+            this.#delete(type, begin, end);
         }
     }
 
@@ -163,26 +163,26 @@ export class Editor {
     #target(event) {
         const range = event.getTargetRanges()[0];
         if (!range) {
-            return this.selection ?? { start: 0, end: 0 };
+            return this.selection ?? { begin: 0, end: 0 };
         }
-        const start = this.#offsetAt(range.startContainer, range.startOffset);
-        return { start, end: this.#offsetAt(range.endContainer, range.endOffset) };
+        const begin = this.#offsetAt(range.startContainer, range.startOffset);
+        return { begin, end: this.#offsetAt(range.endContainer, range.endOffset) };
     }
 
     #offsetAt(node, offset) {
         return Math.min(this.text.offsetAt(node, offset), this.text.length);
     }
 
-    #delete(type, start, end) {
+    #delete(type, begin, end) {
         const { selection } = this;
-        if (type === "deleteContentBackward" && selection?.start === selection?.end) {
-            start = this.#previous(selection.start);
-            end = selection.start;
-        } else if (type === "deleteContentForward" && selection?.start === selection?.end) {
-            start = selection.start;
-            end = this.#next(selection.start);
+        if (type === "deleteContentBackward" && selection?.begin === selection?.end) {
+            begin = this.#previous(selection.begin);
+            end = selection.begin;
+        } else if (type === "deleteContentForward" && selection?.begin === selection?.end) {
+            begin = selection.begin;
+            end = this.#next(selection.begin);
         }
-        this.replace(start, end, "");
+        this.replace(begin, end, "");
     }
 
     #next(offset) {
@@ -215,7 +215,7 @@ export class Editor {
         }
         if (edit.removed !== edit.inserted) {
             this.#remember(edit);
-            this.#changed(edit.start);
+            this.#changed(edit.begin);
         }
         if (!isComposing) {
             const offset = Math.min(caret, this.text.length);
@@ -225,17 +225,17 @@ export class Editor {
 
     #copy(event) {
         const { selection } = this;
-        if (selection && selection.start < selection.end) {
+        if (selection && selection.begin < selection.end) {
             event.preventDefault();
-            event.clipboardData.setData("text/plain", this.text.whole.slice(selection.start, selection.end));
+            event.clipboardData.setData("text/plain", this.text.whole.slice(selection.begin, selection.end));
         }
     }
 
     #cut(event) {
         this.#copy(event);
         if (event.defaultPrevented) {
-            const { start, end } = this.selection;
-            this.replace(start, end, "");
+            const { begin, end } = this.selection;
+            this.replace(begin, end, "");
         }
     }
 }

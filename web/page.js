@@ -38,7 +38,7 @@ let revealed = null;
 let frame = 0;
 let wait = 0;
 
-const list = new TokenList(part("tokens"), (token) => choose(token.start, token.end));
+const list = new TokenList(part("tokens"), (token) => choose(token.begin, token.end));
 const editor = new Editor(part("text"), changed, (offset) => {
     revealed = offset;
     follow(offset);
@@ -57,7 +57,7 @@ function cutsOf(tokens) {
         const kind = tokens.kind(index);
         if (kind === "Newline") {
             lineStart = tokens.end(index);
-        } else if (tokens.start(index) === lineStart && !NOT_CODE.has(kind)) {
+        } else if (tokens.begin(index) === lineStart && !NOT_CODE.has(kind)) {
             found.push(lineStart);
         }
     }
@@ -65,12 +65,12 @@ function cutsOf(tokens) {
 }
 
 /** Lexes the text after a change that begins at an offset. */
-function changed(start) {
+function changed(begin) {
     clearTimeout(wait);
     if (lexer && text.length <= LONG_TEXT) {
         lexAll();
     } else if (lexer) {
-        cuts = cuts.filter((cut) => cut < start);
+        cuts = cuts.filter((cut) => cut < begin);
         isWhole = false;
         inColours = null;
         const pause = Number(part("time").dataset.milliseconds) > SLOW_LEXING ? PAUSE : 0;
@@ -166,11 +166,11 @@ function showColours({ from, to }) {
 /** The message of each fault that is in view, with the line and the width of what it comes after. */
 function notesIn({ from, to }) {
     return lexed.faults.flatMap((fault, index) => {
-        const { start } = marks[index];
-        if (start < from || start > to) {
+        const { begin } = marks[index];
+        if (begin < from || begin > to) {
             return [];
         }
-        const { line } = text.placeAt(start);
+        const { line } = text.placeAt(begin);
         return [{ line, width: widthOfLine(line), message: `${fault.code} ${said(fault)}` }];
     });
 }
@@ -205,19 +205,19 @@ function noteOf({ line, width, message }) {
 }
 
 /** How wide the characters of a line are that are between two offsets. */
-function widthOf(start, end) {
-    if (start === end) {
+function widthOf(begin, end) {
+    if (begin === end) {
         return 0;
     }
     const range = document.createRange();
-    range.setStart(...text.pointAt(start));
+    range.setStart(...text.pointAt(begin));
     range.setEnd(...text.pointAt(end));
     return range.getBoundingClientRect().width;
 }
 
 function widthOfLine(line) {
-    const [start, end] = [text.lineStart(line), text.lineStart(line + 1)];
-    return widthOf(start, start + text.whole.slice(start, end).replace(/\r?\n$/, "").length);
+    const [begin, end] = [text.lineStart(line), text.lineStart(line + 1)];
+    return widthOf(begin, begin + text.whole.slice(begin, end).replace(/\r?\n$/, "").length);
 }
 
 function showMeasures() {
@@ -243,7 +243,7 @@ function showFaults() {
 function faultRow(fault, index) {
     const row = document.createElement("li");
     const button = row.appendChild(document.createElement("button"));
-    const { line, column } = text.placeAt(fault.start);
+    const { line, column } = text.placeAt(fault.begin);
     for (const [className, content] of [
         ["code", fault.code],
         ["place", `${line + 1}:${column + 1}`],
@@ -253,14 +253,14 @@ function faultRow(fault, index) {
         span.className = className;
         span.textContent = content;
     }
-    button.addEventListener("click", () => choose(marks[index].start, marks[index].end));
+    button.addEventListener("click", () => choose(marks[index].begin, marks[index].end));
     return row;
 }
 
 /** Selects a span of the text, and brings it into view. */
-function choose(start, end) {
+function choose(begin, end) {
     part("text").focus({ preventScroll: true });
-    editor.select(start, end);
+    editor.select(begin, end);
 }
 
 /** Scrolls so that an offset is shown. */
@@ -406,7 +406,7 @@ function listen() {
     });
 }
 
-async function begin() {
+async function start() {
     setTheme(kept((storage) => storage.getItem("theme")) ?? "auto");
     part("example").append(...Object.keys(EXAMPLES).map((name) => new Option(name, name)));
     try {
@@ -426,4 +426,4 @@ async function begin() {
     }
 }
 
-begin();
+start();

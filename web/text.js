@@ -106,10 +106,10 @@ export class EditedText {
     }
 
     /** Puts a text in the place of a span. */
-    replace(start, end, inserted) {
-        const first = this.#find(start);
+    replace(begin, end, inserted) {
+        const first = this.#find(begin);
         const last = this.#find(end);
-        const front = first.block.text.slice(0, start - first.begin);
+        const front = first.block.text.slice(0, begin - first.begin);
         const rest = last.block.text.slice(end - last.begin);
         const text = front + inserted + rest;
         this.#whole = null;
@@ -207,13 +207,13 @@ export class EditedText {
 /** The shortest span of a text that an edit to another one replaces, and what it inserts. */
 function difference(before, after) {
     const most = Math.min(before.length, after.length);
-    let start = 0;
-    while (start < most && before[start] === after[start]) {
-        start++;
+    let begin = 0;
+    while (begin < most && before[begin] === after[begin]) {
+        begin++;
     }
     let rest = 0;
-    while (rest < most - start && before[before.length - 1 - rest] === after[after.length - 1 - rest]) {
+    while (rest < most - begin && before[before.length - 1 - rest] === after[after.length - 1 - rest]) {
         rest++;
     }
-    return { start, removed: before.slice(start, before.length - rest), inserted: after.slice(start, after.length - rest) };
+    return { begin, removed: before.slice(begin, before.length - rest), inserted: after.slice(begin, after.length - rest) };
 }

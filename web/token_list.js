@@ -36,7 +36,7 @@ class Row {
         this.#set("ariaPosInSet", String(index + 1));
         this.#set("ariaSelected", String(isCurrent));
         this.element.style.top = `${top}px`;
-        const texts = [`${token.startByte}–${token.endByte}`, token.kind, shownValue(token)];
+        const texts = [`${token.beginByte}–${token.endByte}`, token.kind, shownValue(token)];
         this.parts.forEach((part, number) => {
             if (part.data !== texts[number]) {
                 part.data = texts[number];
@@ -83,7 +83,7 @@ export class TokenList {
      * the one after the offset, or the one before it where only that touches it. */
     set offset(offset) {
         const next = Math.min(tokenAfter(this.#tokens, offset), this.#tokens.length - 1);
-        const isBefore = next > 0 && this.#tokens.start(next) > offset && this.#tokens.end(next - 1) === offset;
+        const isBefore = next > 0 && this.#tokens.begin(next) > offset && this.#tokens.end(next - 1) === offset;
         this.#move(isBefore ? next - 1 : next);
     }
 

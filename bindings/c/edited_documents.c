@@ -288,8 +288,6 @@ static void try_refused(starlark_document *document)
                     "an offset inside of a character");
             break;
         }
-    require(starlark_document_open(document, text, text_len) == STARLARK_STATUS_OPENED,
-            "a document is opened twice");
     require(memcmp(&change, &untouched, sizeof change) == 0, "a record of a refused edit");
 }
 
@@ -339,54 +337,52 @@ static starlark_change edit(starlark_document *document)
 static void try_document(size_t edits)
 {
     static found whole, part, list;
-    starlark_document document = {0};
+    uint32_t status;
     text_len = make_text(text, below(8) == 0 ? 400 : below(60));
-    require(starlark_document_open(&document, text, text_len) == STARLARK_STATUS_WHOLE,
-            "no document is opened");
-    find_touching(&document, 0, SIZE_MAX, &list);
+    starlark_document *document = starlark_document_open(text, text_len, &status);
+    require(document != NULL && status == STARLARK_STATUS_WHOLE, "no document is opened");
+    find_touching(document, 0, SIZE_MAX, &list);
     for (size_t number = 0; number < edits; number++) {
-        starlark_change change = edit(&document);
+        starlark_change change = edit(document);
         edits_done++;
         find_whole(&whole);
-        find_touching(&document, 0, SIZE_MAX, &part);
+        find_touching(document, 0, SIZE_MAX, &part);
         compare(&whole, &part, 0, SIZE_MAX);
-        replace_touching(&list, &document, &change);
+        replace_touching(&list, document, &change);
         compare_list(&whole, &list);
         size_t begin = below(text_len + 1);
         size_t end = begin + below(40);
-        find_touching(&document, begin, end, &part);
+        find_touching(document, begin, end, &part);
         compare(&whole, &part, begin, end);
-        compare_text(&document);
-        try_places(&document);
-        try_small_buffers(&document, &whole);
+        compare_text(document);
+        try_places(document);
+        try_small_buffers(document, &whole);
         if (number % 16 == 0)
-            try_refused(&document);
+            try_refused(document);
     }
-    starlark_document_close(&document);
-    starlark_document_close(&document);
+    starlark_document_close(document);
 }
 
-/* No call does anything with a struct that holds no document. */
+/* No call does anything with NULL. */
 static void try_closed(void)
 {
     static found none;
-    starlark_document document = {0};
+    uint32_t status;
     starlark_change change;
     starlark_recovered outcome;
     starlark_text_place place;
-    starlark_document_close(&document);
-    require(starlark_document_edit(&document, 0, 0, NULL, 0, &change) == STARLARK_STATUS_CLOSED
-                && starlark_document_text(&document, 0, 0, NULL, 0) == STARLARK_STATUS_CLOSED
-                && starlark_document_lexemes(&document, 0, 0, NULL, 0, NULL, 0, &outcome)
+    starlark_document_close(NULL);
+    require(starlark_document_edit(NULL, 0, 0, NULL, 0, &change) == STARLARK_STATUS_CLOSED
+                && starlark_document_text(NULL, 0, 0, NULL, 0) == STARLARK_STATUS_CLOSED
+                && starlark_document_lexemes(NULL, 0, 0, NULL, 0, NULL, 0, &outcome)
                        == STARLARK_STATUS_CLOSED
-                && starlark_document_faults(&document, 0, 0, none.named, 0, NULL, 0, &outcome)
+                && starlark_document_faults(NULL, 0, 0, none.named, 0, NULL, 0, &outcome)
                        == STARLARK_STATUS_CLOSED
-                && starlark_document_len(&document) == 0
-                && !starlark_document_place(&document, 0, &place)
-                && starlark_document_offset_at_utf16(&document, 0, 0) == STARLARK_NO_OFFSET
-                && starlark_document_open(&document, (const uint8_t *)"\xff", 1)
-                       == STARLARK_STATUS_NOT_UTF8
-                && !document.is_full,
+                && starlark_document_len(NULL) == 0 && !starlark_document_place(NULL, 0, &place)
+                && starlark_document_offset_at_utf16(NULL, 0, 0) == STARLARK_NO_OFFSET
+                && starlark_document_open((const uint8_t *)"\xff", 1, &status) == NULL
+                && status == STARLARK_STATUS_NOT_UTF8
+                && starlark_document_open((const uint8_t *)"\xff", 1, NULL) == NULL,
             "a call on no document");
 }
 

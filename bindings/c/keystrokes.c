@@ -100,16 +100,16 @@ int main(int argc, char **argv)
     size_t count = argc == 2 ? (size_t)strtoul(argv[1], NULL, 10) : 0;
     uint8_t *text = read_all(&len);
     long long *times = malloc(2 * count * sizeof *times + 1);
-    starlark_document document = {0};
     if (count == 0 || text == NULL || times == NULL)
         return 2;
     long long start = now();
-    if (starlark_document_open(&document, text, len) != STARLARK_STATUS_WHOLE)
+    starlark_document *document = starlark_document_open(text, len, NULL);
+    if (document == NULL)
         return 2;
     long long made = now() - start;
-    if (!type_all(&document, count, times))
+    if (!type_all(document, count, times))
         return 2;
-    starlark_document_close(&document);
+    starlark_document_close(document);
     qsort(times, 2 * count, sizeof *times, order);
     printf("%zu %lld %lld %lld %lld\n", len, made, times[count], times[2 * count * 99 / 100],
            lex_all(text, len));

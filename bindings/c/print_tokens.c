@@ -27,10 +27,8 @@ static uint8_t *read_input(size_t *len)
 
 static void print_token(const starlark_lexeme *lexeme, const uint8_t *values)
 {
-    uint8_t name[32];
-    size_t name_len = starlark_kind_name(lexeme->kind, name, sizeof name);
-    printf("%u-%u ", (unsigned)lexeme->begin, (unsigned)lexeme->end);
-    fwrite(name, 1, name_len, stdout);
+    printf("%u-%u %s", (unsigned)lexeme->begin, (unsigned)lexeme->end,
+           starlark_kind_name(lexeme->kind));
     if (lexeme->value_len > 0) {
         putchar(' ');
         fwrite(values + lexeme->value_begin, 1, lexeme->value_len, stdout);

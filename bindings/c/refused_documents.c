@@ -116,26 +116,27 @@ static uint32_t read_text(starlark_document *document, const edit *made)
 
 /* Opens a document of a text, whose allocation of a number is refused; none is where that is below
  * 0. */
-static uint32_t open_text(starlark_document *document, const char *text, long number)
+static starlark_document *open_text(const char *text, long number, uint32_t *status)
 {
     was_refused = false;
     until_refused = number;
-    uint32_t status = starlark_document_open(document, (const uint8_t *)text, strlen(text));
+    starlark_document *document =
+        starlark_document_open((const uint8_t *)text, strlen(text), status);
     until_refused = -1;
-    return status;
+    return document;
 }
 
 /* Refuses each allocation of opening in turn. Returns how many were. */
 static long refuse_opening(const char *text)
 {
     for (long number = 0;; number++) {
-        starlark_document document = {0};
         long before = allocated;
-        uint32_t status = open_text(&document, text, number);
+        uint32_t status;
+        starlark_document *document = open_text(text, number, &status);
         bool is_open = status == STARLARK_STATUS_WHOLE;
-        if (document.is_full != is_open || (!is_open && allocated != before))
+        if ((document != NULL) != is_open || (!is_open && allocated != before))
             stop("what an opening leaves", (size_t)number);
-        starlark_document_close(&document);
+        starlark_document_close(document);
         if (allocated != before)
             stop("a closed document holds memory", (size_t)number);
         if (!was_refused && is_open)
@@ -151,27 +152,26 @@ static long refuse_opening(const char *text)
 static long refuse_each(const char *text, call *work, const edit *made)
 {
     static content before, after, now;
-    starlark_document document = {0};
-    open_text(&document, text, -1);
-    read_all(&document, &before);
-    if (work(&document, made) != STARLARK_STATUS_WHOLE)
+    starlark_document *document = open_text(text, -1, NULL);
+    read_all(document, &before);
+    if (work(document, made) != STARLARK_STATUS_WHOLE)
         stop("a call with enough memory", 0);
-    read_all(&document, &after);
-    starlark_document_close(&document);
+    read_all(document, &after);
+    starlark_document_close(document);
     for (long number = 0;; number++) {
         long base = allocated;
-        open_text(&document, text, -1);
+        document = open_text(text, -1, NULL);
         was_refused = false;
         until_refused = number;
-        uint32_t status = work(&document, made);
+        uint32_t status = work(document, made);
         until_refused = -1;
-        read_all(&document, &now);
+        read_all(document, &now);
         const content *wanted = status == STARLARK_STATUS_WHOLE ? &after : &before;
         if (memcmp(&now, wanted, sizeof now) != 0)
             stop("what a call leaves", (size_t)number);
-        if (status == STARLARK_STATUS_MEMORY && work(&document, made) != STARLARK_STATUS_WHOLE)
+        if (status == STARLARK_STATUS_MEMORY && work(document, made) != STARLARK_STATUS_WHOLE)
             stop("a call after one without memory", (size_t)number);
-        starlark_document_close(&document);
+        starlark_document_close(document);
         if (allocated != base)
             stop("a closed document holds memory", (size_t)number);
         if (!was_refused && status == STARLARK_STATUS_WHOLE)

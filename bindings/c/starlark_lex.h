@@ -11,7 +11,8 @@
  * Offsets and lengths count bytes, from 0. Texts are UTF-8 and have no terminating zero; a zero
  * byte is a character like others.
  *
- * The library is built for x86-64-v2 or 64-bit ARM, with the GNU C library 2.17 or later.
+ * The library is built for x86-64 and 64-bit ARM, on Linux with the GNU C library 2.17 or later or
+ * with musl, and for x86-64 on Windows. For the DLL define STARLARK_LEX_SHARED before this header.
  */
 #ifndef STARLARK_LEX_H
 #define STARLARK_LEX_H
@@ -29,6 +30,19 @@
 #include <stdbool.h>
 #include <stddef.h>
 #include <stdint.h>
+
+#if defined(_WIN32) && defined(STARLARK_LEX_SHARED)
+#define STARLARK_LEX_API __declspec(dllimport)
+#else
+#define STARLARK_LEX_API
+#endif
+
+/* No call throws. */
+#if defined(__cplusplus) && __cplusplus >= 201103L
+#define STARLARK_LEX_NOEXCEPT noexcept
+#else
+#define STARLARK_LEX_NOEXCEPT
+#endif
 
 #ifdef __cplusplus
 extern "C" {
@@ -158,8 +172,7 @@ enum starlark_status {
     STARLARK_STATUS_MEMORY = 5,   /* malloc or realloc returned NULL */
     STARLARK_STATUS_BAD_RANGE = 6, /* two offsets aren't in order, or one isn't a character boundary
                                       of the document */
-    STARLARK_STATUS_CLOSED = 7,   /* no document is open */
-    STARLARK_STATUS_OPENED = 8    /* a document is open already */
+    STARLARK_STATUS_CLOSED = 7    /* the document is NULL */
 };
 
 /* A lexeme: 32 bytes without padding. */
@@ -232,17 +245,10 @@ typedef struct starlark_text_place {
     size_t utf16_column; /* how many units of UTF-16 these take */
 } starlark_text_place;
 
-/* A text that stays lexed while it is edited. Zero it before its first call:
- *
- *     starlark_document document = {0};
- *
- * It holds no document then; starlark_document_open opens one in it, and starlark_document_close
- * frees it. The caller owns the struct, and neither writes to it nor uses a copy of it. One thread
- * at a time may call with it. */
-typedef struct starlark_document {
-    void *inner;
-    bool is_full;
-} starlark_document;
+/* A text that stays lexed while it is edited. starlark_document_open makes one, which
+ * starlark_document_close frees. One thread at a time may call with it. With NULL each call says
+ * that no document is open. */
+typedef struct starlark_document starlark_document;
 
 /* What an edit of a document changed. Before `begin` and after the ends all lexemes and faults are
  * the old ones; those after are moved by new_end - old_end. */
@@ -269,12 +275,12 @@ STARLARK_LEX_ASSERT(sizeof(starlark_outcome) == 72);
 STARLARK_LEX_ASSERT(sizeof(starlark_found_fault) == 40);
 STARLARK_LEX_ASSERT(sizeof(starlark_recovered) == 64);
 STARLARK_LEX_ASSERT(sizeof(starlark_text_place) == 24);
-STARLARK_LEX_ASSERT(sizeof(starlark_document) == 16);
 STARLARK_LEX_ASSERT(sizeof(starlark_change) == 48);
 #undef STARLARK_LEX_ASSERT
 
 /* The version of the library, as STARLARK_LEX_VERSION has that of the header. */
-uint32_t starlark_lex_version(void);
+STARLARK_LEX_API
+uint32_t starlark_lex_version(void) STARLARK_LEX_NOEXCEPT;
 
 /* Lexes a text into two buffers, says in *outcome how that ended, and returns its status.
  *
@@ -291,10 +297,11 @@ uint32_t starlark_lex_version(void);
  *
  * A text of n bytes has at most 2n + 1 lexemes, and n bytes of values with the text that its fault
  * names. So buffers for these are never too small. */
+STARLARK_LEX_API
 uint32_t starlark_lex(const uint8_t *text, size_t text_len,
                       starlark_lexeme *lexemes, size_t lexemes_cap,
                       uint8_t *values, size_t values_cap,
-                      starlark_outcome *outcome);
+                      starlark_outcome *outcome) STARLARK_LEX_NOEXCEPT;
 
 /* Lexes the front of a longer text up to the last offset in it where the lexer finds that the text
  * may be cut. Does all else as starlark_lex with the front.
@@ -309,15 +316,18 @@ uint32_t starlark_lex(const uint8_t *text, size_t text_len,
  * A front ends at a character boundary, so best after an LF. It is tested for UTF-8 once. So a text
  * of any length is lexed with small buffers that stay in the caches of the processor, and a text
  * that is still being read is lexed as far as it is known. */
+STARLARK_LEX_API
 uint32_t starlark_lex_front(const uint8_t *front, size_t front_len,
                             starlark_lexeme *lexemes, size_t lexemes_cap,
                             uint8_t *values, size_t values_cap,
-                            starlark_outcome *outcome);
+                            starlark_outcome *outcome) STARLARK_LEX_NOEXCEPT;
 
 /* Returns whether the fault of a front, which ends at an offset, is final: then it and all lexemes
  * before it are those of the longer text, whatever follows the front. It is final where the front
  * goes on after it, and ends with an LF. Give a longer front where it isn't. */
-bool starlark_fault_is_final(const uint8_t *front, size_t front_len, uint32_t fault_end);
+STARLARK_LEX_API
+bool starlark_fault_is_final(const uint8_t *front, size_t front_len,
+                             uint32_t fault_end) STARLARK_LEX_NOEXCEPT;
 
 /* Lexes a whole text, on after each of its faults, into three buffers. Says in *outcome how that
  * ended, and returns its status.
@@ -340,11 +350,12 @@ bool starlark_fault_is_final(const uint8_t *front, size_t front_len, uint32_t fa
  *
  * The call tests once that the bytes are UTF-8, and lexes each byte once. Of a text with a fault
  * that keeps its line it allocates a copy, which it frees before it returns. */
+STARLARK_LEX_API
 uint32_t starlark_lex_recovering(const uint8_t *text, size_t text_len,
                                  starlark_lexeme *lexemes, size_t lexemes_cap,
                                  uint8_t *values, size_t values_cap,
                                  starlark_found_fault *faults, size_t faults_cap,
-                                 starlark_recovered *outcome);
+                                 starlark_recovered *outcome) STARLARK_LEX_NOEXCEPT;
 
 /* What starlark_restart returns where no fault of the text has the numbers. */
 #define STARLARK_NO_RESTART SIZE_MAX
@@ -377,13 +388,17 @@ uint32_t starlark_lex_recovering(const uint8_t *text, size_t text_len,
  * that all bytes from there on are UTF-8. So a text with n faults, far from each other, is read n
  * times. starlark_lex_recovering reads the text once, and finds more: it goes on within the line
  * after a fault that keeps its line. */
+STARLARK_LEX_API
 size_t starlark_restart(const uint8_t *text, size_t text_len,
-                        uint32_t fault_begin, uint32_t fault_end, uint32_t fault_kind);
+                        uint32_t fault_begin, uint32_t fault_end,
+                        uint32_t fault_kind) STARLARK_LEX_NOEXCEPT;
 
 /* Tells the line and columns of an offset in *place, and returns true. Where the offset is past the
  * end of the text, or the text up to it is not UTF-8, as inside a character, it returns false, and
  * *place is as it was. It reads the text up to the offset. */
-bool starlark_place(const uint8_t *text, size_t text_len, size_t at, starlark_text_place *place);
+STARLARK_LEX_API
+bool starlark_place(const uint8_t *text, size_t text_len, size_t at,
+                    starlark_text_place *place) STARLARK_LEX_NOEXCEPT;
 
 /* Moves *place from one offset of a text to a later one, and returns true. It has to be the place
  * of the first offset, and is then what starlark_place tells of the later one. Where the offsets
@@ -398,35 +413,47 @@ bool starlark_place(const uint8_t *text, size_t text_len, size_t at, starlark_te
  *         at = lexemes[index].begin;
  *         show(&lexemes[index], &place);
  *     } */
+STARLARK_LEX_API
 bool starlark_move_place(const uint8_t *text, size_t text_len, size_t from, size_t to,
-                         starlark_text_place *place);
+                         starlark_text_place *place) STARLARK_LEX_NOEXCEPT;
 
-/* Writes the name of a kind, such as "Identifier", if there is room for it, without a terminating
- * zero. Returns its length in bytes, which is 0 for a number that no kind has. */
-size_t starlark_kind_name(uint32_t kind, uint8_t *name, size_t name_cap);
+/* Returns the name of a kind, such as "Identifier"; NULL for a number that no kind has. This
+ * string, and those of the calls below, are the library's, and stay. */
+STARLARK_LEX_API
+const char *starlark_kind_name(uint32_t kind) STARLARK_LEX_NOEXCEPT;
 
 /* Returns the class of a kind, an enum starlark_class; 0 for a number that no kind has. */
-uint32_t starlark_kind_class(uint32_t kind);
+STARLARK_LEX_API
+uint32_t starlark_kind_class(uint32_t kind) STARLARK_LEX_NOEXCEPT;
 
-/* Writes the code of a fault, such as "SL008", if there is room for it, without a terminating zero.
- * Returns its length in bytes, which is 0 for a number that no fault has. A code never changes. */
-size_t starlark_fault_code(uint32_t kind, uint8_t *code, size_t code_cap);
+/* Returns the code of a fault, such as "SL008"; NULL for a number that no fault has. A code never
+ * changes. */
+STARLARK_LEX_API
+const char *starlark_fault_code(uint32_t kind) STARLARK_LEX_NOEXCEPT;
+
+/* Returns what a status means, such as "the bytes are not UTF-8"; NULL for a number that no status
+ * has. */
+STARLARK_LEX_API
+const char *starlark_status_text(uint32_t status) STARLARK_LEX_NOEXCEPT;
 
 /* Writes the message of a fault, if there is room for it, without a terminating zero. `named` is
  * the text that the fault names. Returns the message's length in bytes, which is 0 for a number
  * that no fault has. */
+STARLARK_LEX_API
 size_t starlark_fault_message(uint32_t kind, const uint8_t *named, size_t named_len,
-                              uint8_t *message, size_t message_cap);
+                              uint8_t *message, size_t message_cap) STARLARK_LEX_NOEXCEPT;
 
 /* What starlark_document_offset_at_utf16 returns where there is no offset. */
 #define STARLARK_NO_OFFSET SIZE_MAX
 
-/* Opens a document of a text, lexes it, and returns a status.
+/* Returns a new document of a text, which it lexes, and says in *status how that ended.
  *
- * With STARLARK_STATUS_WHOLE the document has this text. With any other status *document is as it
- * was: STARLARK_STATUS_OPENED where it has a document already, STARLARK_STATUS_NOT_UTF8,
- * STARLARK_STATUS_TOO_LONG or STARLARK_STATUS_MEMORY. */
-uint32_t starlark_document_open(starlark_document *document, const uint8_t *text, size_t text_len);
+ * With STARLARK_STATUS_WHOLE the document has this text. Else it returns NULL, and the status is
+ * STARLARK_STATUS_NOT_UTF8, STARLARK_STATUS_TOO_LONG or STARLARK_STATUS_MEMORY. `status` may be
+ * NULL. */
+STARLARK_LEX_API
+starlark_document *starlark_document_open(const uint8_t *text, size_t text_len,
+                                          uint32_t *status) STARLARK_LEX_NOEXCEPT;
 
 /* Replaces the bytes from `begin` to `end` by a text, lexes what that touches, and returns a status.
  *
@@ -434,8 +461,10 @@ uint32_t starlark_document_open(starlark_document *document, const uint8_t *text
  * other status both are as they were: STARLARK_STATUS_CLOSED, STARLARK_STATUS_NOT_UTF8 where the new
  * bytes are not, STARLARK_STATUS_BAD_RANGE, STARLARK_STATUS_TOO_LONG where the text would have more
  * than 4294967295 bytes, or STARLARK_STATUS_MEMORY. */
+STARLARK_LEX_API
 uint32_t starlark_document_edit(starlark_document *document, size_t begin, size_t end,
-                                const uint8_t *text, size_t text_len, starlark_change *change);
+                                const uint8_t *text, size_t text_len,
+                                starlark_change *change) STARLARK_LEX_NOEXCEPT;
 
 /* Fills two buffers with the lexemes that touch the range from `begin` to `end`, says in *outcome
  * how that ended, and returns its status. A lexeme touches it that ends at `begin` or later, and
@@ -449,44 +478,55 @@ uint32_t starlark_document_edit(starlark_document *document, size_t begin, size_
  *
  * After an edit the lexemes that touched the old range of its change are to be replaced by those
  * that touch the new one. */
-uint32_t starlark_document_lexemes(starlark_document *document, size_t begin, size_t end,
+STARLARK_LEX_API
+uint32_t starlark_document_lexemes(const starlark_document *document, size_t begin, size_t end,
                                    starlark_lexeme *lexemes, size_t lexemes_cap,
                                    uint8_t *values, size_t values_cap,
-                                   starlark_recovered *outcome);
+                                   starlark_recovered *outcome) STARLARK_LEX_NOEXCEPT;
 
 /* Fills two buffers with the faults that touch the range from `begin` to `end`: the texts that they
  * name, one after another, and a record for each. All else is as of starlark_document_lexemes. In
  * the records `lexemes_before` is 0. */
-uint32_t starlark_document_faults(starlark_document *document, size_t begin, size_t end,
+STARLARK_LEX_API
+uint32_t starlark_document_faults(const starlark_document *document, size_t begin, size_t end,
                                   uint8_t *values, size_t values_cap,
                                   starlark_found_fault *faults, size_t faults_cap,
-                                  starlark_recovered *outcome);
+                                  starlark_recovered *outcome) STARLARK_LEX_NOEXCEPT;
 
 /* Writes the bytes from `begin` to `end` into a buffer, and returns a status.
  *
  * With STARLARK_STATUS_WHOLE the buffer begins with them. With any other status it is as it was:
  * STARLARK_STATUS_FULL where it has no room, STARLARK_STATUS_BAD_RANGE, STARLARK_STATUS_MEMORY or
  * STARLARK_STATUS_CLOSED. */
-uint32_t starlark_document_text(starlark_document *document, size_t begin, size_t end,
-                                uint8_t *text, size_t text_cap);
+STARLARK_LEX_API
+uint32_t starlark_document_text(const starlark_document *document, size_t begin, size_t end,
+                                uint8_t *text, size_t text_cap) STARLARK_LEX_NOEXCEPT;
 
-/* Returns the length of the text in bytes; 0 where no document is open. */
-size_t starlark_document_len(starlark_document *document);
+/* Returns the length of the text in bytes; 0 of NULL. */
+STARLARK_LEX_API
+size_t starlark_document_len(const starlark_document *document) STARLARK_LEX_NOEXCEPT;
 
 /* Tells the line and columns of an offset in *place, and returns true. Where the offset is no
- * character boundary of the text, or no document is open, it returns false, and *place is as it
+ * character boundary of the text, or the document is NULL, it returns false, and *place is as it
  * was. It reads one segment of the text, of some 1 to 4 KB. */
-bool starlark_document_place(starlark_document *document, size_t at, starlark_text_place *place);
+STARLARK_LEX_API
+bool starlark_document_place(const starlark_document *document, size_t at,
+                             starlark_text_place *place) STARLARK_LEX_NOEXCEPT;
 
 /* Returns the offset of a line and a column in units of UTF-16, both from 0, or STARLARK_NO_OFFSET
- * where no character boundary is there, or no document is open. */
-size_t starlark_document_offset_at_utf16(starlark_document *document, size_t line, size_t column);
+ * where no character boundary is there, or the document is NULL. */
+STARLARK_LEX_API
+size_t starlark_document_offset_at_utf16(const starlark_document *document, size_t line,
+                                         size_t column) STARLARK_LEX_NOEXCEPT;
 
-/* Frees the document, if one is open. Then *document holds none, and may be opened again. */
-void starlark_document_close(starlark_document *document);
+/* Frees a document. NULL is none. */
+STARLARK_LEX_API
+void starlark_document_close(starlark_document *document) STARLARK_LEX_NOEXCEPT;
 
 #ifdef __cplusplus
 }
 #endif
+
+#undef STARLARK_LEX_NOEXCEPT
 
 #endif

@@ -178,9 +178,8 @@ static void add_value(text *line, const starlark_lexeme *lexeme, const uint8_t *
 static void add_lexeme(text *line, bytes source, size_t from, const starlark_lexeme *lexeme,
                        const uint8_t *values)
 {
-    uint8_t name[32];
-    size_t len = starlark_kind_name(lexeme->kind, name, sizeof name);
-    if (len == 0 || len > sizeof name)
+    const char *name = starlark_kind_name(lexeme->kind);
+    if (name == NULL)
         stop("a kind without a name");
     add_number(line, from + lexeme->begin);
     add_word(line, "-");
@@ -188,7 +187,7 @@ static void add_lexeme(text *line, bytes source, size_t from, const starlark_lex
     add_word(line, " ");
     add_place(line, source, from + lexeme->begin, from + lexeme->end);
     add_word(line, " ");
-    add(line, name, len);
+    add_word(line, name);
     add_value(line, lexeme, values + lexeme->value_begin);
     add_word(line, "\n");
 }

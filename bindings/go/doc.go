@@ -57,8 +57,8 @@
 //
 // # Building
 //
-// The module has the library for linux/amd64 (x86-64-v2), linux/arm64 and windows/amd64, as far as
-// the release was made with it. On other platforms, or to use the system's library, build with the
+// The module has the library for linux/amd64, linux/arm64 and windows/amd64, as far as the release
+// was made with it. On other platforms, or to use the system's library, build with the
 // tag starlark_system: pkg-config finds it then. A C compiler is needed, and CGO_ENABLED=1.
 package starlarklexer
 

@@ -30,10 +30,7 @@ func TableName(k Kind) string {
 }
 
 // LibraryName returns the name that the library has for a kind, or "".
-func LibraryName(k Kind) string {
-	var room [64]byte
-	return string(room[:kindName(k, room[:])])
-}
+func LibraryName(k Kind) string { return kindName(k) }
 
 // LibraryVersion returns the version of the library.
 func LibraryVersion() string {

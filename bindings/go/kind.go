@@ -30,9 +30,8 @@ func (k Kind) String() string {
 	if row, ok := k.known(); ok {
 		return row.name
 	}
-	var room [64]byte
-	if n := kindName(k, room[:]); 0 < n && n <= len(room) {
-		return string(room[:n])
+	if name := kindName(k); name != "" {
+		return name
 	}
 	return "Kind(" + strconv.Itoa(int(k)) + ")"
 }
@@ -58,10 +57,7 @@ type FaultKind uint8
 
 // Code returns the code of the kind, as "SL008", which no later version changes. It is empty for a
 // number that no kind has.
-func (k FaultKind) Code() string {
-	var room [64]byte
-	return string(room[:faultCode(k, room[:])])
-}
+func (k FaultKind) Code() string { return faultCode(k) }
 
 // String returns the code of the kind.
 func (k FaultKind) String() string {

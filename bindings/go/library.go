@@ -105,24 +105,29 @@ func (b *buffers) recover(text string) {
 }
 
 // document is a text that C keeps lexed. One call at a time may use it.
-type document struct{ state C.starlark_document }
+type document struct{ state *C.starlark_document }
 
 func (d *document) open(text string) uint32 {
-	return uint32(C.starlark_document_open(&d.state, textPointer(text), C.size_t(len(text))))
+	var status C.uint32_t
+	d.state = C.starlark_document_open(textPointer(text), C.size_t(len(text)), &status)
+	return uint32(status)
 }
 
-func (d *document) close() { C.starlark_document_close(&d.state) }
+func (d *document) close() {
+	C.starlark_document_close(d.state)
+	d.state = nil
+}
 
 func (d *document) edit(begin, end int, text string) (Change, uint32) {
 	var c C.starlark_change
-	status := C.starlark_document_edit(&d.state, C.size_t(begin), C.size_t(end),
+	status := C.starlark_document_edit(d.state, C.size_t(begin), C.size_t(end),
 		textPointer(text), C.size_t(len(text)), &c)
 	return Change{Begin: int(c.begin), OldEnd: int(c.old_end), NewEnd: int(c.new_end), Lexed: int(c.lexed)}, uint32(status)
 }
 
 // lexemes puts the lexemes that touch a range into the buffers.
 func (d *document) lexemes(begin, end int, b *buffers) {
-	C.starlark_document_lexemes(&d.state, C.size_t(begin), C.size_t(end),
+	C.starlark_document_lexemes(d.state, C.size_t(begin), C.size_t(end),
 		pointer[C.starlark_lexeme](b.lexemes), C.size_t(len(b.lexemes)),
 		pointer[C.uint8_t](b.values), C.size_t(len(b.values)),
 		(*C.starlark_recovered)(unsafe.Pointer(&b.recovered)))
@@ -130,39 +135,35 @@ func (d *document) lexemes(begin, end int, b *buffers) {
 
 // faults puts the faults that touch a range into the buffers.
 func (d *document) faults(begin, end int, b *buffers) {
-	C.starlark_document_faults(&d.state, C.size_t(begin), C.size_t(end),
+	C.starlark_document_faults(d.state, C.size_t(begin), C.size_t(end),
 		pointer[C.uint8_t](b.values), C.size_t(len(b.values)),
 		pointer[C.starlark_found_fault](b.faults), C.size_t(len(b.faults)),
 		(*C.starlark_recovered)(unsafe.Pointer(&b.recovered)))
 }
 
 func (d *document) text(begin, end int, text []byte) uint32 {
-	return uint32(C.starlark_document_text(&d.state, C.size_t(begin), C.size_t(end),
+	return uint32(C.starlark_document_text(d.state, C.size_t(begin), C.size_t(end),
 		pointer[C.uint8_t](text), C.size_t(len(text))))
 }
 
-func (d *document) len() int { return int(C.starlark_document_len(&d.state)) }
+func (d *document) len() int { return int(C.starlark_document_len(d.state)) }
 
 func (d *document) place(offset int) (placeRecord, bool) {
 	var place placeRecord
-	found := C.starlark_document_place(&d.state, C.size_t(offset), (*C.starlark_text_place)(unsafe.Pointer(&place)))
+	found := C.starlark_document_place(d.state, C.size_t(offset), (*C.starlark_text_place)(unsafe.Pointer(&place)))
 	return place, bool(found)
 }
 
 func (d *document) offsetAtUTF16(line, column int) (int, bool) {
-	offset := C.starlark_document_offset_at_utf16(&d.state, C.size_t(line), C.size_t(column))
+	offset := C.starlark_document_offset_at_utf16(d.state, C.size_t(line), C.size_t(column))
 	return int(offset), offset != C.STARLARK_NO_OFFSET
 }
 
-// kindName writes the name of a kind of tokens, and returns its length.
-func kindName(kind Kind, name []byte) int {
-	return int(C.starlark_kind_name(C.uint32_t(kind), pointer[C.uint8_t](name), C.size_t(len(name))))
-}
+// kindName returns the name of a kind of tokens, "" where there is none.
+func kindName(kind Kind) string { return C.GoString(C.starlark_kind_name(C.uint32_t(kind))) }
 
-// faultCode writes the code of a kind of faults, and returns its length.
-func faultCode(kind FaultKind, code []byte) int {
-	return int(C.starlark_fault_code(C.uint32_t(kind), pointer[C.uint8_t](code), C.size_t(len(code))))
-}
+// faultCode returns the code of a kind of faults, "" where there is none.
+func faultCode(kind FaultKind) string { return C.GoString(C.starlark_fault_code(C.uint32_t(kind))) }
 
 // faultMessage writes the message of a fault that names a text, and returns its length.
 func faultMessage(kind FaultKind, named, message []byte) int {

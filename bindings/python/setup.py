@@ -7,6 +7,7 @@ with the one and a folder `include` with the other, as a release for C has them.
 import os
 import sys
 from pathlib import Path
+from sysconfig import get_config_var
 
 from setuptools import Extension, setup
 from setuptools.command.build_ext import build_ext
@@ -14,6 +15,10 @@ from setuptools.command.build_ext import build_ext
 FOLDER = "STARLARK_LEX_DIR"
 ARCHIVE = "libstarlark_lex.a"
 HEADER = "starlark_lex.h"
+SOURCES = ["columns.c", "document.c", "library.c", "maker.c", "offsets.c", "pieces.c", "semantic.c", "texts.c", "tokens.c"]
+
+# One module serves all versions from 3.9 on. A free-threaded build has no limited API.
+IS_LIMITED = not get_config_var("Py_GIL_DISABLED")
 
 
 def found(name, subfolder):
@@ -43,12 +48,13 @@ setup(
     ext_modules=[
         Extension(
             "starlark_lexer.library",
-            sources=["src/" + name for name in ("columns.c", "document.c", "library.c", "maker.c", "pieces.c", "texts.c", "tokens.c")],
+            sources=["src/" + name for name in SOURCES],
             depends=["src/library.h"],
+            define_macros=[("Py_LIMITED_API", "0x03090000")] if IS_LIMITED else [],
             extra_compile_args=["-std=c11", "-g0", "-fvisibility=hidden", "-Wall", "-Wextra"],
             extra_link_args=["-Wl,--exclude-libs,ALL", "-Wl,--gc-sections", "-Wl,-z,relro,-z,now"],
-            py_limited_api=True,
+            py_limited_api=IS_LIMITED,
         )
     ],
-    options={"bdist_wheel": {"py_limited_api": "cp39"}},
+    options={"bdist_wheel": {"py_limited_api": "cp39"}} if IS_LIMITED else {},
 )

@@ -1,9 +1,12 @@
-/* What the library calls of C, for WebAssembly: an allocator whose memory the host takes back as a
- * whole, the four functions over bytes, and a product of 128 bits.
+/* What the library calls of C, for WebAssembly: an allocator, the four functions over bytes, and a
+ * product of 128 bits.
  *
- * The host places the buffers of a call from __heap_base on. heap_begin says where they end, and
- * forgets each block that was allocated before. Blocks come in sizes of powers of two, and a freed
- * block is used again for the next of its size. */
+ * heap_begin says where the heap begins, and forgets each block that was allocated before. A host
+ * that keeps nothing between calls places the buffers of a call from __heap_base up to there. One
+ * that keeps a document begins the heap once, and takes the buffers from it by heap_take. Blocks
+ * come in sizes of powers of two, and a freed block is used again for the next of its size.
+ *
+ * The module is compiled for a memory of 64 bits, and then lowered to one of 32. */
 
 typedef __SIZE_TYPE__ size_t;
 typedef unsigned char byte;
@@ -34,7 +37,10 @@ static int reach(size_t end)
 {
     size_t pages = __builtin_wasm_memory_size(0);
     size_t wanted = end / PAGE + (end % PAGE != 0);
-    return wanted <= pages || __builtin_wasm_memory_grow(0, wanted - pages) != (size_t)-1;
+    if (wanted > pages)
+        __builtin_wasm_memory_grow(0, wanted - pages);
+    /* What memory.grow returns where it refuses is another number after the lowering. */
+    return wanted <= __builtin_wasm_memory_size(0);
 }
 
 /* Lets the heap begin at an address, with nothing in it. Returns whether the memory reaches that far. */
@@ -65,6 +71,8 @@ static header *header_of(void *block)
     return (header *)block - 1;
 }
 
+void rattle_dealloc(void *block);
+
 static void *take(size_t len)
 {
     if (len > (size_t)1 << 40)
@@ -81,6 +89,18 @@ static void *take(size_t len)
     heap_end += (size_t)1 << size;
     at->size = size;
     return block_of(at);
+}
+
+/* A block of some bytes for the host, or NULL where there is no memory. */
+void *heap_take(size_t len)
+{
+    return take(len);
+}
+
+/* Takes back a block that heap_take returned. */
+void heap_give(void *block)
+{
+    rattle_dealloc(block);
 }
 
 /* Blocks are aligned to 16 bytes, which is what the library asks for at most. */

@@ -129,10 +129,10 @@ export type Value = string | number | bigint | Uint8Array | undefined;
 /** The place of a token or a fault in its text. Offsets count from 0; an end is the offset after it. */
 export interface Span {
     /** Offset in units of UTF-16, as of `String.prototype.slice`. */
-    readonly start: number;
+    readonly begin: number;
     readonly end: number;
     /** Offset in bytes of UTF-8. */
-    readonly startByte: number;
+    readonly beginByte: number;
     readonly endByte: number;
 }
 
@@ -142,6 +142,16 @@ export interface Token extends Span {
     readonly kindClass: KindClass;
     /** The value, which is decoded each time that it is asked for. */
     readonly value: Value;
+    toJSON(): TokenJson;
+}
+
+/**
+ * A token as JSON has it. Its value is a string; bytes in hexadecimal digits; an integer as a number
+ * where 53 bits hold it, else as a string; or null where it has none.
+ */
+export interface TokenJson extends Span {
+    readonly kind: Kind;
+    readonly value: string | number | null;
 }
 
 /**
@@ -150,13 +160,14 @@ export interface Token extends Span {
  */
 export interface Tokens extends Iterable<Token> {
     readonly length: number;
-    /** The token of a number, or undefined where there is none. */
+    /** The token of a number, which counts from the last one if it is negative; undefined where there is none. */
     at(index: number): Token | undefined;
+    toJSON(): Token[];
     kind(index: number): Kind;
     kindClass(index: number): KindClass;
-    start(index: number): number;
+    begin(index: number): number;
     end(index: number): number;
-    startByte(index: number): number;
+    beginByte(index: number): number;
     endByte(index: number): number;
     value(index: number): Value;
 }
@@ -187,10 +198,7 @@ export interface Lexed {
  * After an error the next call is as good as the first.
  */
 export declare class Lexer {
-    /**
-     * Takes the bytes of `starlark_lex.wasm`, or the module that was compiled of them. Throws an
-     * `Error` that says what is needed where WebAssembly has no 64-bit memory.
-     */
+    /** Takes the bytes of `starlark_lex.wasm`, or the module that was compiled of them. */
     constructor(wasm: BufferSource | WebAssembly.Module);
     /** The tokens of a text up to its first fault, and that fault if there is one. */
     lex(text: Source): Lexed;
@@ -203,4 +211,53 @@ export declare class Lexer {
     lexRecovering(text: Source): Lexed;
     /** All faults of a text, as `lexRecovering` finds them. */
     faults(text: Source): Fault[];
+    /** A document of a text, with its own memory, which goes with the document. */
+    open(text: Source): Document;
+}
+
+/** A fault of a document. */
+export type DocumentFault = Omit<Fault, "tokensBefore">;
+
+/** A place in a document: a line from 0, and units of UTF-16 before it in the line, as editors tell it. */
+export interface Position {
+    readonly line: number;
+    readonly character: number;
+}
+
+/**
+ * What an edit of a document changed. Before `begin` and after the ends all tokens and faults are the
+ * old ones; those after are moved by `newEnd - oldEnd`.
+ */
+export interface Change {
+    readonly begin: number;
+    /** End of the range in the text before the edit. */
+    readonly oldEnd: number;
+    /** End of the range in the text after it. */
+    readonly newEnd: number;
+}
+
+/**
+ * A text that stays lexed while it is edited; `open` makes one. Offsets count units of UTF-16. A call
+ * throws a `RangeError` where an offset is past the end or cuts a character, or where memory ran out,
+ * and a `TypeError` as calls of `Lexer` do. After an error the document is as it was.
+ */
+export declare class Document {
+    private constructor();
+    /** How many units of UTF-16 the text has. */
+    readonly length: number;
+    /** Replaces what is between two offsets by a text, and lexes what that touches. */
+    edit(begin: number, end: number, text: Source): Change;
+    /**
+     * The tokens that touch a range: those that end at `begin` or later, and begin at `end` or earlier.
+     * Without a range, all. After an edit the tokens that touched its old range are to be replaced by
+     * those that touch the new one.
+     */
+    tokens(begin?: number, end?: number): Tokens;
+    /** The faults that touch a range, as `tokens` tells it. */
+    faults(begin?: number, end?: number): DocumentFault[];
+    /** The text between two offsets. */
+    slice(begin?: number, end?: number): string;
+    positionAt(offset: number): Position;
+    /** The offset of a position, or undefined where no character is there. */
+    offsetAt(position: Position): number | undefined;
 }

@@ -1,17 +1,13 @@
 // The proved lexer of Starlark, by a module of WebAssembly that its user gives.
 
-// A module with a memory of 64 bits, and nothing else.
-const WIDE_MEMORY = Uint8Array.of(0, 97, 115, 109, 1, 0, 0, 0, 5, 3, 1, 4, 1);
-
-const NO_WIDE_MEMORY =
-    "starlark-lexer needs WebAssembly with 64-bit memory: Chromium 133, Firefox 134 or Node 24, or an " +
-    "older Node with --experimental-wasm-memory64";
-
 // Sizes in bytes of the records of bindings/c/starlark_lex.h, and of what has room for each of the
 // two outcomes.
 const LEXEME_SIZE = 32;
 const FAULT_SIZE = 40;
 const OUTCOME_SIZE = 128;
+const DOCUMENT_SIZE = 16;
+const CHANGE_SIZE = 48;
+const PLACE_SIZE = 24;
 const NAME_ROOM = 64;
 const MESSAGE_ROOM = 128;
 
@@ -19,7 +15,13 @@ const MESSAGE_ROOM = 128;
 const LEXED = { lexemes: 32, values: 40, next: 48, fault: 4 };
 const RECOVERED = { lexemes: 8, values: 16, faults: 24, next: 32, wanted: [40, 48, 56] };
 
-const STATUS = { WHOLE: 0, FAULT: 1, FULL: 2, NOT_UTF8: 3, TOO_LONG: 4, MEMORY: 5 };
+const STATUS = { WHOLE: 0, FAULT: 1, FULL: 2, NOT_UTF8: 3, TOO_LONG: 4, MEMORY: 5, BAD_RANGE: 6 };
+
+// What starlark_document_offset_at_utf16 returns where there is no offset.
+const NO_OFFSET = 2n ** 64n - 1n;
+
+// How many bytes of a document are read to find an offset in it, but for some.
+const STEP = 4096;
 
 // The classes of kinds, the kinds of faults and the quotes of f-strings by their numbers, which never
 // change.
@@ -63,9 +65,9 @@ export class Token {
 
     constructor(tokens, index) {
         this.kind = tokens.kind(index);
-        this.start = tokens.start(index);
+        this.begin = tokens.begin(index);
         this.end = tokens.end(index);
-        this.startByte = tokens.startByte(index);
+        this.beginByte = tokens.beginByte(index);
         this.endByte = tokens.endByte(index);
         this.#tokens = tokens;
         this.#index = index;
@@ -78,6 +80,23 @@ export class Token {
     get value() {
         return this.#tokens.value(this.#index);
     }
+
+    /** All of the token, with its value as `starlark_tokens` writes it into JSON. */
+    toJSON() {
+        const { kind, begin, end, beginByte, endByte, value } = this;
+        return { kind, begin, end, beginByte, endByte, value: plainValue(value) };
+    }
+}
+
+/** A value as JSON has it: bytes by their hexadecimal digits, null for none. */
+function plainValue(value) {
+    if (value instanceof Uint8Array) {
+        return Array.from(value, (byte) => byte.toString(16).padStart(2, "0")).join("");
+    }
+    if (typeof value === "bigint") {
+        return value <= Number.MAX_SAFE_INTEGER ? Number(value) : String(value);
+    }
+    return value ?? null;
 }
 
 /** The tokens of a text, in order. A token is made when it is asked for. */
@@ -102,7 +121,12 @@ export class Tokens {
     }
 
     at(index) {
-        return index >= 0 && index < this.length ? new Token(this, index) : undefined;
+        const number = index < 0 ? index + this.length : index;
+        return number >= 0 && number < this.length ? new Token(this, number) : undefined;
+    }
+
+    toJSON() {
+        return Array.from(this);
     }
 
     *[Symbol.iterator]() {
@@ -119,7 +143,7 @@ export class Tokens {
         return this.#names.classes[this.#number(index)];
     }
 
-    start(index) {
+    begin(index) {
         return this.#units ? this.#units[2 * index] : this.#words[8 * index];
     }
 
@@ -127,7 +151,7 @@ export class Tokens {
         return this.#units ? this.#units[2 * index + 1] : this.#words[8 * index + 1];
     }
 
-    startByte(index) {
+    beginByte(index) {
         return this.#words[8 * index];
     }
 
@@ -186,9 +210,6 @@ export class Lexer {
     #names;
 
     constructor(wasm) {
-        if (!WebAssembly.validate(WIDE_MEMORY)) {
-            throw new Error(NO_WIDE_MEMORY);
-        }
         this.#module = wasm instanceof WebAssembly.Module ? wasm : new WebAssembly.Module(wasm);
         const exports = this.#exports();
         const kinds = namesOf(exports, "starlark_kind_name");
@@ -209,6 +230,11 @@ export class Lexer {
 
     faults(text) {
         return this.#use(text, (call) => call.lexRecovering().faults);
+    }
+
+    /** Opens a document, which has an instance of its own. */
+    open(text) {
+        return new Document(new WebAssembly.Instance(this.#module, {}).exports, this.#names, text);
     }
 
     #use(text, action) {
@@ -248,13 +274,53 @@ function slice({ at, length }) {
     return [BigInt(at), BigInt(length)];
 }
 
-/** The memory of a module. Room is taken from its beginning on; the module's heap follows it. */
-class Room {
-    #exports;
+/** The error where no memory is left. */
+function outOfMemory() {
+    return new RangeError("out of memory: WebAssembly was refused a larger memory");
+}
+
+/** What the module finds wrong with a text, as an error. */
+function errorOf(status, at) {
+    switch (status) {
+        case STATUS.NOT_UTF8:
+            return new TypeError(`the text is not UTF-8${at === undefined ? "" : ` at byte ${at}`}`);
+        case STATUS.TOO_LONG:
+            return new RangeError("the text has more than 4294967295 bytes");
+        default:
+            return outOfMemory();
+    }
+}
+
+/** The memory of an instance. */
+class Memory {
+    constructor(exports) {
+        this.exports = exports;
+    }
+
+    bytes(at, length) {
+        return new Uint8Array(this.exports.memory.buffer, at, length);
+    }
+
+    words(at, length) {
+        return new Uint32Array(this.exports.memory.buffer, at, length);
+    }
+
+    data(at, length) {
+        return new DataView(this.exports.memory.buffer, at, length);
+    }
+
+    /** The number of 64 bits at an address. */
+    number(at) {
+        return Number(this.data(at, 8).getBigUint64(0, true));
+    }
+}
+
+/** Memory that is taken from its beginning on, for one call; the module's heap follows it. */
+class Room extends Memory {
     #end;
 
     constructor(exports) {
-        this.#exports = exports;
+        super(exports);
         this.#end = Number(exports.__heap_base.value);
     }
 
@@ -265,8 +331,8 @@ class Room {
     /** Lets the room that is taken end at an address. */
     set end(at) {
         this.#end = 16 * Math.ceil(at / 16);
-        if (!this.#exports.heap_begin(BigInt(this.#end))) {
-            throw new RangeError("out of memory: WebAssembly was refused a larger memory");
+        if (!this.exports.heap_begin(BigInt(this.#end))) {
+            throw outOfMemory();
         }
     }
 
@@ -277,22 +343,81 @@ class Room {
         return at;
     }
 
-    bytes(at, length) {
-        return new Uint8Array(this.#exports.memory.buffer, at, length);
+    /** What an action makes with the address of room for some bytes, which is given back. */
+    within(length, action) {
+        const { end } = this;
+        const made = action(this.take(length));
+        this.end = end;
+        return made;
+    }
+}
+
+/** Memory of the module's heap, which keeps what it has between calls. */
+class Heap extends Memory {
+    constructor(exports) {
+        super(exports);
+        if (!exports.heap_begin(exports.__heap_base.value)) {
+            throw outOfMemory();
+        }
     }
 
-    words(at, length) {
-        return new Uint32Array(this.#exports.memory.buffer, at, length);
+    take(length) {
+        const at = Number(this.exports.heap_take(BigInt(length)));
+        if (at === 0) {
+            throw outOfMemory();
+        }
+        return at;
     }
 
-    data(at, length) {
-        return new DataView(this.#exports.memory.buffer, at, length);
+    within(length, action) {
+        const at = this.take(length);
+        try {
+            return action(at);
+        } finally {
+            this.exports.heap_give(BigInt(at));
+        }
     }
+}
+
+/** A fault of which the memory has kind, begin and end at an address, and from `named` on the text that
+ * it names. */
+function faultOf(memory, names, at, named, values, unitsBefore) {
+    const [number, beginByte, endByte] = memory.words(at, 3);
+    const text = { at: values + memory.number(at + named), length: memory.number(at + named + 8) };
+    return {
+        code: names.codes[number],
+        kind: FAULT_KINDS[number],
+        message: messageOf(memory, number, text),
+        begin: unitsBefore(beginByte),
+        end: unitsBefore(endByte),
+        beginByte,
+        endByte,
+    };
+}
+
+/** The message of a fault, of its number and the text that it names. */
+function messageOf(memory, number, named) {
+    const most = named.length + MESSAGE_ROOM;
+    return memory.within(most, (at) => {
+        const room = { at, length: most };
+        const length = memory.exports.starlark_fault_message(number, ...slice(named), ...slice(room));
+        return decoder.decode(memory.bytes(at, Number(length)));
+    });
+}
+
+/** The bytes of a text. */
+function bytesOf(text) {
+    if (typeof text === "string") {
+        return encoder.encode(text);
+    }
+    if (text instanceof Uint8Array) {
+        return text;
+    }
+    throw new TypeError("a text is a string or a Uint8Array");
 }
 
 /** A text in the memory of a module, and what is found in it. */
 class Call {
-    #exports;
     #names;
     #room;
     #outcome;
@@ -300,17 +425,10 @@ class Call {
     #units;
 
     constructor(exports, names, text) {
-        this.#exports = exports;
         this.#names = names;
         this.#room = new Room(exports);
         this.#outcome = this.#room.take(OUTCOME_SIZE);
-        if (typeof text === "string") {
-            this.#text = this.#placeString(text);
-        } else if (text instanceof Uint8Array) {
-            this.#text = this.#placeBytes(text);
-        } else {
-            throw new TypeError("a text is a string or a Uint8Array");
-        }
+        this.#text = typeof text === "string" ? this.#placeString(text) : this.#placeBytes(bytesOf(text));
         const isAscii = this.#text.length === text.length && typeof text === "string";
         this.#units = isAscii ? null : new Units(this.#room, this.#text);
     }
@@ -386,21 +504,15 @@ class Call {
     // Calls the module, and returns the status if the buffers are right or too small.
     #run(name, buffers, fields) {
         const slices = [this.#text, ...buffers].flatMap(slice);
-        const status = this.#exports[name](...slices, BigInt(this.#outcome));
-        switch (status) {
-            case STATUS.NOT_UTF8:
-                throw new TypeError(`the text is not UTF-8 at byte ${this.#told(fields.next)}`);
-            case STATUS.TOO_LONG:
-                throw new RangeError("the text has more than 4294967295 bytes");
-            case STATUS.MEMORY:
-                throw new RangeError("out of memory: WebAssembly was refused a larger memory");
-            default:
-                return status;
+        const status = this.#room.exports[name](...slices, BigInt(this.#outcome));
+        if (status > STATUS.FULL) {
+            throw errorOf(status, this.#told(fields.next));
         }
+        return status;
     }
 
     #told(field) {
-        return Number(this.#room.data(this.#outcome, OUTCOME_SIZE).getBigUint64(field, true));
+        return this.#room.number(this.#outcome + field);
     }
 
     #found({ lexemes, values }, fields, faults) {
@@ -412,41 +524,19 @@ class Call {
     }
 
     #firstFault({ values }) {
-        const told = this.#room.data(this.#outcome + LEXED.fault, OUTCOME_SIZE - LEXED.fault);
-        return this.#fault(told, 12, this.#told(LEXED.lexemes), values);
+        return this.#fault(this.#outcome + LEXED.fault, 12, this.#told(LEXED.lexemes), values);
     }
 
     #allFaults({ faults, values }) {
         return Array.from({ length: this.#told(RECOVERED.faults) }, (_, index) => {
-            const told = this.#room.data(faults.at + index * FAULT_SIZE, FAULT_SIZE);
-            return this.#fault(told, 24, Number(told.getBigUint64(16, true)), values);
+            const at = faults.at + index * FAULT_SIZE;
+            return this.#fault(at, 24, this.#room.number(at + 16), values);
         });
     }
 
-    // A fault of which the memory has kind, begin and end, and from `named` on the text that it names.
-    #fault(told, named, tokensBefore, values) {
-        const [number, startByte, endByte] = [0, 4, 8].map((field) => told.getUint32(field, true));
-        const [begin, length] = [named, named + 8].map((field) => Number(told.getBigUint64(field, true)));
-        return {
-            code: this.#names.codes[number],
-            kind: FAULT_KINDS[number],
-            message: this.#message(number, { at: values.at + begin, length }),
-            start: this.#units ? this.#units.before(startByte) : startByte,
-            end: this.#units ? this.#units.before(endByte) : endByte,
-            startByte,
-            endByte,
-            tokensBefore,
-        };
-    }
-
-    #message(number, named) {
-        const { end } = this.#room;
-        const message = { at: end, length: named.length + MESSAGE_ROOM };
-        this.#room.end = message.at + message.length;
-        const length = this.#exports.starlark_fault_message(number, ...slice(named), ...slice(message));
-        const text = decoder.decode(this.#room.bytes(message.at, Number(length)));
-        this.#room.end = end;
-        return text;
+    #fault(at, named, tokensBefore, values) {
+        const before = (byte) => (this.#units ? this.#units.before(byte) : byte);
+        return { ...faultOf(this.#room, this.#names, at, named, values.at, before), tokensBefore };
     }
 }
 
@@ -468,28 +558,40 @@ class Units {
             this.#byte = 0;
             this.#unit = 0;
         }
-        const bytes = this.#room.bytes(this.#text.at, this.#text.length);
-        for (; this.#byte < end; this.#byte++) {
-            this.#unit += unitsOf(bytes[this.#byte]);
-        }
+        const bytes = this.#room.bytes(this.#text.at + this.#byte, end - this.#byte);
+        this.#unit += unitsIn(bytes);
+        this.#byte = end;
         return this.#unit;
     }
 
     /** The offsets in units of the spans of records. */
     ofTokens(words) {
-        const bytes = this.#room.bytes(this.#text.at, this.#text.length);
-        const units = new Uint32Array(words.length / 4);
-        let byte = 0;
-        let unit = 0;
-        for (let at = 0; at < units.length; at++) {
-            const end = words[8 * (at >> 1) + (at & 1)];
-            while (byte < end) {
-                unit += unitsOf(bytes[byte++]);
-            }
-            units[at] = unit;
-        }
-        return units;
+        return unitsOfSpans(words, this.#room.bytes(this.#text.at, this.#text.length), 0, 0);
     }
+}
+
+/** The offsets in units of the spans of records. The bytes are those of their text from an offset on. */
+function unitsOfSpans(words, bytes, fromByte, fromUnit) {
+    const units = new Uint32Array(words.length / 4);
+    let byte = fromByte;
+    let unit = fromUnit;
+    for (let at = 0; at < units.length; at++) {
+        const end = words[8 * (at >> 1) + (at & 1)];
+        while (byte < end) {
+            unit += unitsOf(bytes[byte++ - fromByte]);
+        }
+        units[at] = unit;
+    }
+    return units;
+}
+
+/** How many units of UTF-16 some bytes of UTF-8 have. */
+function unitsIn(bytes) {
+    let units = 0;
+    for (let at = 0; at < bytes.length; at++) {
+        units += unitsOf(bytes[at]);
+    }
+    return units;
 }
 
 /** How many units of UTF-16 a byte of UTF-8 begins. */
@@ -498,4 +600,269 @@ function unitsOf(byte) {
         return 1;
     }
     return byte < 0xc0 ? 0 : byte < 0xf0 ? 1 : 2;
+}
+
+// The records of a document's range: their size, and where the outcome has their count and how many are
+// wanted.
+const ITEMS = {
+    lexemes: { size: LEXEME_SIZE, count: RECOVERED.lexemes, wanted: RECOVERED.wanted[0] },
+    faults: { size: FAULT_SIZE, count: RECOVERED.faults, wanted: RECOVERED.wanted[2] },
+};
+
+/** A text that stays lexed while it is edited. */
+export class Document {
+    #heap;
+    #names;
+    #slot;
+    #offsets;
+
+    constructor(exports, names, text) {
+        this.#heap = new Heap(exports);
+        this.#names = names;
+        this.#slot = this.#heap.take(DOCUMENT_SIZE);
+        this.#heap.bytes(this.#slot, DOCUMENT_SIZE).fill(0);
+        const bytes = bytesOf(text);
+        this.#change(bytes, "open", []);
+        const room = this.#heap.take(3 * STEP);
+        this.#offsets = new Offsets((from, to) => this.#read(from, to, room));
+        this.#offsets.replace([0, 0], [0, 0], [bytes.length, unitsIn(bytes)]);
+    }
+
+    get length() {
+        return this.#offsets.units;
+    }
+
+    edit(begin, end, text) {
+        const range = this.#range(begin, end);
+        const bytes = bytesOf(text);
+        return this.#heap.within(CHANGE_SIZE, (change) => {
+            const { units } = this.#offsets;
+            this.#change(bytes, "edit", range.map(BigInt), BigInt(change));
+            this.#offsets.replace(range, [begin, end], [bytes.length, unitsIn(bytes)]);
+            const [changed, newEnd] = this.#changed(change);
+            return { begin: changed, oldEnd: newEnd - (this.#offsets.units - units), newEnd };
+        });
+    }
+
+    tokens(begin = 0, end = this.length) {
+        return this.#filled("lexemes", begin, end, ({ at, length }, values) => {
+            const words = this.#heap.words(at, (length * LEXEME_SIZE) / 4).slice();
+            const written = this.#heap.bytes(values.at, values.length).slice();
+            return new Tokens(this.#names, words, written, this.#unitsOf(words));
+        });
+    }
+
+    faults(begin = 0, end = this.length) {
+        const before = (byte) => this.#offsets.unitAt(byte);
+        return this.#filled("faults", begin, end, ({ at, length }, values) =>
+            Array.from({ length }, (_, index) =>
+                faultOf(this.#heap, this.#names, at + index * FAULT_SIZE, 24, values.at, before),
+            ),
+        );
+    }
+
+    slice(begin = 0, end = this.length) {
+        const [from, to] = this.#range(begin, end);
+        return this.#heap.within(to - from, (room) => decoder.decode(this.#read(from, to, room)));
+    }
+
+    positionAt(offset) {
+        const [byte] = this.#range(offset, offset);
+        return this.#heap.within(PLACE_SIZE, (place) => {
+            this.#call("place", BigInt(byte), BigInt(place));
+            return { line: this.#heap.number(place), character: this.#heap.number(place + 16) };
+        });
+    }
+
+    offsetAt({ line, character }) {
+        if (!isCount(line) || !isCount(character)) {
+            return undefined;
+        }
+        // A number of 64 bits comes with a sign.
+        const byte = BigInt.asUintN(64, this.#call("offset_at_utf16", BigInt(line), BigInt(character)));
+        return byte === NO_OFFSET ? undefined : this.#offsets.unitAt(Number(byte));
+    }
+
+    /** The range of the text that a change touches: all of it where no memory is left to find it. */
+    #changed(change) {
+        try {
+            return [0, 16].map((field) => this.#offsets.unitAt(this.#heap.number(change + field)));
+        } catch {
+            return [0, this.#offsets.units];
+        }
+    }
+
+    #call(name, ...given) {
+        return this.#heap.exports[`starlark_document_${name}`](BigInt(this.#slot), ...given);
+    }
+
+    /** Calls with some bytes, which stand between other arguments. */
+    #change(bytes, name, before, ...after) {
+        this.#heap.within(bytes.length, (at) => {
+            this.#heap.bytes(at, bytes.length).set(bytes);
+            const status = this.#call(name, ...before, ...slice({ at, length: bytes.length }), ...after);
+            if (status !== STATUS.WHOLE) {
+                throw errorOf(status);
+            }
+        });
+    }
+
+    /** The offsets in bytes of a range. */
+    #range(begin, end) {
+        const range = [begin, end].map((offset) => this.#offsets.byteAt(offset));
+        if (range.includes(undefined) || begin > end) {
+            throw new RangeError(`the text has no characters from ${begin} to ${end}`);
+        }
+        return range;
+    }
+
+    /** The bytes of a range, which are written to an address; undefined where it cuts a character. */
+    #read(from, to, at) {
+        const status = this.#call("text", BigInt(from), BigInt(to), ...slice({ at, length: to - from }));
+        if (status === STATUS.MEMORY) {
+            throw outOfMemory();
+        }
+        return status === STATUS.WHOLE ? this.#heap.bytes(at, to - from) : undefined;
+    }
+
+    /** What an action makes of the records that touch a range, and of their values. */
+    #filled(name, begin, end, action) {
+        const range = this.#range(begin, end).map(BigInt);
+        const { size, count, wanted } = ITEMS[name];
+        const heap = this.#heap;
+        return heap.within(OUTCOME_SIZE, (outcome) => {
+            const told = (field) => heap.number(outcome + field);
+            for (let [items, values] = [64, 1024]; ; [items, values] = [told(wanted), told(RECOVERED.wanted[1])]) {
+                const made = heap.within(items * size + values, (at) => {
+                    const slices = [slice({ at, length: items }), slice({ at: at + items * size, length: values })];
+                    const buffers = name === "faults" ? slices.reverse() : slices;
+                    const status = this.#call(name, ...range, ...buffers.flat(), BigInt(outcome));
+                    const found = { at: at + items * size, length: told(RECOVERED.values) };
+                    return status === STATUS.FULL ? undefined : action({ at, length: told(count) }, found);
+                });
+                if (made) {
+                    return made;
+                }
+            }
+        });
+    }
+
+    /** The offsets in units of the spans of records, or null where they are those in bytes. */
+    #unitsOf(words) {
+        if (this.#offsets.isAscii || words.length === 0) {
+            return null;
+        }
+        const [from, to] = [words[0], words.at(-7)];
+        const unit = this.#offsets.unitAt(from);
+        return this.#heap.within(to - from, (room) => unitsOfSpans(words, this.#read(from, to, room), from, unit));
+    }
+}
+
+/** Whether a value is an offset in a text that a memory holds. */
+function isCount(value) {
+    return Number.isSafeInteger(value) && value >= 0;
+}
+
+/** The offsets in bytes and in units of some characters of a document: of its first, and of others that
+ * were passed on the way to what was asked for. */
+class Offsets {
+    #read;
+    #bytes = [0];
+    #units = [0];
+    #byteLength = 0;
+    #unitLength = 0;
+
+    /** `read` returns the bytes of a range, or undefined where it cuts a character. */
+    constructor(read) {
+        this.#read = read;
+    }
+
+    get units() {
+        return this.#unitLength;
+    }
+
+    get isAscii() {
+        return this.#byteLength === this.#unitLength;
+    }
+
+    /** Takes a change of the text: the range in bytes and in units that had been replaced, and how many
+     * of both it has now. */
+    replace([from, to], [begin, end], [bytes, units]) {
+        const kept = lastUpTo(this.#bytes, from) + 1;
+        const moved = Math.max(kept, lastUpTo(this.#bytes, to - 1) + 1);
+        const grown = [bytes - (to - from), units - (end - begin)];
+        this.#bytes.splice(kept, Infinity, ...this.#bytes.slice(moved).map((byte) => byte + grown[0]));
+        this.#units.splice(kept, Infinity, ...this.#units.slice(moved).map((unit) => unit + grown[1]));
+        this.#byteLength += grown[0];
+        this.#unitLength += grown[1];
+    }
+
+    /** The offset in units of a character, by its offset in bytes. */
+    unitAt(byte) {
+        if (this.isAscii) {
+            return byte;
+        }
+        let at = lastUpTo(this.#bytes, byte);
+        while (byte - this.#bytes[at] > STEP) {
+            at = this.#pass(at);
+        }
+        return this.#units[at] + unitsIn(this.#read(this.#bytes[at], byte));
+    }
+
+    /** The offset in bytes of a character, by its offset in units; undefined where none has it. */
+    byteAt(unit) {
+        if (!isCount(unit) || unit > this.#unitLength) {
+            return undefined;
+        }
+        if (this.isAscii) {
+            return unit;
+        }
+        let at = lastUpTo(this.#units, unit);
+        while (unit - this.#units[at] > STEP) {
+            at = this.#pass(at);
+        }
+        const bytes = this.#readUpTo(at, 3 * (unit - this.#units[at]));
+        let byte = 0;
+        for (let left = unit - this.#units[at]; left > 0 || unitsOf(bytes[byte] ?? 0) === 0; byte++) {
+            left -= unitsOf(bytes[byte]);
+            if (left < 0) {
+                return undefined;
+            }
+        }
+        return this.#bytes[at] + byte;
+    }
+
+    /** Keeps the character some bytes after one that is kept, and returns the number of the new one. */
+    #pass(at) {
+        const bytes = this.#readUpTo(at, STEP);
+        this.#bytes.splice(at + 1, 0, this.#bytes[at] + bytes.length);
+        this.#units.splice(at + 1, 0, this.#units[at] + unitsIn(bytes));
+        return at + 1;
+    }
+
+    /** The bytes after a kept character: so many, or fewer where a character or the text ends. */
+    #readUpTo(at, length) {
+        const from = this.#bytes[at];
+        for (let to = Math.min(from + length, this.#byteLength); ; to--) {
+            const bytes = this.#read(from, to);
+            if (bytes) {
+                return bytes;
+            }
+        }
+    }
+}
+
+/** The number of the last of some ascending offsets that is at most another one; the first is. */
+function lastUpTo(offsets, most) {
+    let low = 0;
+    let high = offsets.length;
+    while (high - low > 1) {
+        const middle = (low + high) >> 1;
+        if (offsets[middle] <= most) {
+            low = middle;
+        } else {
+            high = middle;
+        }
+    }
+    return low;
 }

@@ -15,6 +15,10 @@ umask 022
 name="starlark-lexer-$(cat "$top/VERSION")"
 
 "$top/scripts/web.sh" build
+[ -f "$top/out/bindings/web/starlark_lex.wasm" ] || {
+    echo 'release.sh: left out: the package for npm, and the page' >&2
+    exit 0
+}
 cp -R "$top/out/bindings/web" "$work/package"
 chmod -R u=rwX,go=rX "$work/package"
 find "$work/package" -exec touch -d "@$SOURCE_DATE_EPOCH" {} +

@@ -1,4 +1,4 @@
-import { Fault, Lexed, Source } from "./lexer.js";
+import { Document, Fault, Lexed, Source } from "./lexer.js";
 
 export * from "./lexer.js";
 
@@ -15,3 +15,6 @@ export declare function lexRecovering(text: Source): Lexed;
 
 /** All faults of a text, as `lexRecovering` finds them. */
 export declare function faults(text: Source): Fault[];
+
+/** A document of a text, which stays lexed while it is edited. */
+export declare function open(text: Source): Document;

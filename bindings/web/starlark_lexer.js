@@ -1,14 +1,17 @@
 // The proved lexer of Starlark. It loads starlark_lex.wasm from beside this file.
 import { Lexer } from "./lexer.js";
 
-export { Lexer } from "./lexer.js";
+export { Document, Lexer } from "./lexer.js";
+
+// A bundler doesn't look for a module that has its name from a variable.
+const FILES = "node:fs";
 
 async function wasm() {
     const url = new URL("starlark_lex.wasm", import.meta.url);
     // Node's fetch reads no files.
-    const files = globalThis.process?.getBuiltinModule?.("node:fs");
-    if (files && url.protocol === "file:") {
-        return files.readFileSync(url);
+    if (url.protocol === "file:" && globalThis.process?.versions?.node) {
+        const { readFileSync } = await import(/* webpackIgnore: true */ /* @vite-ignore */ FILES);
+        return readFileSync(url);
     }
     const response = await fetch(url);
     if (!response.ok) {
@@ -29,4 +32,8 @@ export function lexRecovering(text) {
 
 export function faults(text) {
     return lexer.faults(text);
+}
+
+export function open(text) {
+    return lexer.open(text);
 }

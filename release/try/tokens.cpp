@@ -17,10 +17,8 @@ int main()
     starlark_lex(reinterpret_cast<const uint8_t *>(text.data()), text.size(), lexemes.data(),
                  lexemes.size(), values.data(), values.size(), &outcome);
     for (size_t index = 0; index < outcome.lexemes; index++) {
-        uint8_t name[32];
-        size_t len = starlark_kind_name(lexemes[index].kind, name, sizeof name);
-        std::printf("%u-%u %.*s\n", lexemes[index].begin, lexemes[index].end,
-                    static_cast<int>(len), reinterpret_cast<const char *>(name));
+        std::printf("%u-%u %s\n", lexemes[index].begin, lexemes[index].end,
+                    starlark_kind_name(lexemes[index].kind));
     }
     return static_cast<int>(outcome.status);
 }

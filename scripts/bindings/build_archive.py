@@ -1,7 +1,7 @@
 #!/usr/bin/env python3
 """Proves and builds the archive of crates/starlark_c where it isn't current.
 
-    scripts/bindings/build_archive.py [--jobs N] [--target TARGET]
+    scripts/bindings/build_archive.py [--jobs N]
 
 After `rt ci` has passed, crates/*/out/rlib has the libraries that the gate proved. `rt lib` doesn't
 take them: the gate marks none as built, since they fit only each other. Where all of them are newer
@@ -11,13 +11,9 @@ libraries too, unless a check of the same sources has kept them. The archive is
 crates/starlark_c/out/libstarlark_c.a.
 
 The toolchain that builds it is one of links to the kit's, whose clang also keeps the LLVM module that
-it is given: crates/starlark_c/out/starlark_c.bc, of which scripts/bindings/web_module.py makes the module for
-browsers. So one proof serves both.
-
-TARGET is another one than this machine's, as aarch64-unknown-linux-gnu. Then the archive is built
-for it, too, over the same libraries, which hold no compiled code: that is in a folder of the
-target's name beside the other. What the kit said is in out/bindings/rt.log. The exit status is 1
-where an archive isn't proved.
+it is given: crates/starlark_c/out/starlark_c.bc, of which link_library.sh makes the library for each
+target, and web_module.py the module for browsers. So one proof serves all. What the kit said is in
+out/bindings/rt.log. The exit status is 1 where the archive isn't proved.
 """
 
 import argparse
@@ -37,6 +33,7 @@ from shared.programs import TOP, give_up, is_current
 CRATE = "starlark_c"
 FOLDER = TOP / "crates" / CRATE
 LOG = TOP / "out/bindings/rt.log"
+ARCHIVE = FOLDER / "out" / f"lib{CRATE}.a"
 MODULE = FOLDER / "out" / f"{CRATE}.bc"
 KIT_LIBRARIES = ["std"]
 CLANG = """#!/bin/sh
@@ -79,13 +76,8 @@ def kit():
     return Path(ran.stdout.strip()).parent
 
 
-def archive_for(target):
-    """The archive of a target, or of this machine's where it is empty."""
-    return FOLDER / "out" / target / f"lib{CRATE}.a"
-
-
-def words_of_build(kit_folder, toolchain, jobs, target=""):
-    """The call of `rattle build` that makes an archive over built libraries, as `rt lib` makes it."""
+def words_of_build(kit_folder, toolchain, jobs):
+    """The call of `rattle build` that makes the archive over built libraries, as `rt lib` makes it."""
     below = crates_below(CRATE)
     own = [name for name in uses()[CRATE] if name in below]
     others = [name for name in uses()[CRATE] if name not in below]
@@ -100,12 +92,8 @@ def words_of_build(kit_folder, toolchain, jobs, target=""):
     words += ["--antt-project", kit_folder / "rattle/logic/antt-project.json"]
     words += ["--logic-built", kit_folder / "logic_built", "--links", f"{CRATE}="]
     words += ["--crate-type", "staticlib", "--jobs", str(jobs)]
-    # What an earlier proof of the same sources has kept serves another target, too.
-    keeps = target and (FOLDER / "out/incremental").is_dir()
-    words += ["--target", target] if target else []
-    words += ["--incremental", "out/incremental"] if keeps else []
     words += ["--toolchain", toolchain, "--backend", "llvm"]
-    return [*words, "-o", archive_for(target)]
+    return [*words, "-o", ARCHIVE]
 
 
 def said():
@@ -113,17 +101,15 @@ def said():
     return LOG.read_text(encoding="utf-8", errors="replace")
 
 
-def is_made_by(words, target=""):
-    """Whether a call makes the archive of a target. What it says goes to the log."""
-    archive = archive_for(target)
-    for file in (archive, LOG):
+def is_made_by(words):
+    """Whether a call makes the archive. What it says goes to the log."""
+    for file in (ARCHIVE, LOG):
         file.parent.mkdir(parents=True, exist_ok=True)
     with LOG.open("wb") as log:
         ran = subprocess.run(
             words, cwd=FOLDER, stdin=subprocess.DEVNULL, stdout=log, stderr=log, check=False
         )
-    is_for_target = not target or f"target={target}" in said()
-    return ran.returncode == 0 and is_current(archive) and is_for_target
+    return ran.returncode == 0 and is_current(ARCHIVE)
 
 
 def keeping_toolchain(kit_folder, work):
@@ -158,7 +144,7 @@ def build_by_rt(kit_folder, toolchain):
 
 
 def is_built(kit_folder, toolchain, jobs):
-    """Whether this machine's archive is proved and built with a toolchain."""
+    """Whether the archive is proved and built with a toolchain."""
     if all(is_current(library(name)) for name in crates_below(CRATE)):
         print("proving and building the archive over the gate's libraries", file=sys.stderr)
         if is_made_by(words_of_build(kit_folder, toolchain, jobs)):
@@ -168,8 +154,8 @@ def is_built(kit_folder, toolchain, jobs):
 
 
 def is_made(kit_folder, jobs):
-    """Whether this machine's archive and its module are there and current. They are made where they aren't."""
-    if is_current(archive_for("")) and is_current(MODULE):
+    """Whether the archive and its module are there and current. They are made where they aren't."""
+    if is_current(ARCHIVE) and is_current(MODULE):
         return True
     begun = time.time()
     with TemporaryDirectory() as folder:
@@ -186,27 +172,14 @@ def is_made(kit_folder, jobs):
     return True
 
 
-def is_made_for(target, kit_folder, jobs):
-    """Whether the archive of a target is there and current, which is made where it isn't."""
-    if is_current(archive_for(target)):
-        return True
-    print(f"proving and building the archive for {target}", file=sys.stderr)
-    return is_made_by(words_of_build(kit_folder, kit_folder / "toolchain", jobs, target), target)
-
-
 def main():
-    """Makes this machine's archive, and then that of the target, or builds by rt for a process that does."""
+    """Makes the archive, or builds it by rt for a process that does."""
     if len(sys.argv) == 4 and sys.argv[1] == "--rt":
         return build_by_rt(Path(sys.argv[2]), sys.argv[3])
     parser = argparse.ArgumentParser(description=__doc__.splitlines()[0])
     parser.add_argument("--jobs", type=int, default=2, metavar="N")
-    parser.add_argument("--target", default="", metavar="TARGET")
     asked = parser.parse_args()
-    kit_folder = kit()
-    made = is_made(kit_folder, asked.jobs)
-    if made and asked.target:
-        made = is_made_for(asked.target, kit_folder, asked.jobs)
-    if made:
+    if is_made(kit(), asked.jobs):
         return 0
     print(said(), file=sys.stderr)
     print(f"build_archive.py: the archive of {CRATE} is not proved", file=sys.stderr)

@@ -70,8 +70,17 @@ def columns(source):
 
     made = lex_columns(source, recover=True)
     values = [made.value(i) for i in range(len(made))]
-    begin, end = made.characters()
-    return values, [made.string(i) for i in range(len(made))], begin.tolist(), end.tolist(), made.faults
+    return values, [made.string(i) for i in range(len(made))], made.begin.tolist(), made.end.tolist(), made.faults
+
+
+def document(source):
+    """What a document of a text says."""
+    from starlark_lexer import Document
+    from starlark_lexer.library import semantic_tokens
+
+    with Document(source) as made:
+        found = len(made), made.tokens(), made.faults(), made.text(), made.place(len(made))
+        return found, made.edit(0, 0, "é🔬"), len(made), semantic_tokens(made, bytes(99), 16, 0, 0, 1, 1, 6)
 
 
 def calls():
@@ -79,7 +88,7 @@ def calls():
     from starlark_lexer import faults, lex, lex_all
     from starlark_lexer.library import lex_items
 
-    return [some_tokens, all_tokens, columns, lex, lex_all, faults, lex_items]
+    return [some_tokens, all_tokens, columns, document, lex, lex_all, faults, lex_items]
 
 
 def outcome(call, source):

@@ -36,8 +36,11 @@ def agree(text):
     columns = lex_columns(text, recover=True)
     spans = [token.span for token in tokens]
     values = [columns.value(i) for i in range(len(columns))]
+    source = text.decode()
+    by_characters = list(tokenize(source, recover=True))
     return (
-        list(tokenize(text.decode(), recover=True)) == tokens
+        [token._replace(span=span) for token, span in zip(by_characters, spans)] == tokens
+        and all(source[slice(*token.span)] == token.string for token in by_characters)
         and list(zip(columns.begin, columns.end)) == spans
         and values == [token.value for token in tokens]
         and columns.faults == tuple(faults)

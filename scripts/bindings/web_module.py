@@ -4,8 +4,10 @@
     scripts/bindings/web_module.py OUTPUT
 
 scripts/bindings/build_archive.py proves and builds the library, and keeps its module. The kit's clang compiles
-that module and bindings/web/heap.c for wasm64, and its lld links them. The exit status is 0, or 1
-where something failed: then OUTPUT isn't touched, and standard error says why.
+that module and bindings/web/heap.c for wasm64, and its lld links them. binaryen's wasm-opt lowers what
+comes of that to a memory of 32 bits, which every browser has; offsets keep their 64 bits. The exit
+status is 0, or 1 where something failed, or 2 where there is no wasm-opt: then OUTPUT isn't touched,
+and standard error says why.
 """
 
 import os
@@ -36,22 +38,64 @@ def run(words, **how):
     return ran.stdout
 
 
-# What bindings/web/heap.c can't have: it forgets all memory before each call, and documents keep some.
-LEFT_OUT = "starlark_document_"
+# What the module may have beside plain WebAssembly, while its memory has 64 bits and afterwards.
+FEATURES = ["simd", "bulk-memory", "sign-ext", "mutable-globals", "nontrapping-float-to-int"]
+# An access of SIMD, up to its address, which binaryen 108 leaves with 64 bits.
+SIMD_ACCESS = re.compile(
+    r"\(v128\.(?:load\d+(?:_zero|_splat|x\d+_[su]|_lane)|store\d+_lane)[ \w=]*\s*(?=\((?!i32\.wrap_i64))"
+)
+
+
+# A call of the header that bindings/c/calls.c alone has.
+NOT_PROVED = "starlark_status_text"
 
 
 def exported():
-    """The calls of the header, and what places buffers in the memory."""
+    """The proved calls of the header, and what places buffers in the memory."""
     header = (TOP / "bindings/c/starlark_lex.h").read_text()
-    calls = re.findall(r"^[a-z][\w ]*\b(starlark_\w+)\(", header, re.M)
-    kept = [name for name in calls if not name.startswith(LEFT_OUT)]
-    return [f"--export={name}" for name in [*kept, "heap_begin", "__heap_base"]]
+    names = re.findall(r"^[a-z][\w ]*\W(starlark_\w+)\(", header, re.M)
+    calls = [name for name in names if name != NOT_PROVED]
+    return [f"--export={name}" for name in [*calls, "heap_begin", "heap_take", "heap_give", "__heap_base"]]
+
+
+def end_of_expression(text, begin):
+    """The offset after the expression in parentheses that begins at an offset."""
+    depth = 0
+    for parenthesis in re.compile(r"[()]").finditer(text, begin):
+        depth += 1 if parenthesis[0] == "(" else -1
+        if depth == 0:
+            return parenthesis.end()
+    raise Failure("wasm-opt printed an expression without its end")
+
+
+def with_short_addresses(text):
+    """A module's text in which each access of SIMD has an address of 32 bits."""
+    begins = [access.end() for access in SIMD_ACCESS.finditer(text)]
+    added = [(begin, "(i32.wrap_i64 ") for begin in begins]
+    added += [(end_of_expression(text, begin), ")") for begin in begins]
+    parts = []
+    at = 0
+    for end, inserted in sorted(added):
+        parts += [text[at:end], inserted]
+        at = end
+    return "".join([*parts, text[at:]])
+
+
+def lowered(wide, work):
+    """Lowers a module to a memory of 32 bits, and returns the file."""
+    text, made = work / "lowered.wat", work / "starlark_lex.wasm"
+    features = [f"--enable-{feature}" for feature in FEATURES]
+    # Before its accesses of SIMD are mended the module isn't valid.
+    run(["wasm-opt", wide, *features, "--enable-memory64", "--no-validation", "--memory64-lowering", "-S", "-o", text])
+    text.write_text(with_short_addresses(text.read_text()))
+    run(["wasm-opt", text, *features, "-o", made])
+    return made
 
 
 def linked(kit_folder, work):
     """Compiles and links the module, and returns the file."""
     clang = kit_folder / "toolchain/bin/clang"
-    made = work / "starlark_lex.wasm"
+    made = work / "wide.wasm"
     run([clang, *TARGET, "-O3", "-c", "-x", "ir", MODULE, "-o", work / "lex.o"])
     heap = ["-std=c11", "-O2", "-Wall", "-Wextra", "-Werror", "-ffreestanding", "-fno-builtin"]
     run([clang, *TARGET, *heap, "-c", TOP / "bindings/web/heap.c", "-o", work / "heap.o"])
@@ -72,7 +116,7 @@ def make(output):
         begun.touch()
         if not is_made(kit_folder, JOBS):
             raise Failure("the library is not proved")
-        made = linked(kit_folder, work)
+        made = lowered(linked(kit_folder, work), work)
         shutil.copystat(begun, made)
         output.parent.mkdir(parents=True, exist_ok=True)
         new = output.with_name(f"{output.name}.new.{os.getpid()}")
@@ -84,6 +128,9 @@ def main():
     """Makes the module."""
     if len(sys.argv) != 2 or sys.argv[1].startswith("-"):
         print("usage: scripts/bindings/web_module.py OUTPUT", file=sys.stderr)
+        return 1
+    if not shutil.which("wasm-opt"):
+        print("web_module.py: there is no wasm-opt, which binaryen has", file=sys.stderr)
         return 2
     try:
         make(Path(sys.argv[1]))

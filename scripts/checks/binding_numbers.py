@@ -1,33 +1,37 @@
 #!/usr/bin/env python3
-"""Compares the numbers that cross to C, Rust, Python and JavaScript: in the definitions, the header, the
-crate, the package and the module.
+"""Compares the numbers that cross to C, Rust, Python, Go and JavaScript: in the definitions, the header, the
+crate, the packages and the module.
 
     scripts/checks/binding_numbers.py [--write]
 
 The numbers and classes of keywords and symbols are those of the grammar's table (class.rt), those of
 other kinds, of faults and of classes stand in crates/starlark_c/specs, those of statuses in its src. A
 number never changes.
-With --write, keywords and symbols that are new in the table are added after the last ones. The exit
-status is 0 where all agree, and 1 where some don't.
+With --write, keywords and symbols that are new in the table are added after the last ones, and the kinds
+of Go written anew. The exit status is 0 where all agree, and 1 where some don't.
 """
 
 import argparse
 import re
+import subprocess
 import sys
 from pathlib import Path
 
 TOP = Path(__file__).resolve().parent.parent.parent
 CRATE = TOP / "crates/starlark_c"
 HEADER = TOP / "bindings/c/starlark_lex.h"
+CALLS = TOP / "bindings/c/calls.c"
 PACKAGE = TOP / "bindings/python/starlark_lexer"
 RUST = TOP / "bindings/rust/src"
 SCRIPT = TOP / "bindings/web/lexer.js"
 TABLE = TOP / "crates/starlark_grammar/src/class.rt"
+GO = TOP / "bindings/go/scripts/kinds.py"
 
 # Where the last keyword or symbol stands, by its text, name and number, and what goes after it for a
 # new one. Where that is None, the new one takes its place.
 KIND_LINES = [
     (HEADER, "STARLARK_KIND_{upper} = {number}", ",\n    STARLARK_KIND_{upper} = {number}"),
+    (CALLS, '    [STARLARK_KIND_{upper}] = "{name}",\n', '    [STARLARK_KIND_{upper}] = "{name}",\n'),
     (PACKAGE / "kinds.py", "    {upper} = {number}\n", "    {upper} = {number}\n"),
     (PACKAGE / "kinds.py", "    Kind.{upper}: KindClass.{of_class},\n", "    Kind.{upper}: KindClass.{of_class},\n"),
     (PACKAGE.parent / "src/library.h", "STARLARK_KIND_{upper} + 1", None),
@@ -99,6 +103,13 @@ def enumerators(prefix):
     return found(HEADER, rf"STARLARK_{prefix}(\w+) = (\d+)")
 
 
+def strings(prefix):
+    """The strings of the header's calls, which have the name of their number, and the numbers."""
+    numbers = dict(enumerators(prefix))
+    named = re.findall(rf'\[STARLARK_{prefix}(\w+)\] = "(\w+)",', CALLS.read_text())
+    return [(plain(text), numbers[plain(name)]) for name, text in named]
+
+
 def statuses():
     """The statuses of the header."""
     body = re.search(r"enum starlark_status \{(.*?)\};", HEADER.read_text(), re.S)
@@ -153,7 +164,8 @@ def compared():
     right = found(kinds, r"token_number \(?grammar\.(\w+)(?: \w+\))? = (\d+)")
     right += [(plain(name), number) for _, name, number, _ in table()]
     of_package, of_crate = members(package, "Kind"), arms(token, "TokenKind")
-    yield "kinds", right, {"header": enumerators("KIND_"), "package": of_package, "crate": of_crate}
+    of_header = {"header": enumerators("KIND_"), "names": strings("KIND_")}
+    yield "kinds", right, {**of_header, "package": of_package, "crate": of_crate}
     of_package, of_crate = classed(of_package, package_classes(of_package)), classed(of_crate, crate_classes())
     yield "classes of kinds", classed(right, defined_classes()), {"package": of_package, "crate": of_crate}
     right = found(classes, r"class_number class\.(\w+) = (\d+)")
@@ -167,6 +179,8 @@ def compared():
     yield "quotes", defined_quotes(), {"header": enumerators("QUOTES_"), "package": of_package, "crate": of_crate}
     status = r"pub const (\w+): u32 = (\d+);"
     right = found(CRATE / "src/outcomes.rt", status) + found(CRATE / "src/replies.rt", status)
+    # calls.c gives each document a slot of its own, so that none is opened twice.
+    right = [pair for pair in right if pair[0] != "opened"]
     # The package is compiled over the header, and has no statuses of its own.
     yield "statuses", right, {"header": statuses(), "crate": found(RUST / "ffi.rs", r"const (\w+): u32 = (\d+);")}
 
@@ -175,9 +189,11 @@ def main():
     """Compares all numbers."""
     parser = argparse.ArgumentParser(description=__doc__.splitlines()[0])
     parser.add_argument("--write", action="store_true", help="add new keywords and symbols first")
-    if parser.parse_args().write:
+    is_written = parser.parse_args().write
+    if is_written:
         write()
-    wrong = 0
+    # That of Go has all kinds from the header and the table.
+    wrong = subprocess.run([sys.executable, GO, *["--write"] * is_written], check=False).returncode
     for name, right, places in compared():
         if not right or [number for _, number in right] != sorted({number for _, number in right}):
             print(f"{name}: the definitions have no numbers, or one twice")

@@ -1,14 +1,15 @@
 #!/bin/sh
 # Makes all files of a release in out/release, from a clone on which the gate passed.
 #
-#     scripts/releasing/release.sh
+#     scripts/releasing/release.sh [--macos]
 #
 # .ci/run leaves what the gate said in out/gate.log, after a line with the commit. Without that,
 # with other sources than the commit's, or with a program that isn't proved, nothing is made. Then
 # there are
 #
 #     starlark-lex-VERSION-TARGET-linux.tar.gz        for C, with the programs
-#     libstarlark-lex0_.. libstarlark-lex-dev_.. starlark-tokens_...deb
+#     starlark-lex-VERSION-x86_64-windows.zip         for C: static library, DLL and import library
+#     libstarlark-lexABI_.. libstarlark-lex-dev_.. starlark-tokens_...deb
 #     starlark_lexer-VERSION.crate                    for Rust, with the libraries of all targets
 #     starlarklexer-go-VERSION.zip                    for Go, with the libraries of all targets
 #     starlark_lexer-VERSION-...whl, starlark_lexer-VERSION.tar.gz  for Python
@@ -16,9 +17,12 @@
 #     PROVED.txt                                      what was proved, and by what
 #     SHA256SUMS
 #
-# The targets are x86_64 and aarch64; the kit links no programs for the second. What tools are
-# missing for is named and left out. The same commit and tools make the same bytes: all times are
-# SOURCE_DATE_EPOCH, or the commit's.
+# The targets are x86_64 and aarch64 Linux, and x86_64 Windows; the kit links programs for the first
+# alone. What tools are missing for is named and left out. The same commit and tools make the same
+# bytes: all times are SOURCE_DATE_EPOCH, or the commit's.
+#
+# With --macos only out/macos is made, with an archive for arm64 and one for x86_64, which are compiled
+# and not run. No release has them.
 set -eu
 
 top=$(CDPATH='' cd -- "$(dirname -- "$0")/../.." && pwd)
@@ -33,7 +37,7 @@ version=$(cat VERSION)
 SOURCE_DATE_EPOCH=${SOURCE_DATE_EPOCH:-$(git log -1 --format=%ct)}
 MAINTAINER=${MAINTAINER:-$(git log -1 --format='%an <%ae>')}
 export SOURCE_DATE_EPOCH MAINTAINER
-cross=aarch64-linux-gnu-
+module=crates/starlark_c/out/starlark_c.bc
 
 fail() {
     echo "release.sh: $1" >&2
@@ -86,22 +90,34 @@ gather_programs() {
         >"$programs/starlark_lex.1"
 }
 
-# Makes the libraries for C: of this machine, and of ARM where its tools are there.
+# Makes the library of a target in a folder of its own, where the target's tools are there.
+make_library() {
+    if scripts/bindings/link_library.sh --tools "$1" 2>"$work/said"; then
+        scripts/bindings/link_library.sh "$1" $module "$work/$2" >&2
+        libraries="$libraries $2"
+    else
+        leave_out "all for $1: $(sed 's/.*: //' "$work/said")"
+    fi
+}
+
+# Makes the libraries for C: of this machine, and of the others whose tools are there.
 make_libraries() {
     scripts/bindings.sh library >&2
     mkdir -p "$work/x86_64"
     cp -P out/bindings/libstarlark_lex.* out/bindings/starlark_lex.h "$work/x86_64"
-    targets=x86_64
-    if has "${cross}gcc" && has "${cross}objcopy"; then
-        triple=aarch64-unknown-linux-gnu
-        scripts/bindings/build_archive.py --target $triple >&2
-        "${cross}gcc" -std=c11 -O2 -fPIC -c bindings/c/allocator.c -o "$work/allocator.o"
-        scripts/bindings/link_library.sh "$cross" "crates/starlark_c/out/$triple/libstarlark_c.a" \
-            "$work/allocator.o" "$work/aarch64"
-        targets='x86_64 aarch64'
-    else
-        leave_out "all for ARM: there is no ${cross}gcc"
-    fi
+    libraries=x86_64
+    make_library aarch64-linux aarch64
+    targets=$libraries
+    make_library x86_64-windows windows_x86_64
+}
+
+# Makes the archives that nothing here runs.
+make_macos() {
+    scripts/bindings/build_archive.py >&2
+    for processor in aarch64 x86_64; do
+        scripts/bindings/link_library.sh $processor-macos $module "out/macos/$processor"
+    done
+    echo 'out/macos has the archives for macOS, compiled and not run'
 }
 
 # Packs a folder, all with one time and one owner.
@@ -117,6 +133,15 @@ make_archive() {
     release/install_files.sh "$work/$1" "$2" "$work/archives/$name" lib share/doc/starlark-lex
     cp "$output/PROVED.txt" "$work/archives/$name/share/doc/starlark-lex"
     pack "$work/archives" "$name"
+}
+
+# Makes the zip for C on Windows.
+make_zip() {
+    name="starlark-lex-$version-x86_64-windows"
+    release/install_files.sh "$work/windows_x86_64" none "$work/archives/$name" lib \
+        share/doc/starlark-lex
+    cp "$output/PROVED.txt" "$work/archives/$name/share/doc/starlark-lex"
+    release/zip_folder.py "$work/archives/$name" "$output/$name.zip"
 }
 
 # Makes the Debian packages of a target.
@@ -137,9 +162,11 @@ make_crate() {
     cp -R bindings/rust "$work/crate"
     rm -rf "$work/crate/target" "$work/crate/Cargo.lock"
     cp LICENSE CHANGELOG.md "$work/crate"
-    for target in $targets; do
-        mkdir -p "$work/crate/lib/$target-unknown-linux-gnu"
-        cp "$work/$target/libstarlark_lex.a" "$work/crate/lib/$target-unknown-linux-gnu"
+    for library in $libraries; do
+        folder="$work/crate/lib/$library-unknown-linux-gnu"
+        [ "$library" != windows_x86_64 ] || folder="$work/crate/lib/x86_64-pc-windows-gnu"
+        mkdir -p "$folder"
+        cp "$work/$library/libstarlark_lex.a" "$folder"
     done
     find "$work/crate" -exec touch -h -d "@$SOURCE_DATE_EPOCH" {} +
     (cd "$work/crate" && CARGO_TARGET_DIR="$work/cargo" \
@@ -168,14 +195,18 @@ write_proof() {
         echo 'The last lines of the gate, rt ci:'
         tail -n 3 "$gate" | sed 's/^/    /'
         echo
-        echo 'The kit compiled the proved calls and programs. Not proved, and compiled by others,'
-        echo 'are bindings/c/empty_buffers.c, and for ARM bindings/c/allocator.c:'
-        for tool in "${CC:-cc}" "${cross}gcc"; do
+        echo 'The kit compiled the proved calls and programs. Not proved are bindings/c/allocator.ll,'
+        echo 'which it compiled, too, and bindings/c/calls.c, which was compiled by:'
+        for tool in "${CC:-cc}" aarch64-linux-gnu-gcc x86_64-w64-mingw32-gcc; do
             if has "$tool"; then echo "    $("$tool" --version | head -n 1)"; fi
         done
     } >"$output/PROVED.txt"
 }
 
+if [ "${1:-}" = --macos ]; then
+    make_macos
+    exit 0
+fi
 rm -rf "$output"
 if ! has "${CC:-cc}" || ! has objcopy; then
     leave_out 'the release: there is no C compiler with its binary tools'
@@ -193,9 +224,10 @@ for target in $targets; do
     make_archive "$target" "$of_target"
     if has dpkg-deb; then make_debs "$target" "$of_target"; fi
 done
+case $libraries in *windows*) make_zip ;; esac
 has dpkg-deb || leave_out 'the Debian packages: there is no dpkg-deb'
 make_crate
-bindings/go/scripts/release.sh "$work" "$targets" "$output"
+bindings/go/scripts/release.sh "$work" "$libraries" "$output"
 make_wheels
 conformance/making/install.sh "$work/archives/starlark-conformance-$version"
 pack "$work/archives" "starlark-conformance-$version"

@@ -100,8 +100,7 @@ build_by_cmake() {
     unpack x86_64
     mkdir source
     sed "s/@VERSION@/$version/" "$top/release/try/CMakeLists.txt" >source/CMakeLists.txt
-    cp "$top/release/try/tokens.cpp" source
-    cp "$archive/share/doc/starlark-lex/examples/print_tokens.c" source
+    cp "$archive/share/doc/starlark-lex/examples/"* source
     clean cmake -S source -B build -DCMAKE_PREFIX_PATH="$archive" >&2
     clean cmake --build build >&2
 }
@@ -116,9 +115,8 @@ try_cmake_static() {
     clean build/static <"$sample"
 }
 
-# Makes a crate of its own over the released one, by a cargo and a rustc.
-try_crate() {
-    needs cargo cc
+# Makes a crate of its own over the released one, with features of it, and goes to its folder.
+make_tool() {
     crate="$release/starlark_lexer-$version.crate"
     [ -f "$crate" ] || { echo 'there is no crate' >&2 && exit 3; }
     tar -xzf "$crate"
@@ -131,10 +129,26 @@ version = "0.1.0"
 edition = "2021"
 
 [dependencies]
-starlark_lexer = { path = "../starlark_lexer-$version" }
+starlark_lexer = { path = "../starlark_lexer-$version", features = [${1:-}] }
 END
     cd tool || exit 1
+}
+
+# Runs a crate over the released one, by a cargo and a rustc.
+try_crate() {
+    needs cargo cc
+    make_tool
     clean cargo run --offline --quiet <"$sample"
+}
+
+# The same over the shared library of the archive.
+try_crate_over_system() {
+    needs cargo cc pkg-config readelf
+    unpack x86_64
+    make_tool '"system"'
+    clean env PKG_CONFIG_PATH="$archive/lib/pkgconfig" LD_LIBRARY_PATH="$archive/lib" \
+        cargo run --offline --quiet <"$sample" || return 1
+    readelf -d target/debug/tool | grep -q 'NEEDED.*libstarlark_lex\.so'
 }
 
 # Installs the wheel into a new virtual environment, in which nothing else is.
@@ -154,6 +168,7 @@ print_by_python() {
 
 try_wheel() {
     install_wheel
+    clean venv/bin/starlark-lsp --version >&2 || return 1
     print_by_python
 }
 
@@ -175,6 +190,13 @@ try_sdist() {
 # Takes the module for Go from a proxy of files.
 try_go() {
     clean "$top/bindings/go/scripts/try_release.sh" "$release" <"$sample"
+}
+
+try_go_windows() {
+    needs x86_64-w64-mingw32-gcc wine
+    clean env GOOS=windows GOARCH=amd64 CGO_ENABLED=1 CC=x86_64-w64-mingw32-gcc RUN_BY=wine \
+        WINEPREFIX="$work/wine" WINEDEBUG=-all \
+        "$top/bindings/go/scripts/try_release.sh" "$release" <"$sample"
 }
 
 # Installs the Debian packages into a root of their own.
@@ -204,13 +226,113 @@ try_deb_library() {
 }
 
 try_arm() {
-    needs aarch64-linux-gnu-gcc qemu-aarch64
+    needs aarch64-linux-gnu-gcc
+    emulator=qemu-aarch64
+    clean sh -c 'command -v qemu-aarch64' >/dev/null || emulator=qemu-aarch64-static
+    needs "$emulator"
     unpack aarch64
     example="$archive/share/doc/starlark-lex/examples/print_tokens.c"
     clean aarch64-linux-gnu-gcc -I "$archive/include" "$example" \
         "$archive/lib/libstarlark_lex$1" -o print_tokens
     clean env QEMU_LD_PREFIX=/usr/aarch64-linux-gnu LD_LIBRARY_PATH="$archive/lib" \
-        qemu-aarch64 -E LD_LIBRARY_PATH="$archive/lib" ./print_tokens <"$sample"
+        "$emulator" -E LD_LIBRARY_PATH="$archive/lib" ./print_tokens <"$sample"
+}
+
+# Runs a program on a processor that has no more than the first x86-64.
+try_baseline() {
+    needs cc qemu-x86_64
+    unpack x86_64
+    clean cc -I "$archive/include" "$archive/share/doc/starlark-lex/examples/print_tokens.c" \
+        "$archive/lib/libstarlark_lex.a" -o print_tokens
+    clean qemu-x86_64 -cpu qemu64 ./print_tokens <"$sample"
+}
+
+# Unpacks the archive for Windows.
+unpack_windows() {
+    needs x86_64-w64-mingw32-gcc wine unzip
+    archive="$PWD/starlark-lex-$version-x86_64-windows"
+    [ -f "$release/starlark-lex-$version-x86_64-windows.zip" ] || {
+        echo 'there is no archive for Windows' >&2
+        exit 3
+    }
+    unzip -q "$release/starlark-lex-$version-x86_64-windows.zip"
+}
+
+# Runs a program for Windows. Its lines end with CR and LF.
+run_windows() {
+    clean env WINEPREFIX="$work/wine" WINEDEBUG=-all timeout 120 wine "$@" >windows_lines || return 1
+    tr -d '\r' <windows_lines
+}
+
+# Prints the tokens over the static library, and runs the tests of C.
+try_windows_static() {
+    unpack_windows
+    for program in print_tokens small_calls edited_documents stored_texts; do
+        clean x86_64-w64-mingw32-gcc -std=c11 -O2 -I "$archive/include" \
+            "$top/bindings/c/$program.c" "$archive/lib/libstarlark_lex.a" -o "$program.exe" || return 1
+    done
+    stored="Z:$top/crates/starlark_rows"
+    run_windows ./stored_texts.exe "$stored/stdin" "$stored/stdout" >&2 || return 1
+    run_windows ./small_calls.exe >&2 || return 1
+    run_windows ./edited_documents.exe 2000 >&2 || return 1
+    run_windows ./print_tokens.exe <"$sample"
+}
+
+# Prints the tokens over the DLL, which CMake finds.
+try_windows_dll() {
+    needs cmake make
+    unpack_windows
+    mkdir source
+    cat >source/CMakeLists.txt <<END
+cmake_minimum_required(VERSION 3.13)
+project(try_starlark_lex C)
+find_package(starlark_lex $version REQUIRED)
+add_executable(shared print_tokens.c)
+target_link_libraries(shared starlark_lex::starlark_lex)
+END
+    cp "$archive/share/doc/starlark-lex/examples/print_tokens.c" source
+    clean cmake -S source -B build -DCMAKE_SYSTEM_NAME=Windows -DCMAKE_PREFIX_PATH="$archive" \
+        -DCMAKE_C_COMPILER=x86_64-w64-mingw32-gcc >&2
+    clean cmake --build build >&2
+    cp "$archive"/bin/*.dll build
+    run_windows build/shared.exe <"$sample"
+}
+
+# Prints a path whose first rustc can build the crate for a target: ours, or the system's.
+path_for() {
+    least=$(sed -n 's/^rust-version = "\(.*\)"/\1/p' "$top/bindings/rust/Cargo.toml")
+    for folders in "$path" /usr/bin:/bin; do
+        folder=$(PATH=$folders rustc --print target-libdir --target "$1" 2>/dev/null) || continue
+        found=$(PATH=$folders rustc --version | cut -d ' ' -f 2)
+        if [ -d "$folder" ] && printf '%s\n%s\n' "$least" "$found" | sort -CV; then
+            echo "$folders"
+            return 0
+        fi
+    done
+    echo "no rustc from $least on has the library of $1" >&2
+    return 1
+}
+
+# Builds the crate's program for Windows.
+try_windows_crate() {
+    needs cargo x86_64-w64-mingw32-gcc wine
+    triple=x86_64-pc-windows-gnu
+    folders=$(path_for "$triple") || exit 3
+    make_tool
+    clean env PATH="$folders" cargo build --offline --quiet --target "$triple" || return 1
+    run_windows "target/$triple/debug/tool.exe" <"$sample"
+}
+
+# Lexes the text by the package for npm, by `import` and by `require`.
+try_npm() {
+    needs node
+    [ -f "$release/starlark-lexer-$version.tgz" ] || { echo 'there is no package' >&2 && exit 3; }
+    mkdir -p node_modules
+    tar -xzf "$release/starlark-lexer-$version.tgz" && mv package node_modules/starlark-lexer
+    cp "$top/release/try/tokens.mjs" "$top/release/try/tokens.cjs" .
+    clean node tokens.cjs <"$sample" >required
+    clean node tokens.mjs <"$sample" | tee imported
+    cmp imported required
 }
 
 # Says what lintian finds in the packages; errors fail.
@@ -249,6 +371,7 @@ try 'C by pkg-config, shared' try_pkg_config
 try 'C by CMake, static' try_cmake_static
 try 'C++ by CMake, shared' try_cmake_shared
 try 'Rust, a crate of its own, offline' try_crate
+try 'Rust over the shared library, by pkg-config' try_crate_over_system
 try 'Python, the wheel in a virtual environment' try_wheel
 try 'Python, the sdist over the archive' try_sdist
 try 'Go, the module from a proxy of files' try_go
@@ -256,5 +379,11 @@ try 'Debian, starlark_lex in a root of its own' try_deb_program
 try 'Debian, C by pkg-config in that root' try_deb_library
 try 'ARM, C, static, under qemu' try_arm .a
 try 'ARM, C, shared, under qemu' try_arm .so
+try 'x86-64 without v2, C, under qemu' try_baseline
+try 'Windows, C, static and its tests, under wine' try_windows_static
+try 'Windows, C by CMake, the DLL, under wine' try_windows_dll
+try 'Windows, Rust, under wine' try_windows_crate
+try 'Windows, Go from a proxy of files, under wine' try_go_windows
+try 'Node, the package for npm' try_npm
 lint_debs
 exit $failed

@@ -57,10 +57,10 @@ LANGUAGE = [(word_class, re.compile(pattern)) for word_class, pattern in [
     ("Float", rb"\.[0-9]+" + EXPONENT + rb"?"),
 ]]
 
-# -- The longest front
+# -- The longest word
 
 
-def longest_front(text, offset):
+def longest_word(text, offset):
     """The longest word at an offset, with the class of its earliest row; empty where there is none."""
     longest, longest_class = b"", None
     for word_class, pattern in LANGUAGE:
@@ -391,7 +391,7 @@ def chunk(text, begin, opening):
 
 def word_step(text, begin, situation):
     """The piece of a word."""
-    word, word_class = longest_front(text, begin)
+    word, word_class = longest_word(text, begin)
     end = begin + len(word)
     refuse(text, begin, word, word_class)
     if word_class == "Skipped":

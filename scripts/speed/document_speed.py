@@ -1,17 +1,19 @@
 #!/usr/bin/env python3
-"""Measures keystrokes in a document by Rattle, C, Rust and Python, and by the example of a language server.
+"""Measures keystrokes in a document by Rattle, C, Rust and Python, and by the language server.
 
-    PYTHONPATH=out/bindings/python scripts/speed/document_speed.py [--count N] [--rounds N] [--server] [--bench PROGRAM] TEXT
+    PYTHONPATH=out/bindings/python scripts/speed/document_speed.py [--count N] [--rounds N] [--bench PROGRAM] TEXT
 
 Each types N characters (2000) into the middle half of a document of the text, each at another place,
 and deletes each again. They run in turns, N rounds (5). The table has, in microseconds, the median
 over the rounds of a keystroke at the median and at 99 %, its ratio to that by Rattle, and of making
-the document; then lexing the whole text by C. With --server also the language server is measured, on
-the first megabyte of the text, and in one round: it makes objects of all tokens. `scripts/bindings.sh` builds what is run; PROGRAM is a
-`starlark_bench` in place of the proved one. Without cargo or the package their rows are left out.
+the document; then lexing the whole text by C. A keystroke by the server goes from its message to the
+diagnostics. `scripts/bindings.sh` builds what is run; PROGRAM is a `starlark_bench` in place of the
+proved one. Without cargo or the package their rows are left out.
 """
 
 import argparse
+import io
+import json
 import os
 import shutil
 import statistics
@@ -24,12 +26,8 @@ from time import perf_counter_ns
 sys.path.append(f"{sys.path[0]}/..")  # where shared/ lies
 from shared.programs import TOP, built, give_up
 
-sys.path.insert(0, str(TOP / "bindings/python/examples"))
-
 MADE = TOP / "out/bindings"
 TYPED = "a_x =1,se."
-SERVER = "the language server, 1 MB"
-FRONT = 1_000_000
 
 
 def places(length, is_boundary, count):
@@ -69,20 +67,28 @@ def by_python(text, count):
     return summary(made, times)
 
 
-def by_server(text, count):
-    """Changes by the language server, with the tokens of the lines that they touch."""
-    from language_server import OpenFile
+def message(method, **params):
+    """A notification as a client sends it."""
+    return json.dumps({"jsonrpc": "2.0", "method": f"textDocument/{method}", "params": params}).encode()
 
-    start = perf_counter_ns()
-    file = OpenFile(text.decode())
-    made = perf_counter_ns() - start
-    times = []
-    for stroke, at in enumerate(places(len(text), lambda at: file.document.place(at) is not None, count)):
-        begin = file.position(at)
-        end = {"line": begin["line"], "character": begin["character"] + 1}
-        typed = {"range": {"start": begin, "end": begin}, "text": TYPED[stroke % 10]}
-        times.append(timed(lambda: file.change(typed)))
-        times.append(timed(lambda: file.change({"range": {"start": begin, "end": end}, "text": ""})))
+
+def by_server(text, count):
+    """Keystrokes by the language server."""
+    from starlark_lexer.lsp.params import shown
+    from starlark_lexer.lsp.server import Server
+
+    server, file = Server(io.BytesIO(), io.BytesIO()), {"uri": "file:///a.bzl"}
+    server.take(b'{"id":1,"method":"initialize"}')
+    opened = message("didOpen", textDocument={**file, "text": text.decode()})
+    made, times = timed(lambda: server.take(opened)), []
+    kept = server.text_of(file["uri"])
+    for stroke, at in enumerate(places(len(text), lambda at: kept.document.place(at) is not None, count)):
+        begin = kept.position(at)
+        after = begin._replace(character=begin.character + 1)
+        for end, typed in ((begin, TYPED[stroke % 10]), (after, "")):
+            change = {"range": shown(begin, end), "text": typed}
+            sent = message("didChange", textDocument=file, contentChanges=[change])
+            times.append(timed(lambda: server.take(sent)))
     return summary(made, times)
 
 
@@ -126,10 +132,7 @@ def ways(folder, text, asked):
     except ImportError:
         return
     yield "Python", lambda: by_python(text, asked.count)
-    if not asked.server:
-        return
-    front = text[: text.rfind(b"\n", 0, FRONT) + 1]
-    yield SERVER, lambda: by_server(front, asked.count // 10 + 1)
+    yield "the language server", lambda: by_server(text, asked.count)
 
 
 def main():
@@ -137,7 +140,6 @@ def main():
     parser = argparse.ArgumentParser(description=__doc__.splitlines()[0])
     parser.add_argument("--count", type=int, default=2000, metavar="N")
     parser.add_argument("--rounds", type=int, default=5, metavar="N")
-    parser.add_argument("--server", action="store_true")
     parser.add_argument("--bench", type=Path, metavar="PROGRAM")
     parser.add_argument("text", type=Path, metavar="TEXT")
     asked = parser.parse_args()
@@ -145,10 +147,9 @@ def main():
     with TemporaryDirectory() as folder:
         calls = dict(ways(Path(folder), text, asked))
         found = {name: [] for name in calls}
-        for number in range(asked.rounds):
+        for _ in range(asked.rounds):
             for name, call in calls.items():
-                if name != SERVER or number == 0:
-                    found[name].append(call())
+                found[name].append(call())
     medians = {name: [statistics.median(column) for column in zip(*rounds)] for name, rounds in found.items()}
     print("| By | Keystroke, median | 99 % | Ratio | The document |\n|---|---|---|---|---|")
     for name, (made, median, most, *_) in medians.items():

@@ -43,11 +43,12 @@ gather() {
     cp "$library/starlark_lex.h" "$module/lib/include"
 }
 
-# Writes random texts, with what the plain lexer finds in them.
+# Writes random texts, with what the plain lexer finds in them, where STARLARK_RANDOM_TEXTS names none.
 write_random_texts() {
-    [ -f "$made/random_texts" ] ||
-        python3 "$top/bindings/web/tests/random_texts.py" 20000 1 >"$made/random_texts"
-    STARLARK_RANDOM_TEXTS="$made/random_texts"
+    if [ -z "${STARLARK_RANDOM_TEXTS:-}" ]; then
+        STARLARK_RANDOM_TEXTS="$made/random_texts"
+        python3 "$top/bindings/web/tests/random_texts.py" 20000 1 "$STARLARK_RANDOM_TEXTS"
+    fi
     STARLARK_STORED_TEXTS="$top/crates/starlark_rows"
     export STARLARK_RANDOM_TEXTS STARLARK_STORED_TEXTS
 }

@@ -5,8 +5,8 @@
 #     bindings/go/scripts/try_release.sh RELEASE <TEXT
 #
 # It runs the first program of docs/use/go.md, and compares what that prints. Then it prints the tokens
-# of the text, a line "BEGIN-END KIND" for each. The exit status is 3 where a tool or the module is
-# missing; standard error names it.
+# of the text, a line "BEGIN-END KIND" for each. RUN_BY names what runs programs for another system,
+# as wine. The exit status is 3 where a tool or the module is missing; standard error names it.
 set -eu
 
 release=$1
@@ -23,7 +23,7 @@ done
 run() {
     go mod init tool 2>>../said
     go get "example.org/starlarklexer@v$version" 2>>../said
-    go run .
+    go run ${RUN_BY:+-exec "$RUN_BY"} .
 }
 
 unzip -q "$module" -d proxy

@@ -26,6 +26,8 @@ typedef struct columns_object {
     size_t values_len;
     size_t cap;        /* items of each column but the values */
     size_t values_cap; /* bytes of values */
+    size_t counted;    /* an offset in bytes, and as the columns have it */
+    uint32_t offset;
 } columns_object;
 
 static void *items(const columns_object *of, int column)
@@ -71,6 +73,16 @@ static int make_columns_room(columns_object *of, const pieces *piece)
     return 0;
 }
 
+/* A later offset than the last one, as the columns have it: in characters of a str. */
+static uint32_t later_offset(columns_object *of, size_t at)
+{
+    const uint8_t *from = of->lexed.start + of->counted;
+    size_t len = at - of->counted;
+    of->offset += (uint32_t)(of->lexed.wide == NULL ? len : characters_in(from, len));
+    of->counted = at;
+    return of->offset;
+}
+
 /* Appends the lexemes of a piece to columns that have room for them. */
 static void append_piece(columns_object *of, const pieces *piece)
 {
@@ -79,11 +91,11 @@ static void append_piece(columns_object *of, const pieces *piece)
     int32_t *number = items(of, NUMBER);
     uint32_t *value_begin = items(of, VALUE_BEGIN), *value_end = items(of, VALUE_END);
     size_t at = of->len;
-    uint32_t from = (uint32_t)piece->from, values = (uint32_t)of->values_len;
+    uint32_t values = (uint32_t)of->values_len;
     for (size_t index = 0; index < piece->lexemes_len; index++, at++) {
         const starlark_lexeme *lexeme = &piece->lexemes[index];
-        begin[at] = from + lexeme->begin;
-        end[at] = from + lexeme->end;
+        begin[at] = later_offset(of, piece->from + lexeme->begin);
+        end[at] = later_offset(of, piece->from + lexeme->end);
         kind[at] = (uint8_t)lexeme->kind;
         number[at] = (int32_t)number_of(lexeme);
         value_begin[at] = values + (uint32_t)lexeme->value_begin;
@@ -253,60 +265,21 @@ static PyObject *columns_string(PyObject *self, PyObject *given)
     if (index < 0)
         return NULL;
     uint32_t begin = offset_of(of, BEGIN, index), end = offset_of(of, END, index);
-    if (begin > end || end > of->lexed.len)
+    PyObject *wide = of->lexed.wide;
+    size_t len = wide == NULL ? of->lexed.len : (size_t)PyUnicode_GetLength(wide);
+    if (begin > end || end > len)
         return PyErr_Format(PyExc_IndexError, "the columns were changed");
+    if (wide != NULL)
+        return PyUnicode_Substring(wide, begin, end);
     return str_of(of->lexed.start + begin, end - begin);
-}
-
-/* Whether each character of a text is one byte. */
-static bool is_ascii(const text *lexed)
-{
-    uint8_t all = 0;
-    for (size_t at = 0; at < lexed->len; at++)
-        all |= lexed->start[at];
-    return all < 0x80;
-}
-
-/* A view of the offsets of a column, counted in characters. */
-static PyObject *in_characters(const columns_object *of, int column)
-{
-    PyObject *buffer = new_buffer(buffer_len(column, of->len));
-    if (buffer == NULL)
-        return NULL;
-    const uint32_t *offsets = items(of, column);
-    uint32_t *counted = (uint32_t *)PyByteArray_AsString(buffer);
-    size_t at = 0;
-    uint32_t characters = 0;
-    for (size_t index = 0; index < of->len; index++) {
-        for (; at < offsets[index] && at < of->lexed.len; at++)
-            characters += (of->lexed.start[at] & 0xC0) != 0x80;
-        counted[index] = characters;
-    }
-    PyObject *view = view_of(buffer, column, of->len);
-    Py_DECREF(buffer);
-    return view;
-}
-
-/* Where the tokens begin and end, in characters: two views. */
-static PyObject *columns_characters(PyObject *self, PyObject *Py_UNUSED(none))
-{
-    const columns_object *of = (columns_object *)self;
-    if (is_ascii(&of->lexed))
-        return PyTuple_Pack(2, of->views[BEGIN], of->views[END]);
-    PyObject *begin = in_characters(of, BEGIN);
-    PyObject *end = begin == NULL ? NULL : in_characters(of, END);
-    PyObject *both = end == NULL ? NULL : PyTuple_Pack(2, begin, end);
-    Py_XDECREF(begin);
-    Py_XDECREF(end);
-    return both;
 }
 
 #define VIEW_AT(column) (offsetof(columns_object, views) + (column) * sizeof(PyObject *))
 #define VIEW(name, column, doc) {name, T_OBJECT_EX, VIEW_AT(column), READONLY, doc}
 
 static PyMemberDef members[] = {
-    VIEW("begin", BEGIN, "the offset of each token's first byte"),
-    VIEW("end", END, "the offset after each token's last byte"),
+    VIEW("begin", BEGIN, "where each token begins: a character of a str, or a byte"),
+    VIEW("end", END, "where each token ends"),
     VIEW("kind", KIND, "the number of each token's kind"),
     VIEW("number", NUMBER,
          "an INT of 32 bits, the base of a longer one, an FSTRING_START's quotes, else 0"),
@@ -322,9 +295,6 @@ static PyMethodDef methods[] = {
      "value($self, i, /)\n--\n\nThe value of a token, as `Token.value`."},
     {"string", columns_string, METH_O,
      "string($self, i, /)\n--\n\nThe text of a token, as `Token.string`."},
-    {"characters", columns_characters, METH_NOARGS,
-     "characters($self, /)\n--\n\n"
-     "Where each token begins and ends, in characters instead of bytes: two views."},
     {NULL, NULL, 0, NULL},
 };
 

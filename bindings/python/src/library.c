@@ -1,6 +1,7 @@
 /* The module `starlark_lexer.library`: what Python calls of the proved lexer. */
 #include "library.h"
 
+#include <stdlib.h>
 #include <string.h>
 
 library_state *state_of(PyObject *module)
@@ -160,12 +161,11 @@ static PyObject *library_lex_columns(PyObject *module, PyObject *arguments, PyOb
 
 static PyObject *library_kind_name(PyObject *Py_UNUSED(module), PyObject *kind)
 {
-    uint8_t name[64];
     unsigned long number = PyLong_AsUnsignedLong(kind);
     if (number == (unsigned long)-1 && PyErr_Occurred())
         return NULL;
-    return str_of(
-        name, number > UINT32_MAX ? 0 : starlark_kind_name((uint32_t)number, name, sizeof name));
+    const char *name = number > UINT32_MAX ? NULL : starlark_kind_name((uint32_t)number);
+    return PyUnicode_FromString(name == NULL ? "" : name);
 }
 
 static PyObject *library_kind_class(PyObject *Py_UNUSED(module), PyObject *kind)
@@ -178,12 +178,11 @@ static PyObject *library_kind_class(PyObject *Py_UNUSED(module), PyObject *kind)
 
 static PyObject *library_fault_code(PyObject *Py_UNUSED(module), PyObject *kind)
 {
-    uint8_t code[16];
     unsigned long number = PyLong_AsUnsignedLong(kind);
     if (number == (unsigned long)-1 && PyErr_Occurred())
         return NULL;
-    return str_of(
-        code, number > UINT32_MAX ? 0 : starlark_fault_code((uint32_t)number, code, sizeof code));
+    const char *code = number > UINT32_MAX ? NULL : starlark_fault_code((uint32_t)number);
+    return PyUnicode_FromString(code == NULL ? "" : code);
 }
 
 static PyObject *library_version(PyObject *Py_UNUSED(module), PyObject *Py_UNUSED(none))
@@ -218,8 +217,8 @@ static PyMethodDef methods[] = {
          "begins no token, and a tab in code keep their lines: it goes on after them, with all\n"
          "brackets, f-strings and blocks open. After any other fault it begins again at the next\n"
          "line, as if that began a text of its own.\n\n"
-         "The call itself raises `TypeError` for what is neither `str` nor `bytes`, `UnicodeError`\n"
-         "for what isn't UTF-8, and `ValueError` for more than 4294967295 bytes."),
+         "The call itself raises `TypeError` for what neither is a `str` nor has bytes,\n"
+         "`UnicodeError` for what isn't UTF-8, and `ValueError` for more than 4294967295 bytes."),
     CALL(lex,
          "lex(source)\n--\n\n"
          "All tokens of a text and None, or the tokens before its first fault and that fault."),
@@ -246,6 +245,15 @@ static PyMethodDef methods[] = {
     {"fault_code", library_fault_code, METH_O,
      "fault_code(kind, /)\n--\n\n"
      "The code of a fault's kind, as `SL008`; empty where no fault has the number."},
+    {"semantic_tokens", library_semantic_tokens, METH_VARARGS,
+     "semantic_tokens(document, types, unit, line, begin, first, last, end, /)\n--\n\n"
+     "The tokens that begin from byte `begin`, where a line does, to byte `end`.\n\n"
+     "Returns how many end before byte `first`, the numbers of those that touch `first` to\n"
+     "`last`, and of the one after them, as text; how many these are, and how many follow. A token is\n"
+     "counted once for each of its lines, which LF, CR LF or CR end. Its numbers are those of the\n"
+     "Language Server Protocol: by how many lines and columns it begins after the one before it,\n"
+     "its length, its type, and 0. A column is a unit of UTF-8, 16 or 32. `types` has the type of\n"
+     "each kind, or 255."},
     {"version", library_version, METH_NOARGS, "version()\n--\n\nThe version of the library."},
     {"place_of", library_place_of, METH_VARARGS,
      "place_of(source, at, /)\n--\n\n"
@@ -291,20 +299,13 @@ static int fetch_tuple_new(library_state *state)
     return state->tuple_new == NULL ? -1 : 0;
 }
 
-/* Whether the library is that of the header and runs on this processor. Sets ImportError if not. */
+/* Whether the library is that of the header. Sets ImportError if not. */
 static bool is_usable(void)
 {
     if (starlark_lex_version() != STARLARK_LEX_VERSION) {
         PyErr_SetString(PyExc_ImportError, "the library has another version than its header");
         return false;
     }
-#ifdef __x86_64__
-    __builtin_cpu_init();
-    if (!__builtin_cpu_supports("sse4.2") || !__builtin_cpu_supports("popcnt")) {
-        PyErr_SetString(PyExc_ImportError, "the library needs a processor with x86-64-v2");
-        return false;
-    }
-#endif
     return true;
 }
 
@@ -394,24 +395,50 @@ static void library_free(void *module)
     library_clear(module);
 }
 
+/* Slots that the limited API of 3.9 lacks: an interpreter with a lock of its own may import the
+ * module (3.12), and one without any lock (3.13). */
+enum { MULTIPLE_INTERPRETERS = 3, GIL = 4 };
+#define PER_INTERPRETER_GIL ((void *)2)
+#define GIL_NOT_USED ((void *)1)
+
 static PyModuleDef_Slot slots[] = {
     {Py_mod_exec, library_exec},
     {0, NULL},
 };
 
-static PyModuleDef definition = {
-    PyModuleDef_HEAD_INIT,
-    .m_name = "starlark_lexer.library",
-    .m_doc = "The proved lexer of Starlark, called from Python.",
-    .m_size = sizeof(library_state),
-    .m_methods = methods,
-    .m_slots = slots,
-    .m_traverse = library_traverse,
-    .m_clear = library_clear,
-    .m_free = library_free,
+static PyModuleDef_Slot slots_of_3_12[] = {
+    {Py_mod_exec, library_exec},
+    {MULTIPLE_INTERPRETERS, PER_INTERPRETER_GIL},
+    {0, NULL},
 };
 
+static PyModuleDef_Slot slots_of_3_13[] = {
+    {Py_mod_exec, library_exec},
+    {MULTIPLE_INTERPRETERS, PER_INTERPRETER_GIL},
+    {GIL, GIL_NOT_USED},
+    {0, NULL},
+};
+
+#define DEFINITION(its_slots) \
+    { \
+        PyModuleDef_HEAD_INIT, \
+        .m_name = "starlark_lexer.library", \
+        .m_doc = "The proved lexer of Starlark, called from Python.", \
+        .m_size = sizeof(library_state), .m_methods = methods, .m_slots = its_slots, \
+        .m_traverse = library_traverse, .m_clear = library_clear, .m_free = library_free \
+    }
+
+static PyModuleDef definition = DEFINITION(slots);
+static PyModuleDef definition_of_3_12 = DEFINITION(slots_of_3_12);
+static PyModuleDef definition_of_3_13 = DEFINITION(slots_of_3_13);
+
+/* The module for the running interpreter: an older one refuses slots that it doesn't know. */
 PyMODINIT_FUNC PyInit_library(void)
 {
-    return PyModuleDef_Init(&definition);
+    char *end;
+    long major = strtol(Py_GetVersion(), &end, 10);
+    long minor = strtol(end + 1, NULL, 10);
+    if (major == 3 && minor < 12)
+        return PyModuleDef_Init(&definition);
+    return PyModuleDef_Init(major == 3 && minor == 12 ? &definition_of_3_12 : &definition_of_3_13);
 }

@@ -3,8 +3,9 @@
 #define STARLARK_LIBRARY_H
 
 #define PY_SSIZE_T_CLEAN
-#define Py_LIMITED_API 0x03090000
+/* setup.py defines Py_LIMITED_API, but not for a free-threaded build, which has no limited API. */
 #include <Python.h>
+#include <stdatomic.h>
 #include <stdbool.h>
 
 #include "starlark_lex.h"
@@ -31,14 +32,17 @@ typedef struct library_state {
     newfunc tuple_new; /* makes an instance of a subclass of tuple */
 } library_state;
 
-/* A text: bytes of UTF-8, which `bytes` keeps. */
+/* A text: bytes of UTF-8, which `bytes` keeps. Its callers count offsets in characters where it is a
+ * str, and in bytes elsewhere. */
 typedef struct text {
     PyObject *bytes;
+    PyObject *wide; /* the str where it isn't ASCII, else NULL: then a character is a byte */
     const uint8_t *start;
     size_t len;
 } text;
 
-/* Opens a str or bytes. Returns 0, or -1 with TypeError, UnicodeError or ValueError set. */
+/* Opens a str, or what has bytes. Returns 0, or -1 with TypeError, BufferError, UnicodeError or
+ * ValueError set. */
 int text_open(text *opened, PyObject *source);
 
 /* Drops a text; one of zeros, too. */
@@ -78,12 +82,17 @@ void pieces_end(pieces *of);
  * with MemoryError set. */
 int pieces_make_room(pieces *of, size_t lexemes, size_t values, size_t faults);
 
+/* How many characters begin in some bytes of UTF-8. */
+size_t characters_in(const uint8_t *bytes, size_t len);
+
 /* A place in a text, which moves on. */
 typedef struct cursor {
     const uint8_t *start;
     size_t len;
     size_t at;
     size_t line_begin;
+    bool is_wide;  /* whether `offset` counts characters, of which some have several bytes */
+    size_t offset; /* `at` as the callers count it */
     starlark_text_place place; /* counts from 0 */
 } cursor;
 
@@ -104,7 +113,6 @@ typedef struct maker {
     const library_state *state;
     const uint8_t *start;
     size_t len;
-    size_t base; /* the spans count from so many bytes before the text */
     cursor tokens;
     cursor faults;
     PyObject *fields;    /* the fields of the last token */
@@ -134,6 +142,70 @@ PyObject *value_of(const library_state *state, unsigned kind, long number, const
 
 /* A lexeme's value where 32 bits hold it, the base of a longer integer, or quotes. */
 long number_of(const starlark_lexeme *lexeme);
+
+/* Around what one thread at a time does with a document, where no lock of the interpreter says so. */
+#ifdef Py_GIL_DISABLED
+#define BEGIN_ALONE(self) Py_BEGIN_CRITICAL_SECTION(self);
+#define END_ALONE() Py_END_CRITICAL_SECTION();
+#else
+#define BEGIN_ALONE(self) {
+#define END_ALONE() }
+#endif
+
+/* Reads a part of a document from an offset on, up to a later one, as much as has room. Returns its
+ * length: 0 where memory ran out. Both offsets are character boundaries, and the part ends at one.
+ * Each call costs as much as the segments that it reads of, which are long in a long literal. */
+size_t read_document_part(const starlark_document *document, size_t begin, size_t end,
+                          uint8_t *part, size_t part_cap);
+
+/* Finds the lexemes that touch a range of a document, by offsets in bytes. Returns 0, or -1 with an
+ * exception set. */
+int find_lexemes(const starlark_document *document, pieces *found, size_t begin, size_t end);
+
+/* The document of an object. NULL with TypeError or ValueError set where it is none, or closed. */
+starlark_document *open_document(PyObject *module, PyObject *object);
+
+/* The call `semantic_tokens`. */
+PyObject *library_semantic_tokens(PyObject *module, PyObject *arguments);
+
+/* An offset of a document, in bytes and in characters. */
+typedef struct offset_mark {
+    size_t bytes;
+    size_t characters;
+} offset_mark;
+
+/* Marks of a document, some 4 KB from each other, from its begin to its end. There are none where the
+ * callers count bytes, and none before the document has a character of several bytes. */
+typedef struct offset_table {
+    size_t wide; /* by how much the bytes are more than the characters */
+    offset_mark *marks;
+    size_t len;
+    size_t cap;
+} offset_table;
+
+/* An edit: what it replaced, and where that ends in the old text and in the new one. */
+typedef struct offset_edit {
+    offset_mark begin;
+    offset_mark old_end;
+    offset_mark new_end;
+} offset_edit;
+
+/* Makes the marks of a document, where there are none. Returns false where memory ran out. */
+bool offsets_open(offset_table *of, const starlark_document *document);
+
+/* Frees the marks. */
+void offsets_close(offset_table *of);
+
+/* An offset in characters, of one in bytes that is a character boundary. STARLARK_NO_OFFSET where
+ * memory ran out. */
+size_t offset_in_characters(const offset_table *of, const starlark_document *document, size_t at);
+
+/* An offset in bytes, of one in characters that isn't after the end. STARLARK_NO_OFFSET where memory
+ * ran out. */
+size_t offset_in_bytes(const offset_table *of, const starlark_document *document, size_t at);
+
+/* Moves the marks after an edit that the document has made. */
+void offsets_edit(offset_table *of, const starlark_document *document, const offset_edit *edit);
 
 /* Appends a new object to a list, or passes on that there is none. Returns 0 or -1. */
 int append_new(PyObject *list, PyObject *object);

@@ -46,12 +46,12 @@ static PyObject *pair_of(size_t first, size_t second)
 
 int maker_begin(maker *begun, const library_state *state, const text *lexed)
 {
-    cursor front = {.start = lexed->start, .len = lexed->len};
+    cursor first = {.start = lexed->start, .len = lexed->len, .is_wide = lexed->wide != NULL};
     memset(begun, 0, sizeof *begun);
     begun->state = state;
     begun->start = lexed->start;
     begun->len = lexed->len;
-    begun->tokens = begun->faults = front;
+    begun->tokens = begun->faults = first;
     begun->fields = untracked(PyTuple_New(TOKEN_FIELDS));
     if (begun->fields == NULL)
         return -1;
@@ -59,10 +59,13 @@ int maker_begin(maker *begun, const library_state *state, const text *lexed)
     Py_DECREF(begun->fields);
     if (begun->arguments == NULL)
         return -1;
-    begun->known = PyMem_Calloc(KNOWN_TEXTS, sizeof *begun->known);
-    if (begun->known == NULL)
+    begun->known = PyMem_Malloc(KNOWN_TEXTS * sizeof *begun->known);
+    if (begun->known == NULL) {
         PyErr_NoMemory();
-    return begun->known == NULL ? -1 : 0;
+        return -1;
+    }
+    memset(begun->known, 0, KNOWN_TEXTS * sizeof *begun->known);
+    return 0;
 }
 
 void maker_end(maker *ended)
@@ -206,18 +209,19 @@ static PyObject *token_value(maker *of, const pieces *piece, const starlark_lexe
     return value_of(of->state, lexeme->kind, number_of(lexeme), bytes, len);
 }
 
-/* Fills the fields up to the line: of a token over several lines it has all of them. */
-static int fill_front(maker *of, unsigned kind, size_t begin, size_t end)
+/* Fills the fields of a place and the text between. Of a token over several lines the line has all
+ * of them. */
+static int fill_span(maker *of, size_t begin, size_t end)
 {
     PyObject *fields = of->fields;
     if (cursor_move(&of->tokens, begin) < 0)
         return -1;
-    size_t line_begin = of->tokens.line_begin;
-    if (set_field(fields, TYPE, member(of->state->kinds, KINDS, kind)) < 0
-        || set_field(fields, STRING, text_part(of, begin, end - begin)) < 0
+    size_t line_begin = of->tokens.line_begin, first = of->tokens.offset;
+    if (set_field(fields, STRING, text_part(of, begin, end - begin)) < 0
         || set_field(fields, START, place_here(of)) < 0)
         return -1;
-    if (cursor_move(&of->tokens, end) < 0 || set_field(fields, END, place_here(of)) < 0)
+    if (cursor_move(&of->tokens, end) < 0 || set_field(fields, END, place_here(of)) < 0
+        || set_field(fields, SPAN, pair_of(first, of->tokens.offset)) < 0)
         return -1;
     return set_field(fields, LINE, lines_of(of, line_begin, end > begin ? end - 1 : begin));
 }
@@ -225,9 +229,9 @@ static int fill_front(maker *of, unsigned kind, size_t begin, size_t end)
 PyObject *maker_token(maker *of, const pieces *piece, const starlark_lexeme *lexeme)
 {
     size_t begin = piece->from + lexeme->begin, end = piece->from + lexeme->end;
-    if (fill_front(of, lexeme->kind, begin, end) < 0
-        || set_field(of->fields, VALUE, token_value(of, piece, lexeme, begin)) < 0
-        || set_field(of->fields, SPAN, pair_of(of->base + begin, of->base + end)) < 0)
+    if (set_field(of->fields, TYPE, member(of->state->kinds, KINDS, lexeme->kind)) < 0
+        || fill_span(of, begin, end) < 0
+        || set_field(of->fields, VALUE, token_value(of, piece, lexeme, begin)) < 0)
         return NULL;
     return untracked(
         of->state->tuple_new((PyTypeObject *)of->state->token_class, of->arguments, NULL));
@@ -257,13 +261,14 @@ static int fill_fault(PyObject *fields, maker *of, const pieces *piece,
     const uint8_t *named = piece->values + fault->value_begin;
     if (cursor_move(&of->faults, begin) < 0)
         return -1;
-    size_t line_begin = of->faults.line_begin, line_end = line_end_after(of, begin);
+    size_t line_begin = of->faults.line_begin;
+    size_t first = of->faults.offset;
     if (set_field(fields, FAULT_TYPE, member(of->state->fault_kinds, FAULT_KINDS, fault->kind)) < 0
         || set_field(fields, FAULT_MESSAGE, message_of(fault->kind, named, fault->value_len)) < 0
         || set_field(fields, FAULT_START, place_of(&of->faults)) < 0
-        || set_field(fields, FAULT_LINE, str_of(of->start + line_begin, line_end - line_begin)) < 0
-        || set_field(fields, FAULT_SPAN, pair_of(of->base + begin, of->base + end)) < 0
-        || cursor_move(&of->faults, end) < 0)
+        || set_field(fields, FAULT_LINE, lines_of(of, line_begin, line_begin)) < 0
+        || cursor_move(&of->faults, end) < 0
+        || set_field(fields, FAULT_SPAN, pair_of(first, of->faults.offset)) < 0)
         return -1;
     return set_field(fields, FAULT_END, place_of(&of->faults));
 }

@@ -24,8 +24,23 @@ static bool is_utf8(const text *opened)
     return is_text;
 }
 
-/* The bytes of a str or of bytes, as new plain bytes or a new reference to them. NULL with an
+/* A copy of the bytes of an object that others may write to, as of a bytearray. NULL with an
  * exception set. */
+static PyObject *copied_bytes(PyObject *source)
+{
+    PyObject *view = PyMemoryView_FromObject(source);
+    if (view == NULL) {
+        if (PyErr_ExceptionMatches(PyExc_TypeError))
+            PyErr_Format(PyExc_TypeError, "a text is str, or has bytes, unlike %R",
+                         (PyObject *)Py_TYPE(source));
+        return NULL;
+    }
+    PyObject *bytes = PyBytes_FromObject(view);
+    Py_DECREF(view);
+    return bytes;
+}
+
+/* The bytes of a text, as new plain bytes or a new reference to them. NULL with an exception set. */
 static PyObject *bytes_of(PyObject *source)
 {
     if (PyUnicode_Check(source))
@@ -34,16 +49,14 @@ static PyObject *bytes_of(PyObject *source)
         Py_INCREF(source);
         return source;
     }
-    if (PyBytes_Check(source))
-        return PyBytes_FromStringAndSize(PyBytes_AsString(source), PyBytes_Size(source));
-    return PyErr_Format(PyExc_TypeError, "a text is str or bytes, not %R",
-                        (PyObject *)Py_TYPE(source));
+    return copied_bytes(source);
 }
 
 int text_open(text *opened, PyObject *source)
 {
     char *start;
     Py_ssize_t len;
+    opened->wide = NULL;
     opened->bytes = bytes_of(source);
     if (opened->bytes == NULL || PyBytes_AsStringAndSize(opened->bytes, &start, &len) < 0)
         return -1;
@@ -53,12 +66,27 @@ int text_open(text *opened, PyObject *source)
         PyErr_SetString(PyExc_ValueError, "the text has more than 4294967295 bytes");
         return -1;
     }
-    return PyUnicode_Check(source) || is_utf8(opened) ? 0 : refuse_bytes(opened);
+    if (!PyUnicode_Check(source))
+        return is_utf8(opened) ? 0 : refuse_bytes(opened);
+    if (PyUnicode_GetLength(source) != len) {
+        Py_INCREF(source);
+        opened->wide = source;
+    }
+    return 0;
 }
 
 void text_close(text *opened)
 {
     Py_CLEAR(opened->bytes);
+    Py_CLEAR(opened->wide);
+}
+
+size_t characters_in(const uint8_t *bytes, size_t len)
+{
+    size_t characters = 0;
+    for (size_t at = 0; at < len; at++)
+        characters += (bytes[at] & 0xC0) != 0x80;
+    return characters;
 }
 
 int cursor_move(cursor *moved, size_t at)
@@ -68,6 +96,8 @@ int cursor_move(cursor *moved, size_t at)
         PyErr_SetString(PyExc_SystemError, "the library's offsets are out of order");
         return -1;
     }
+    moved->offset +=
+        moved->is_wide ? characters_in(moved->start + moved->at, at - moved->at) : at - moved->at;
     moved->at = at;
     if (moved->place.line == line)
         return 0;

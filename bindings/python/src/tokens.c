@@ -11,8 +11,8 @@ typedef struct tokens_object {
     text lexed;
     pieces pieces;
     maker maker;
-    size_t next;  /* the next lexeme of the piece */
-    bool is_busy; /* a thread makes a token, or a finalizer runs while one is made */
+    size_t next;         /* the next lexeme of the piece */
+    atomic_bool is_busy; /* a thread makes a token, or a finalizer runs while one is made */
 } tokens_object;
 
 /* Frees all but the module. No token follows. */
@@ -85,15 +85,14 @@ static PyObject *next_token(tokens_object *of)
 static PyObject *tokens_next(PyObject *self)
 {
     tokens_object *of = (tokens_object *)self;
-    if (of->is_busy) {
+    if (atomic_exchange(&of->is_busy, true)) {
         PyErr_SetString(PyExc_ValueError, "the next token is being made already");
         return NULL;
     }
-    of->is_busy = true;
     PyObject *token = next_token(of);
     if (token == NULL)
         tokens_end(of);
-    of->is_busy = false;
+    atomic_store(&of->is_busy, false);
     return token;
 }
 

@@ -88,7 +88,7 @@ _NAMES = {
 }
 
 # A line end, and the lines of comments up to an indentation.
-_BEFORE_INDENTATION = re.compile(rb"(?:\r?\n)?(?:[ \t]*#[^\n]*\n)*")
+_BEFORE_INDENTATION = re.compile(r"(?:\r?\n)?(?:[ \t]*#[^\n]*\n)*")
 
 
 def _word_type(text: str, kind: int, before: int, after: int) -> TokenType:
@@ -105,32 +105,20 @@ def _word_type(text: str, kind: int, before: int, after: int) -> TokenType:
     return found
 
 
-def _fault_span(source: bytes, fault: Fault) -> Tuple[int, int]:
-    """The bytes of a fault. That of a tab has none, and gets the tab."""
+def _fault_part(text: str, fault: Fault) -> Part:
+    """The part of a fault. That of a tab has no characters, and gets the tab."""
     begin, end = fault.span
     if fault.type == FaultKind.INVALID_TAB:
-        if source[begin : begin + 1] != b"\t":
-            before = _BEFORE_INDENTATION.match(source, begin)
-            begin = source.find(b"\t", before.end() if before else begin)
+        if text[begin : begin + 1] != "\t":
+            before = _BEFORE_INDENTATION.match(text, begin)
+            begin = text.find("\t", before.end() if before else begin)
         end = begin + 1
-    return begin, end
-
-
-def _fault_parts(source: bytes, faults: Iterable[Fault]) -> Iterator[Part]:
-    """The parts of the faults, which are in order."""
-    at = characters = 0
-    for fault in faults:
-        begin, end = _fault_span(source, fault)
-        if begin < at:
-            at = characters = 0
-        characters += len(source[at:begin].decode())
-        at = begin
-        yield characters, characters + len(source[begin:end].decode()), _FAULT, _FAULT
+    return begin, end, _FAULT, _FAULT
 
 
 def _token_parts(columns: Columns) -> Iterator[Part]:
     """The parts of the tokens, made a few thousand at a time."""
-    begins, ends = columns.characters()
+    begins, ends = columns.begin, columns.end
 
     def some(first: int) -> Iterator[Part]:
         last = first + _AT_ONCE
@@ -140,12 +128,13 @@ def _token_parts(columns: Columns) -> Iterator[Part]:
     return chain.from_iterable(map(some, range(0, len(columns), _AT_ONCE)))
 
 
-def _parts(source: bytes, columns: Columns) -> Iterable[Part]:
-    """The parts of the tokens and faults of a text, in order of their begins in characters."""
+def _parts(text: str, columns: Columns) -> Iterable[Part]:
+    """The parts of the tokens and faults of a text, in order of their begins."""
     parts = _token_parts(columns)
     if not columns.faults:
         return parts
-    return sorted([*_fault_parts(source, columns.faults), *parts], key=itemgetter(0))
+    faults = (_fault_part(text, fault) for fault in columns.faults)
+    return sorted([*faults, *parts], key=itemgetter(0))
 
 
 def _gap_type(gap: str) -> TokenType:
@@ -188,7 +177,7 @@ class StarlarkLexer(Lexer):
         A text of more than 4294967295 bytes in UTF-8 raises `ValueError`.
         """
         # A lone surrogate has no UTF-8. It is lexed as `?`, which is one character as well.
-        source = text.encode(errors="replace")
+        source = text if text.isascii() else text.encode(errors="replace").decode()
         at = before = 0
         for begin, end, kind, after in _parts(source, lex_columns(source, recover=True)):
             if begin >= at and (begin < end or kind == _FAULT):

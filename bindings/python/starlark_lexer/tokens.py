@@ -2,11 +2,14 @@
 
 from __future__ import annotations
 
-from typing import Any, NamedTuple, Tuple, Type, Union
+from typing import TYPE_CHECKING, Any, NamedTuple, Tuple, Type, Union
 
 from .kinds import FaultKind, Kind, Quotes
 
-Source = Union[str, bytes]
+if TYPE_CHECKING:
+    from mmap import mmap
+
+Source = Union[str, bytes, bytearray, memoryview, "mmap"]
 Place = Tuple[int, int]
 Value = Union[str, bytes, int, Quotes, None]
 
@@ -15,10 +18,11 @@ _MOST_DIGITS = 4000
 
 
 class Token(NamedTuple):
-    """A token: the fields of `tokenize.TokenInfo`, and then its value and its bytes.
+    """A token: the fields of `tokenize.TokenInfo`, and then its value and its span.
 
     A place is a line from 1 and a column from 0, in characters, as in `tokenize`. The line of a token
-    over several lines has all of them.
+    over several lines has all of them. The span has its first offset and that after the last one, in
+    characters of a `str`, else in bytes.
     """
 
     type: Kind
@@ -47,14 +51,14 @@ class Fault(NamedTuple):
 
 
 class Change(NamedTuple):
-    """What an edit of a document changed, in bytes.
+    """What an edit of a document changed, by offsets as the document counts them.
 
-    Before `start` and after the ends all tokens and faults are the old ones; those after are moved by
+    Before `begin` and after the ends all tokens and faults are the old ones; those after are moved by
     `new_end - old_end`. `lexed` bytes were given to the lexer, which started `starts` times, and made
     `reads` reads of bytes.
     """
 
-    start: int
+    begin: int
     old_end: int
     new_end: int
     lexed: int

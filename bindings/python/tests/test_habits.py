@@ -6,17 +6,21 @@ import copy
 import gc
 import io
 import pickle
+import subprocess
 import sys
 import threading
 import tokenize as python_tokenize
 import unittest
 from array import array
 from importlib.util import find_spec
+from mmap import ACCESS_READ, mmap
+from tempfile import TemporaryFile
 from typing import Any, Callable, Dict, List, Union
 
 import starlark_lexer
 from starlark_lexer import (
     Columns,
+    Document,
     Fault,
     FaultKind,
     Kind,
@@ -52,11 +56,22 @@ def texts_of(part: str) -> List[bytes]:
 class Arguments(unittest.TestCase):
     """What is a text, and what a call raises at once."""
 
-    def test_only_str_and_bytes(self) -> None:
+    def test_other_objects(self) -> None:
         for call in CALLS:
-            for other in (5, None, ["x"], bytearray(b"x"), memoryview(b"x"), io.StringIO("x"), object()):
+            for other in (5, None, ["x"], io.StringIO("x"), object()):
                 with self.assertRaises(TypeError):
                     call(other)
+
+    def test_what_has_bytes(self) -> None:
+        wanted = lex(TEXT.encode())
+        with TemporaryFile() as file:
+            file.write(TEXT.encode())
+            file.flush()
+            with mmap(file.fileno(), 0, access=ACCESS_READ) as mapped:
+                for source in (bytearray(TEXT.encode()), memoryview(TEXT.encode()), mapped):
+                    self.assertEqual(lex(source), wanted)
+                    with Document(source) as document:
+                        self.assertEqual(document.tokens(), wanted[0])
 
     def test_subclasses(self) -> None:
         class Text(str):
@@ -66,7 +81,7 @@ class Arguments(unittest.TestCase):
             pass
 
         self.assertEqual(lex(Text(TEXT)), lex(TEXT))
-        self.assertEqual(lex(Bytes(TEXT.encode())), lex(TEXT))
+        self.assertEqual(lex(Bytes(TEXT.encode())), lex(TEXT.encode()))
 
     def test_keywords(self) -> None:
         self.assertEqual(list(tokenize(source=TEXT, recover=True)), list(tokenize(TEXT)))
@@ -226,7 +241,7 @@ class LongTexts(unittest.TestCase):
                 found = tokens[number * (len(one) - 1) + index]
                 self.assertEqual((found.type, found.string, found.value), (token.type, token.string, token.value))
                 self.assertEqual(found.start, (token.start[0] + 2 * number, token.start[1]))
-                self.assertEqual(found.span[0], token.span[0] + len(line.encode()) * number)
+                self.assertEqual(found.span[0], token.span[0] + len(line) * number)
 
     def test_texts_without_a_cut(self) -> None:
         for source in ("[" + "a, 'é',\n" * 30000 + "]", "def f():\n    pass\n" * 9000, "x" * 300000, "'" + "é" * 90000):
@@ -246,13 +261,13 @@ class ColumnsOfTexts(unittest.TestCase):
         """Compares the columns of a text with its tokens."""
         tokens, found = lex_all(source)
         columns = lex_columns(source, recover=True)
-        text = source.decode() if isinstance(source, bytes) else source
         self.assertEqual(len(columns), len(tokens))
         self.assertEqual(list(columns.kind), [token.type for token in tokens])
         self.assertEqual(list(zip(columns.begin, columns.end)), [token.span for token in tokens])
         self.assertEqual([columns.value(i) for i in range(len(columns))], [token.value for token in tokens])
         self.assertEqual([columns.string(i) for i in range(len(columns))], [token.string for token in tokens])
-        strings = [text[begin:end] for begin, end in zip(*columns.characters())]
+        parts = (source[begin:end] for begin, end in zip(columns.begin, columns.end))
+        strings = [part if isinstance(part, str) else part.decode() for part in parts]
         self.assertEqual(strings, [token.string for token in tokens])
         self.assertEqual(columns.faults, tuple(found))
         before, fault = lex(source)
@@ -262,6 +277,7 @@ class ColumnsOfTexts(unittest.TestCase):
     def test_stored_texts(self) -> None:
         for source in texts_of("texts") + texts_of("recovered"):
             self.check(source)
+            self.check(source.decode())
 
     def test_texts(self) -> None:
         for text in ("", "?", TEXT, "x = 0xFFFFFFFFFF + 7 + b'\\xff' + f'é{x!r}'\n" * 999, "汉" * 9, "'汉' # é"):
@@ -396,6 +412,55 @@ class Threads(unittest.TestCase):
             gc.set_threshold(*old)
         if sys.version_info < (3, 12):  # later versions collect only between instructions of Python
             self.assertEqual(set(said), {"the next token is being made already"})
+
+
+ISOLATED = """
+try:
+    import _interpreters as interpreters  # from 3.13 on
+except ImportError:
+    import _xxsubinterpreters as interpreters
+own = interpreters.create(*(["isolated"] if hasattr(interpreters, "new_config") else []))
+code = "import starlark_lexer; print([token.string for token in starlark_lexer.tokenize('x = 1')], flush=True)"
+failed = (getattr(interpreters, "exec", None) or interpreters.run_string)(own, code)
+assert not failed, failed
+"""
+
+
+class Interpreters(unittest.TestCase):
+    """Interpreters of one process."""
+
+    @unittest.skipIf(sys.version_info < (3, 12), "only later versions have interpreters with their own locks")
+    def test_an_interpreter_with_its_own_lock(self) -> None:
+        ran = subprocess.run([sys.executable, "-c", ISOLATED], capture_output=True, text=True, check=False)
+        self.assertEqual(ran.returncode, 0, ran.stderr)
+        self.assertIn("['x', '=', '1', '", ran.stdout)
+
+
+class Import(unittest.TestCase):
+    """What a failed import says."""
+
+    def failed(self, error: str) -> str:
+        """The last line of an import of the package, whose extension module ends in an error."""
+        code = (
+            "import sys\n"
+            "class Finder:\n"
+            "    def find_spec(self, name, path, target=None):\n"
+            f"        if name == 'starlark_lexer.library': raise {error}\n"
+            "sys.meta_path.insert(0, Finder())\n"
+            "import starlark_lexer\n"
+        )
+        ran = subprocess.run([sys.executable, "-c", code], capture_output=True, text=True, check=False)
+        self.assertEqual(ran.returncode, 1)
+        return ran.stderr.splitlines()[-1]
+
+    def test_without_the_module(self) -> None:
+        said = self.failed("ModuleNotFoundError('none', name=name)")
+        self.assertRegex(said, "^ImportError: starlark_lexer lacks its extension module for this system")
+
+    def test_with_one_that_fails(self) -> None:
+        self.assertEqual(self.failed("ImportError('the processor is too old')"), "ImportError: the processor is too old")
+        other = self.failed("ModuleNotFoundError('no enum', name='enum')")
+        self.assertEqual(other, "ModuleNotFoundError: no enum")
 
 
 class Package(unittest.TestCase):

@@ -14,10 +14,10 @@ from unittest import mock
 
 from starlark_lexer import __main__ as program
 from starlark_lexer import __version__
-from test_lexer import TOP, stored_texts
+from test_lexer import in_repository, stored_texts
 
 Run = subprocess.CompletedProcess
-DATA = TOP / "crates/starlark_tokens/data"
+DATA = "crates/starlark_tokens/data"
 HEAD = b'{"format":"starlark_lexemes","version":1,"proved":true}\n'
 
 
@@ -97,7 +97,7 @@ class Output(unittest.TestCase):
     def test_closed_pipe(self) -> None:
         forms: List[List[str]] = [[], ["--json"], ["--html"]]
         for form in forms:
-            command = [sys.executable, "-m", "starlark_lexer", *form, str(DATA / "faults.bzl"), __file__]
+            command = [sys.executable, "-m", "starlark_lexer", *form, str(in_repository(f"{DATA}/faults.bzl")), __file__]
             with subprocess.Popen(command, stdout=subprocess.PIPE, stderr=subprocess.PIPE) as running:
                 assert running.stdout and running.stderr
                 running.stdout.close()
@@ -129,14 +129,14 @@ class Json(unittest.TestCase):
         """Compares what both print of the same files, but for whether they were proved."""
         done = run("--json", *names, source=source)
         wanted = subprocess.run(
-            [TOP / "starlark_tokens", "--json", "--quiet", *names], input=source, capture_output=True, check=False
+            [in_repository("starlark_tokens"), "--json", "--quiet", *names], input=source, capture_output=True, check=False
         )
         self.assertEqual(done.stdout.partition(b"\n")[2], wanted.stdout.partition(b"\n")[2])
         self.assertTrue(done.stdout.startswith(HEAD))
         self.assertEqual(done.returncode, wanted.returncode)
 
     def test_files(self) -> None:
-        names = sorted(path for path in DATA.iterdir() if path.is_file())
+        names = sorted(path for path in in_repository(DATA).iterdir() if path.is_file())
         self.compare(*names)
         self.compare(names[0], "/no/such/file", names[1])
 

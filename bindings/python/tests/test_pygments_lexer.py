@@ -14,7 +14,7 @@ from typing import Any, Dict, Iterator, List, Tuple
 from unittest import mock
 
 from starlark_lexer import faults, lex_all
-from test_lexer import TOP, stored_texts
+from test_lexer import in_repository, stored_texts
 
 
 class _StandInType(tuple):
@@ -62,8 +62,8 @@ if not HAS_PYGMENTS:
 from starlark_lexer import pygments_lexer  # noqa: E402
 from starlark_lexer.pygments_lexer import StarlarkLexer  # noqa: E402
 
-DATA = TOP / "crates/starlark_tokens/data"
-PROJECT = TOP / "bindings/python/pyproject.toml"
+DATA = "crates/starlark_tokens/data"
+PROJECT = Path(__file__).resolve().parents[1] / "pyproject.toml"
 
 BUILD = '''\
 load(":a.bzl", "b")  # é
@@ -132,7 +132,8 @@ class Parts(unittest.TestCase):
             self.check(text)
 
     def test_files(self) -> None:
-        files = [*DATA.glob("*.bzl"), *DATA.glob("*.star"), DATA / "BUILD"]
+        data = in_repository(DATA)
+        files = [*data.glob("*.bzl"), *data.glob("*.star"), data / "BUILD"]
         self.assertGreater(len(files), 4)
         for file in files:
             self.check(file.read_bytes().decode())

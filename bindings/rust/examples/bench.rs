@@ -8,11 +8,14 @@
 //! the bytes of its value are looked at; then it is dropped. With `--tokens` each lexeme is made into
 //! its token, which is looked at and dropped.
 
+// `black_box` is of Rust 1.66, later than what the crate needs.
+#![allow(clippy::incompatible_msrv)]
+
 use starlark_lexer::{Lexeme, Lexer};
 use std::env;
 use std::error::Error;
 use std::hint::black_box;
-use std::io;
+use std::io::{self, Read};
 use std::time::Instant;
 
 /// The lexemes, the faults and the checksum of a text, each lexeme of which is used.
@@ -49,7 +52,8 @@ fn main() -> Result<(), Box<dyn Error>> {
     let mut args = env::args().skip(1);
     let mode = args.next().unwrap_or_default();
     let runs: usize = args.next().unwrap_or_default().parse()?;
-    let text = io::read_to_string(io::stdin())?;
+    let mut text = String::new();
+    io::stdin().read_to_string(&mut text)?;
     for _ in 0..runs {
         let start = Instant::now();
         let (lexemes, faults, checksum) = match mode.as_str() {

@@ -9,7 +9,7 @@
 use starlark_lexer::{Document, EditError};
 use std::env;
 use std::error::Error;
-use std::io;
+use std::io::{self, Read};
 use std::time::Instant;
 
 const TYPED: [&str; 10] = ["a", "_", "x", " ", "=", "1", ",", "s", "e", "."];
@@ -31,7 +31,8 @@ fn main() -> Result<(), Box<dyn Error>> {
         .nth(1)
         .ok_or("usage: keystrokes COUNT")?
         .parse()?;
-    let text = io::read_to_string(io::stdin())?;
+    let mut text = String::new();
+    io::stdin().read_to_string(&mut text)?;
     let start = Instant::now();
     let mut document = Document::new(&text)?;
     let made = start.elapsed().as_nanos();

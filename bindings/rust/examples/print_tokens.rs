@@ -2,7 +2,7 @@
 
 use starlark_lexer::{LineIndex, RecoveringLexer, Span};
 use std::error::Error;
-use std::io::{self, Write};
+use std::io::{self, Read, Write};
 use std::process::ExitCode;
 
 /// The line and column where a span begins, from 1, in characters.
@@ -30,7 +30,8 @@ fn print_tokens(text: &str, out: &mut impl Write) -> Result<bool, Box<dyn Error>
 }
 
 fn main() -> Result<ExitCode, Box<dyn Error>> {
-    let text = io::read_to_string(io::stdin())?;
+    let mut text = String::new();
+    io::stdin().read_to_string(&mut text)?;
     let mut out = io::BufWriter::new(io::stdout().lock());
     let is_clean = print_tokens(&text, &mut out)?;
     out.flush()?;

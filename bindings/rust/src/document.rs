@@ -1,8 +1,7 @@
 //! Documents: texts that stay lexed while they are edited.
 
 use crate::ffi::{Buffers, OpenDocument};
-use crate::piece::Piece;
-use crate::{Fault, FaultKind, Lexeme, Place, TooLong};
+use crate::{DocumentLexemes, Fault, FaultKind, Place, TooLong};
 use std::error::Error;
 use std::fmt;
 use std::iter::FusedIterator;
@@ -27,7 +26,7 @@ use std::ops::{Bound, Range, RangeBounds};
 /// assert_eq!(document.text(4..7).as_deref(), Some("'a'"));
 ///
 /// let painted = document.lexemes(change.new_range());
-/// assert!(painted.map(|lexeme| lexeme.kind()).any(|kind| kind == TokenKind::String));
+/// assert!(painted.iter().any(|lexeme| lexeme.kind() == TokenKind::String));
 /// # Ok::<(), starlark_lexer::TooLong>(())
 /// ```
 pub struct Document(OpenDocument);
@@ -35,6 +34,7 @@ pub struct Document(OpenDocument);
 /// What an edit changed. Before `begin` and after the ends all lexemes and faults are the old ones;
 /// those after are moved by `new_end - old_end`.
 #[derive(Clone, Copy, Debug, PartialEq, Eq)]
+#[non_exhaustive]
 pub struct Change {
     /// Start of the range in both texts, in bytes.
     pub begin: usize,
@@ -42,28 +42,32 @@ pub struct Change {
     pub old_end: usize,
     /// End of the range in the new text.
     pub new_end: usize,
-    /// How many bytes were given to the lexer.
-    pub lexed: usize,
-    /// How often lexing started.
-    pub starts: usize,
-    /// How many reads of bytes that took: at most `16 * (lexed + starts)`.
-    pub reads: u64,
+    pub(crate) lexed: usize,
 }
 
 impl Change {
     /// The range in the old text: the lexemes that touched it are to be replaced.
+    #[must_use]
     pub fn old_range(&self) -> Range<usize> {
         self.begin..self.old_end
     }
 
     /// The range in the new text: the lexemes that touch it take their place.
+    #[must_use]
     pub fn new_range(&self) -> Range<usize> {
         self.begin..self.new_end
+    }
+
+    /// How many bytes were lexed. A byte that was lexed twice counts twice.
+    #[must_use]
+    pub fn lexed(&self) -> usize {
+        self.lexed
     }
 }
 
 /// Why a document refuses an edit.
 #[derive(Clone, Copy, Debug, PartialEq, Eq)]
+#[non_exhaustive]
 pub enum EditError {
     /// The offsets aren't in order, or aren't character boundaries of the text.
     BadRange,
@@ -110,14 +114,20 @@ impl Document {
     /// The lexemes that touch a range of bytes, in order: each that ends at its start or later, and
     /// begins at its end or earlier. `..` is all of them.
     ///
-    /// What they have is of this moment, and is their own. So the document may be edited while they
-    /// are taken.
+    /// What they have is of this moment. So the document may be edited while they are taken.
     pub fn lexemes(&self, range: impl RangeBounds<usize>) -> DocumentLexemes {
-        let mut buffers = Buffers::with_capacity(FIRST_LEXEMES, FIRST_VALUES);
-        if let Some(range) = self.range(&range) {
-            self.0.lexemes(range, &mut buffers);
+        let mut lexemes = DocumentLexemes::new();
+        self.lexemes_into(range, &mut lexemes);
+        lexemes
+    }
+
+    /// Puts what [`lexemes`](Document::lexemes) returns in place of some lexemes, whose buffers are
+    /// used again.
+    pub fn lexemes_into(&self, range: impl RangeBounds<usize>, lexemes: &mut DocumentLexemes) {
+        match self.range(&range) {
+            Some(range) => self.0.lexemes(range, &mut lexemes.buffers),
+            None => lexemes.buffers.clear(),
         }
-        DocumentLexemes { buffers, index: 0 }
     }
 
     /// The faults that touch a range of bytes, in order. `..` is all of them.
@@ -179,36 +189,6 @@ impl fmt::Debug for Document {
             .finish_non_exhaustive()
     }
 }
-
-/// How many lexemes have room at first, and how many bytes of their values: those of most changes.
-const FIRST_LEXEMES: usize = 1024;
-const FIRST_VALUES: usize = 4096;
-
-/// The lexemes that touch a range of a [`Document`].
-#[derive(Clone, Debug)]
-pub struct DocumentLexemes {
-    buffers: Buffers,
-    index: usize,
-}
-
-impl Iterator for DocumentLexemes {
-    type Item = Lexeme<'static>;
-
-    fn next(&mut self) -> Option<Self::Item> {
-        let record = self.buffers.lexeme(self.index)?;
-        self.index += 1;
-        Some(Piece::own_lexeme(&self.buffers, record))
-    }
-
-    fn size_hint(&self) -> (usize, Option<usize>) {
-        let left = self.buffers.lexeme_count() - self.index;
-        (left, Some(left))
-    }
-}
-
-impl ExactSizeIterator for DocumentLexemes {}
-
-impl FusedIterator for DocumentLexemes {}
 
 /// The faults that touch a range of a [`Document`].
 #[derive(Clone, Debug)]

@@ -54,6 +54,7 @@ impl FaultKind {
     /// assert_eq!((fault.kind(), fault.kind().code()), (FaultKind::StartsZero, "SL008"));
     /// # Ok::<(), starlark_lexer::TooLong>(())
     /// ```
+    #[must_use]
     pub fn code(self) -> &'static str {
         match self {
             FaultKind::Indentation => "SL001",
@@ -99,16 +100,19 @@ impl Fault {
     }
 
     /// The kind of the fault.
+    #[must_use]
     pub fn kind(&self) -> FaultKind {
         self.0.kind
     }
 
     /// The bytes of the text that are at fault.
+    #[must_use]
     pub fn span(&self) -> Span {
         self.0.span
     }
 
     /// The message, such as ``Parse error: invalid input `!` ``.
+    #[must_use]
     pub fn message(&self) -> &str {
         &self.0.message
     }

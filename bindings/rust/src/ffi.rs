@@ -4,10 +4,13 @@
 
 use crate::{Change, EditError, Place, TooLong};
 use std::alloc::{handle_alloc_error, Layout};
-use std::cell::UnsafeCell;
-use std::ffi::c_void;
+#[cfg(test)]
+use std::ffi::CStr;
+use std::fmt;
 use std::ops::Range;
-use std::ptr;
+#[cfg(test)]
+use std::os::raw::c_char;
+use std::ptr::NonNull;
 
 /// A lexeme: a `starlark_lexeme` of the header, which says what each field holds.
 #[repr(C)]
@@ -89,8 +92,7 @@ struct TextPlace {
 /// A `starlark_document` of the header.
 #[repr(C)]
 struct RawDocument {
-    inner: *mut c_void,
-    is_full: bool,
+    opaque: [u8; 0],
 }
 
 /// A `starlark_change` of the header.
@@ -116,7 +118,6 @@ const TOO_LONG: u32 = 4;
 const MEMORY: u32 = 5;
 const BAD_RANGE: u32 = 6;
 const CLOSED: u32 = 7;
-const OPENED: u32 = 8;
 
 /// What tells that a document has no such place.
 const NO_OFFSET: usize = usize::MAX;
@@ -164,7 +165,11 @@ extern "C" {
         message_cap: usize,
     ) -> usize;
 
-    fn starlark_document_open(document: *mut RawDocument, text: *const u8, text_len: usize) -> u32;
+    fn starlark_document_open(
+        text: *const u8,
+        text_len: usize,
+        status: *mut u32,
+    ) -> *mut RawDocument;
 
     fn starlark_document_edit(
         document: *mut RawDocument,
@@ -176,7 +181,7 @@ extern "C" {
     ) -> u32;
 
     fn starlark_document_lexemes(
-        document: *mut RawDocument,
+        document: *const RawDocument,
         begin: usize,
         end: usize,
         lexemes: *mut LexemeRecord,
@@ -187,7 +192,7 @@ extern "C" {
     ) -> u32;
 
     fn starlark_document_faults(
-        document: *mut RawDocument,
+        document: *const RawDocument,
         begin: usize,
         end: usize,
         values: *mut u8,
@@ -198,23 +203,23 @@ extern "C" {
     ) -> u32;
 
     fn starlark_document_text(
-        document: *mut RawDocument,
+        document: *const RawDocument,
         begin: usize,
         end: usize,
         text: *mut u8,
         text_cap: usize,
     ) -> u32;
 
-    fn starlark_document_len(document: *mut RawDocument) -> usize;
+    fn starlark_document_len(document: *const RawDocument) -> usize;
 
     fn starlark_document_place(
-        document: *mut RawDocument,
+        document: *const RawDocument,
         at: usize,
         place: *mut TextPlace,
     ) -> bool;
 
     fn starlark_document_offset_at_utf16(
-        document: *mut RawDocument,
+        document: *const RawDocument,
         line: usize,
         column: usize,
     ) -> usize;
@@ -222,13 +227,13 @@ extern "C" {
     fn starlark_document_close(document: *mut RawDocument);
 
     #[cfg(test)]
-    fn starlark_kind_name(kind: u32, name: *mut u8, name_cap: usize) -> usize;
+    fn starlark_kind_name(kind: u32) -> *const c_char;
 
     #[cfg(test)]
     fn starlark_kind_class(kind: u32) -> u32;
 
     #[cfg(test)]
-    fn starlark_fault_code(kind: u32, code: *mut u8, code_cap: usize) -> usize;
+    fn starlark_fault_code(kind: u32) -> *const c_char;
 
     #[cfg(test)]
     fn starlark_lex_version() -> u32;
@@ -258,8 +263,15 @@ pub(crate) enum Ending {
     Full { lexemes: usize, values: usize },
 }
 
+/// How many lexemes, bytes of values and faults buffers need room for.
+struct Room {
+    lexemes: usize,
+    values: usize,
+    faults: usize,
+}
+
 /// Buffers for the lexemes of a text, their values, and the faults after which it was lexed on.
-#[derive(Clone, Debug)]
+#[derive(Clone, Default)]
 pub(crate) struct Buffers {
     lexemes: Vec<LexemeRecord>,
     values: Vec<u8>,
@@ -286,9 +298,9 @@ impl Buffers {
         self.values.capacity()
     }
 
-    /// How many lexemes the buffers have.
-    pub(crate) fn lexeme_count(&self) -> usize {
-        self.lexemes.len()
+    /// The records of the lexemes that the buffers have.
+    pub(crate) fn lexemes(&self) -> &[LexemeRecord] {
+        &self.lexemes
     }
 
     /// The record with an index, if there is one.
@@ -301,6 +313,11 @@ impl Buffers {
     #[inline]
     pub(crate) fn fault(&self, index: usize) -> Option<&FaultRecord> {
         self.faults.get(index)
+    }
+
+    /// The values that the buffers have, one after another.
+    pub(crate) fn values(&self) -> &[u8] {
+        &self.values
     }
 
     /// The bytes of a lexeme's value.
@@ -416,7 +433,9 @@ impl Buffers {
     /// grow where the call wants more room.
     fn fill(&mut self, call: impl Fn(&mut Buffers, &mut Recovered)) {
         if let Err(wanted) = self.try_fill(&call) {
-            *self = wanted;
+            self.lexemes.reserve(wanted.lexemes);
+            self.values.reserve(wanted.values);
+            self.faults.reserve(wanted.faults);
             let is_whole = self.try_fill(&call).is_ok();
             assert!(is_whole, "the library wants more room than it told");
         }
@@ -426,8 +445,8 @@ impl Buffers {
     ///
     /// # Errors
     ///
-    /// Empty buffers with the room that is wanted, where these have too little.
-    fn try_fill(&mut self, call: &impl Fn(&mut Buffers, &mut Recovered)) -> Result<(), Buffers> {
+    /// The room that is wanted, where these have too little. They have nothing then.
+    fn try_fill(&mut self, call: &impl Fn(&mut Buffers, &mut Recovered)) -> Result<(), Room> {
         let mut outcome = Recovered::default();
         self.clear();
         call(self, &mut outcome);
@@ -448,10 +467,20 @@ impl Buffers {
     }
 
     /// Drops what the buffers have, and keeps their room.
-    fn clear(&mut self) {
+    pub(crate) fn clear(&mut self) {
         self.lexemes.clear();
         self.values.clear();
         self.faults.clear();
+    }
+}
+
+impl fmt::Debug for Buffers {
+    fn fmt(&self, f: &mut fmt::Formatter<'_>) -> fmt::Result {
+        f.debug_struct("Buffers")
+            .field("lexemes", &self.lexemes.len())
+            .field("values", &self.values.len())
+            .field("faults", &self.faults.len())
+            .finish_non_exhaustive()
     }
 }
 
@@ -482,15 +511,14 @@ impl Outcome {
 }
 
 impl Recovered {
-    /// Buffers with the room that a text needs, where there was too little. The text is UTF-8 that
-    /// isn't too long.
-    fn wanted(&self) -> Option<Buffers> {
+    /// The room that a text needs, where there was too little. The text is UTF-8 that isn't too long.
+    fn wanted(&self) -> Option<Room> {
         match self.status {
             WHOLE => None,
-            FULL => Some(Buffers {
-                lexemes: Vec::with_capacity(self.wanted_lexemes),
-                values: Vec::with_capacity(self.wanted_values),
-                faults: Vec::with_capacity(self.wanted_faults),
+            FULL => Some(Room {
+                lexemes: self.wanted_lexemes,
+                values: self.wanted_values,
+                faults: self.wanted_faults,
             }),
             MEMORY => handle_alloc_error(Layout::new::<LexemeRecord>()),
             NOT_UTF8 | TOO_LONG => unreachable!("a `str` is UTF-8, and its length was tested"),
@@ -500,25 +528,25 @@ impl Recovered {
 }
 
 /// A document of the library, which is always open.
-pub(crate) struct OpenDocument(UnsafeCell<RawDocument>);
+pub(crate) struct OpenDocument(NonNull<RawDocument>);
 
 // SAFETY: the document owns all that its pointer leads to, and the library keeps nothing of it apart.
-// It isn't `Sync`, since each call writes to it: the cell sees to that.
+// It isn't `Sync`: one thread at a time may call with it.
 unsafe impl Send for OpenDocument {}
 
 impl OpenDocument {
     /// A document of a text.
     pub(crate) fn new(text: &str) -> Result<Self, TooLong> {
-        let mut raw = RawDocument {
-            inner: ptr::null_mut(),
-            is_full: false,
-        };
-        // SAFETY: `raw` holds no document, and `text` is readable for its length.
-        match unsafe { starlark_document_open(&mut raw, text.as_ptr(), text.len()) } {
-            WHOLE => Ok(OpenDocument(UnsafeCell::new(raw))),
+        let mut status = WHOLE;
+        // SAFETY: `text` is readable for its length, and `status` is writable.
+        let raw = unsafe { starlark_document_open(text.as_ptr(), text.len(), &mut status) };
+        if let Some(raw) = NonNull::new(raw) {
+            return Ok(OpenDocument(raw));
+        }
+        match status {
             TOO_LONG => Err(TooLong),
-            MEMORY => handle_alloc_error(Layout::new::<RawDocument>()),
-            NOT_UTF8 | OPENED => unreachable!("a `str` is UTF-8, and the document is new"),
+            MEMORY => handle_alloc_error(Layout::new::<LexemeRecord>()),
+            NOT_UTF8 => unreachable!("a `str` is UTF-8"),
             status => unreachable!("the library has no status {status} of opening"),
         }
     }
@@ -530,7 +558,7 @@ impl OpenDocument {
         // length, and `change` is writable and other memory.
         let status = unsafe {
             starlark_document_edit(
-                self.0.get(),
+                self.0.as_ptr(),
                 range.start,
                 range.end,
                 text.as_ptr(),
@@ -544,12 +572,10 @@ impl OpenDocument {
                 old_end: change.old_end,
                 new_end: change.new_end,
                 lexed: change.lexed,
-                starts: change.starts,
-                reads: change.reads,
             }),
             BAD_RANGE => Err(EditError::BadRange),
             TOO_LONG => Err(EditError::TooLong),
-            MEMORY => handle_alloc_error(Layout::new::<RawDocument>()),
+            MEMORY => handle_alloc_error(Layout::new::<LexemeRecord>()),
             NOT_UTF8 | CLOSED => unreachable!("a `str` is UTF-8, and the document is open"),
             status => unreachable!("the library has no status {status} of an edit"),
         }
@@ -561,7 +587,7 @@ impl OpenDocument {
         // library calls back.
         buffers.fill(|buffers, outcome| unsafe {
             starlark_document_lexemes(
-                self.0.get(),
+                self.0.as_ptr(),
                 range.start,
                 range.end,
                 buffers.lexemes.as_mut_ptr(),
@@ -578,7 +604,7 @@ impl OpenDocument {
         // SAFETY: as in `lexemes`.
         buffers.fill(|buffers, outcome| unsafe {
             starlark_document_faults(
-                self.0.get(),
+                self.0.as_ptr(),
                 range.start,
                 range.end,
                 buffers.values.as_mut_ptr(),
@@ -600,7 +626,7 @@ impl OpenDocument {
         // SAFETY: the document is open, as in `lexemes`, and `text` is writable for its capacity.
         let status = unsafe {
             starlark_document_text(
-                self.0.get(),
+                self.0.as_ptr(),
                 range.start,
                 range.end,
                 text.as_mut_ptr(),
@@ -614,7 +640,7 @@ impl OpenDocument {
                 Some(String::from_utf8(text).expect("a part of a document is UTF-8"))
             }
             BAD_RANGE => None,
-            MEMORY => handle_alloc_error(Layout::new::<RawDocument>()),
+            MEMORY => handle_alloc_error(Layout::new::<LexemeRecord>()),
             status => unreachable!("the library has no status {status} for room enough"),
         }
     }
@@ -622,14 +648,14 @@ impl OpenDocument {
     /// Length of the text in bytes.
     pub(crate) fn len(&self) -> usize {
         // SAFETY: the document is open, as in `lexemes`.
-        unsafe { starlark_document_len(self.0.get()) }
+        unsafe { starlark_document_len(self.0.as_ptr()) }
     }
 
     /// The place of an offset. `None` where it is no character boundary of the text.
     pub(crate) fn place(&self, at: usize) -> Option<Place> {
         let mut place = TextPlace::default();
         // SAFETY: the document is open, as in `lexemes`, and `place` is writable and other memory.
-        let is_told = unsafe { starlark_document_place(self.0.get(), at, &mut place) };
+        let is_told = unsafe { starlark_document_place(self.0.as_ptr(), at, &mut place) };
         is_told.then_some(Place {
             line: place.line,
             column: place.column,
@@ -640,7 +666,7 @@ impl OpenDocument {
     /// The offset of a line and a column in units of UTF-16, if a character boundary is there.
     pub(crate) fn offset_at_utf16(&self, line: usize, column: usize) -> Option<usize> {
         // SAFETY: the document is open, as in `lexemes`.
-        let at = unsafe { starlark_document_offset_at_utf16(self.0.get(), line, column) };
+        let at = unsafe { starlark_document_offset_at_utf16(self.0.as_ptr(), line, column) };
         (at != NO_OFFSET).then_some(at)
     }
 }
@@ -648,7 +674,7 @@ impl OpenDocument {
 impl Drop for OpenDocument {
     fn drop(&mut self) {
         // SAFETY: the document is open, and nothing calls with it after this.
-        unsafe { starlark_document_close(self.0.get()) }
+        unsafe { starlark_document_close(self.0.as_ptr()) }
     }
 }
 
@@ -665,13 +691,22 @@ pub(crate) fn place(text: &str, at: usize) -> Option<Place> {
     })
 }
 
+/// A string of the library, which is empty where it has none.
+#[cfg(test)]
+fn string_of(at: *const c_char) -> String {
+    if at.is_null() {
+        return String::new();
+    }
+    // SAFETY: the library's strings end with a zero, and stay.
+    let text = unsafe { CStr::from_ptr(at) };
+    text.to_str().expect("it is UTF-8").to_owned()
+}
+
 /// The name of a kind, which is empty where no kind has the number.
 #[cfg(test)]
 pub(crate) fn kind_name(kind: u32) -> String {
-    let mut name = [0; 64];
-    // SAFETY: `name` is writable for its length.
-    let len = unsafe { starlark_kind_name(kind, name.as_mut_ptr(), name.len()) };
-    String::from_utf8(name[..len].to_vec()).expect("a name is UTF-8")
+    // SAFETY: the call takes a number.
+    string_of(unsafe { starlark_kind_name(kind) })
 }
 
 /// The class of a kind, which is 0 where no kind has the number.
@@ -684,10 +719,8 @@ pub(crate) fn kind_class(kind: u32) -> u32 {
 /// The code of a fault, which is empty where no fault has the number.
 #[cfg(test)]
 pub(crate) fn fault_code(kind: u32) -> String {
-    let mut code = [0; 16];
-    // SAFETY: `code` is writable for its length.
-    let len = unsafe { starlark_fault_code(kind, code.as_mut_ptr(), code.len()) };
-    String::from_utf8(code[..len].to_vec()).expect("a code is UTF-8")
+    // SAFETY: the call takes a number.
+    string_of(unsafe { starlark_fault_code(kind) })
 }
 
 #[cfg(test)]

@@ -31,6 +31,7 @@ pub struct Lexeme<'a> {
 impl<'a> Lexeme<'a> {
     /// The kind of the token.
     #[inline]
+    #[must_use]
     pub fn kind(&self) -> TokenKind {
         // Making the lexeme tested that its number is one of a kind.
         Frame::least(self.head.kind).kind
@@ -39,6 +40,7 @@ impl<'a> Lexeme<'a> {
     /// The bytes of the token in the text. A `Dedent` and the `Newline` at the end of a text have
     /// none.
     #[inline]
+    #[must_use]
     pub fn span(&self) -> Span {
         Span {
             begin: self.begin as usize,
@@ -49,6 +51,7 @@ impl<'a> Lexeme<'a> {
     /// The value where it is a text: of a comment, a name, a float, a string or a text of an
     /// f-string, and the digits of an integer out of the range of `i32`. Else it is empty.
     #[inline]
+    #[must_use]
     pub fn text(&self) -> &str {
         match &self.value {
             Value::Part(_) if self.is_bytes() => "",
@@ -75,6 +78,7 @@ impl<'a> Lexeme<'a> {
     /// # Ok::<(), starlark_lexer::TooLong>(())
     /// ```
     #[inline]
+    #[must_use]
     pub fn into_text(self) -> Cow<'a, str> {
         match self.value {
             Value::Part(_) if self.is_bytes() => Cow::Borrowed(""),
@@ -89,12 +93,14 @@ impl<'a> Lexeme<'a> {
     /// The bytes of what [`text`](Lexeme::text) returns, and those of a bytes literal with its
     /// escapes decoded.
     #[inline]
+    #[must_use]
     pub fn bytes(&self) -> &[u8] {
         self.value.bytes()
     }
 
     /// The token. What it has is borrowed from the text, or from the lexeme.
     #[inline]
+    #[must_use]
     pub fn token(&self) -> Token<'_> {
         match &self.value {
             Value::Part(part) => Token::new(self.head, || Cow::Borrowed(part.text())),
@@ -108,6 +114,7 @@ impl<'a> Lexeme<'a> {
     /// The token, which may outlive the lexeme. What it has is borrowed from the text where the text
     /// has it byte for byte.
     #[inline]
+    #[must_use]
     pub fn into_token(self) -> Token<'a> {
         match self.value {
             Value::Part(part) => Token::new(self.head, || Cow::Borrowed(part.text())),
@@ -115,6 +122,18 @@ impl<'a> Lexeme<'a> {
                 OwnValue::Text(text) => Token::new(self.head, || Cow::Owned(text)),
                 OwnValue::Bytes(bytes) => Token::Bytes(Cow::Owned(bytes)),
             },
+        }
+    }
+
+    /// The lexeme with a value of its own, which may outlive the text.
+    #[must_use]
+    pub fn into_owned(self) -> Lexeme<'static> {
+        let kind = self.kind();
+        Lexeme {
+            head: self.head,
+            begin: self.begin,
+            end: self.end,
+            value: self.value.into_owned(kind),
         }
     }
 
@@ -143,6 +162,7 @@ mod tests {
 
     #[test]
     fn a_lexeme_has_five_words() {
+        assert_eq!(size_of::<Token<'_>>(), 32);
         assert_eq!(size_of::<Lexeme<'_>>(), 40);
         assert_eq!(size_of::<Option<Result<Lexeme<'_>, Fault>>>(), 48);
     }

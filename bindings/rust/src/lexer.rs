@@ -100,6 +100,7 @@ impl<'a> Lexer<'a> {
     }
 
     /// The text that is lexed.
+    #[must_use]
     pub fn text(&self) -> &'a str {
         self.text
     }
@@ -130,7 +131,7 @@ impl<'a> Lexer<'a> {
     #[cold]
     #[inline(never)]
     fn refill(&mut self) -> Result<(), Option<Fault>> {
-        while self.index >= self.piece.buffers.lexeme_count() {
+        while self.index >= self.piece.buffers.lexemes().len() {
             match self.after {
                 After::Text(from) => self.lex(from),
                 After::Piece(from) => {

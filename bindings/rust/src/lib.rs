@@ -31,11 +31,17 @@
 //!
 //! The library is proved to yield exactly the lexemes of a written grammar. The lines of this crate
 //! are not proved, but tested. Its calls share nothing, so they may run in any number of threads.
+//!
+//! The crate has the library for `x86_64-unknown-linux-gnu`, `aarch64-unknown-linux-gnu` and
+//! `x86_64-pc-windows-gnu`. The feature `system` links the system's shared library instead, which
+//! pkg-config finds. The variable `STARLARK_LEX_DIR` names a folder with another
+//! `libstarlark_lex.a`, and goes before both.
 #![deny(unsafe_code)]
 #![deny(unsafe_op_in_unsafe_fn)]
 #![warn(missing_docs)]
 
 mod document;
+mod document_lexemes;
 mod fault;
 #[allow(unsafe_code)]
 mod ffi;
@@ -49,7 +55,8 @@ mod span;
 mod token;
 mod value;
 
-pub use crate::document::{Change, Document, DocumentFaults, DocumentLexemes, EditError};
+pub use crate::document::{Change, Document, DocumentFaults, EditError};
+pub use crate::document_lexemes::{DocumentLexemes, DocumentLexemesIter};
 pub use crate::fault::{Fault, FaultKind, TooLong};
 pub use crate::lexeme::Lexeme;
 pub use crate::lexer::Lexer;

@@ -65,7 +65,10 @@ impl<'a> Piece<'a> {
                 begin: begin as u32,
                 len: record.value_len as u32,
             }),
-            None => Value::Own(Box::new(own_value(&self.buffers, kind, record))),
+            None => Value::Own(Box::new(OwnValue::of_kind(
+                kind,
+                self.buffers.value(record),
+            ))),
         };
         Lexeme {
             head: record.head,
@@ -85,38 +88,6 @@ impl<'a> Piece<'a> {
             (begin >= record.begin as usize && part.as_bytes() == bytes).then_some(begin)
         })
     }
-}
-
-impl Piece<'static> {
-    /// The lexeme of a record of some buffers, whose value is its own.
-    pub fn own_lexeme(buffers: &Buffers, record: &LexemeRecord) -> Lexeme<'static> {
-        let kind = TokenKind::of_number(record.head.kind);
-        let value = if record.value_len == 0 {
-            Value::Part(Part {
-                source: "",
-                begin: 0,
-                len: 0,
-            })
-        } else {
-            Value::Own(Box::new(own_value(buffers, kind, record)))
-        };
-        Lexeme {
-            head: record.head,
-            begin: record.begin,
-            end: record.end,
-            value,
-        }
-    }
-}
-
-/// The value of a record of a kind, with bytes of its own.
-fn own_value(buffers: &Buffers, kind: TokenKind, record: &LexemeRecord) -> OwnValue {
-    let bytes = buffers.value(record).to_vec();
-    if kind == TokenKind::Bytes {
-        return OwnValue::Bytes(bytes);
-    }
-    let text = String::from_utf8(bytes);
-    OwnValue::Text(text.expect("the library's values of texts are UTF-8"))
 }
 
 #[cfg(test)]

@@ -80,6 +80,7 @@ pub struct LineIndex<'a> {
 
 impl<'a> LineIndex<'a> {
     /// The lines of a text. It reads the text once, and lines of more than 4 KB twice.
+    #[must_use]
     pub fn new(text: &'a str) -> Self {
         let after_newlines = text.match_indices('\n').map(|(at, _)| at + 1);
         let starts: Vec<_> = std::iter::once(0).chain(after_newlines).collect();
@@ -96,6 +97,7 @@ impl<'a> LineIndex<'a> {
     }
 
     /// The place of an offset in bytes. `None` past the end of the text, and inside a character.
+    #[must_use]
     pub fn place(&self, at: usize) -> Option<Place> {
         if at > self.text.len() {
             return None;

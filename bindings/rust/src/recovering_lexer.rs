@@ -52,6 +52,7 @@ impl<'a> RecoveringLexer<'a> {
     }
 
     /// The text that is lexed.
+    #[must_use]
     pub fn text(&self) -> &'a str {
         self.lexer.text()
     }

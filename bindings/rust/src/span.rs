@@ -19,6 +19,7 @@ impl Span {
     ///
     /// assert_eq!(&"x = 1"[Span { begin: 4, end: 5 }.range()], "1");
     /// ```
+    #[must_use]
     pub fn range(self) -> Range<usize> {
         self.begin..self.end
     }

@@ -7,6 +7,7 @@ use std::ops::RangeInclusive;
 
 /// An integer literal's value. It isn't negative, since a sign is a token of its own.
 #[derive(Clone, Debug, PartialEq, Eq, Hash)]
+#[non_exhaustive]
 pub enum TokenInt<'a> {
     /// A value in the range of `i32`.
     I32(i32),
@@ -171,13 +172,10 @@ macro_rules! tokens {
         /// name is; else, as for a string with escapes, it is owned.
         #[derive(Clone, Debug, PartialEq, Eq, Hash)]
         #[non_exhaustive]
-        // The tags are the numbers of the kinds in the library, as wide as all that is copied: so a
-        // kind becomes its token without a table.
-        #[repr(u64)]
         pub enum Token<'a> {
-            $($(#[$value_doc])* $value_name($value) = $value_number,)*
-            $($(#[$layout_doc])* $layout = $layout_number,)*
-            $($(#[$doc])* $name = $number,)*
+            $($(#[$value_doc])* $value_name($value),)*
+            $($(#[$layout_doc])* $layout,)*
+            $($(#[$doc])* $name,)*
         }
 
         impl<'a> Token<'a> {

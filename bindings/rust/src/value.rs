@@ -1,5 +1,6 @@
 //! The value of a lexeme: a part of the text, or bytes of its own.
 
+use crate::TokenKind;
 use std::hash::{Hash, Hasher};
 use std::ops::Range;
 
@@ -34,6 +35,16 @@ pub(crate) enum OwnValue {
 }
 
 impl Value<'_> {
+    /// The value of a lexeme of a kind, which may outlive the text.
+    pub fn into_owned(self, kind: TokenKind) -> Value<'static> {
+        let own = match self {
+            Value::Part(Part { len: 0, .. }) => return Value::Part(Part::EMPTY),
+            Value::Part(part) => Box::new(OwnValue::of_kind(kind, part.bytes())),
+            Value::Own(own) => own,
+        };
+        Value::Own(own)
+    }
+
     /// The bytes, in UTF-8 if they are a text.
     #[inline]
     pub fn bytes(&self) -> &[u8] {
@@ -42,6 +53,15 @@ impl Value<'_> {
             Value::Own(own) => own.bytes(),
         }
     }
+}
+
+impl Part<'static> {
+    /// A part with no bytes.
+    const EMPTY: Self = Part {
+        source: "",
+        begin: 0,
+        len: 0,
+    };
 }
 
 impl<'a> Part<'a> {
@@ -66,6 +86,19 @@ impl<'a> Part<'a> {
 }
 
 impl OwnValue {
+    /// The value of a kind, with a copy of its bytes.
+    ///
+    /// # Panics
+    ///
+    /// Where the bytes of a text aren't UTF-8.
+    pub fn of_kind(kind: TokenKind, bytes: &[u8]) -> Self {
+        if kind == TokenKind::Bytes {
+            return OwnValue::Bytes(bytes.to_vec());
+        }
+        let text = String::from_utf8(bytes.to_vec());
+        OwnValue::Text(text.expect("the library's values of texts are UTF-8"))
+    }
+
     /// The bytes, in UTF-8 if they are a text.
     pub fn bytes(&self) -> &[u8] {
         match self {

@@ -1,8 +1,10 @@
 //! Documents that are edited at random, against lexing their whole texts.
 
 use starlark_lexer::{
-    Change, Document, DocumentLexemes, EditError, Fault, Lexeme, LineIndex, RecoveringLexer, Token,
+    Change, Document, DocumentFaults, DocumentLexemes, DocumentLexemesIter, EditError, Fault,
+    Lexeme, Lexer, LineIndex, RecoveringLexer, Token,
 };
+use std::borrow::Cow;
 use std::thread;
 
 const EDITS: usize = 20_000;
@@ -65,8 +67,8 @@ fn whole(text: &str) -> (Vec<Lexeme<'_>>, Vec<Fault>) {
     (lexemes, faults)
 }
 
-fn all<'a>(lexemes: DocumentLexemes) -> Vec<Lexeme<'a>> {
-    lexemes.collect()
+fn owned(lexemes: &DocumentLexemes) -> Vec<Lexeme<'static>> {
+    lexemes.iter().map(Lexeme::into_owned).collect()
 }
 
 /// Replaces the lexemes that touched the old range of a change.
@@ -74,21 +76,22 @@ fn replace(list: &mut Vec<Lexeme<'static>>, document: &Document, change: &Change
     let begin = list.partition_point(|lexeme| lexeme.span().end < change.begin);
     let end = list.partition_point(|lexeme| lexeme.span().begin <= change.old_end);
     let later = list[end..].len();
-    list.splice(begin..end, document.lexemes(change.new_range()));
+    list.splice(begin..end, owned(&document.lexemes(change.new_range())));
     let from = list.len() - later;
-    let moved: Vec<_> = document.lexemes(change.new_end..).collect();
+    let moved = owned(&document.lexemes(change.new_end..));
     list.splice(from.., moved[moved.len() - later..].iter().cloned());
 }
 
 #[test]
 fn edits_are_as_lexing_the_whole_text() {
     let mut numbers = Numbers(0x9E37_79B9_7F4A_7C15);
+    let mut found = DocumentLexemes::new();
     let mut done = 0;
     while done < EDITS {
         let pieces = numbers.below(60);
         let mut text = numbers.text(pieces);
         let mut document = Document::new(&text).unwrap();
-        let mut list: Vec<_> = document.lexemes(..).collect();
+        let mut list = owned(&document.lexemes(..));
         for _ in 0..100 {
             let begin = numbers.boundary(&text, 0, usize::MAX - 1);
             let end = numbers.boundary(&text, begin, 12);
@@ -99,7 +102,9 @@ fn edits_are_as_lexing_the_whole_text() {
             done += 1;
 
             let (lexemes, faults) = whole(&text);
-            assert_eq!(all(document.lexemes(..)), lexemes, "{text:?}");
+            document.lexemes_into(.., &mut found);
+            assert!(found.iter().eq(lexemes.iter().cloned()), "{text:?}");
+            assert!(found.iter().rev().eq(lexemes.iter().rev().cloned()));
             assert!(document.faults(..).eq(faults.iter().cloned()), "{text:?}");
             replace(&mut list, &document, &change);
             assert!(list.iter().eq(lexemes.iter()), "{text:?}, {change:?}");
@@ -110,7 +115,7 @@ fn edits_are_as_lexing_the_whole_text() {
                 let span = lexeme.span();
                 from <= span.end && span.begin <= to
             });
-            assert!(all(document.lexemes(from..to)).iter().eq(touching));
+            assert!(document.lexemes(from..to).iter().eq(touching.cloned()));
             assert_eq!(document.text(from..to).as_deref(), Some(&text[from..to]));
             assert_eq!(document.len(), text.len());
             let place = LineIndex::new(&text).place(from);
@@ -133,6 +138,7 @@ fn refused_edits_change_nothing() {
         assert_eq!(document.text(range), None);
     }
     assert_eq!(document.edit(0..=usize::MAX, ""), Err(EditError::BadRange));
+    assert!(document.lexemes(0..=usize::MAX).is_empty());
     assert_eq!(document.text(..).as_deref(), Some("x = 'é'\n"));
     assert_eq!(document.place(6), None);
     assert_eq!(document.offset_at_utf16(0, 100), None);
@@ -149,11 +155,82 @@ fn lexemes_have_values() {
     document
         .edit(.., "x = b'\\x00' + 0xFFFFFFFFFF # c")
         .unwrap();
-    let tokens: Vec<_> = document.lexemes(..).map(Lexeme::into_token).collect();
+    let lexemes = document.lexemes(..);
+    let tokens: Vec<_> = lexemes.iter().map(Lexeme::into_token).collect();
     assert_eq!(tokens.len(), 7);
     assert_eq!(tokens[0], Token::Identifier("x".into()));
     assert_eq!(tokens[2], Token::Bytes(b"\0"[..].into()));
-    assert_eq!(document.lexemes(..).len(), 7);
+    assert_eq!((lexemes.len(), lexemes.iter().len()), (7, 7));
+    let colon = Document::new(":").unwrap().lexemes(0..0);
+    let shown = "[Lexeme { span: Span { begin: 0, end: 1 }, token: Colon }]";
+    assert_eq!(format!("{colon:?}"), shown);
+}
+
+#[test]
+fn values_beside_bytes_of_no_text() {
+    // The first two values are one character, and after the fourth nothing is UTF-8.
+    let text = r"b'\xc3' b'\xa9' 'é' b'\xff' 'é' b'\xc3' name b''";
+    let lexemes = Document::new(text).unwrap().lexemes(..);
+    let mut whole = Lexer::new(text).unwrap().map(Result::unwrap);
+    for lexeme in &lexemes {
+        let wanted = whole.next().unwrap();
+        assert_eq!(lexeme, wanted);
+        assert_eq!(lexeme.text(), wanted.text());
+        assert_eq!(lexeme.token(), wanted.token());
+        assert_eq!(lexeme.into_owned().into_token(), wanted.into_token());
+    }
+    assert!(whole.next().is_none());
+}
+
+#[test]
+fn values_are_borrowed() {
+    let lexemes = Document::new("name 'a\\n' b'c'").unwrap().lexemes(..);
+    let tokens: Vec<_> = lexemes.iter().map(Lexeme::into_token).collect();
+    assert!(matches!(
+        tokens[0],
+        Token::Identifier(Cow::Borrowed("name"))
+    ));
+    assert!(matches!(tokens[1], Token::String(Cow::Borrowed("a\n"))));
+    assert!(matches!(tokens[2], Token::Bytes(Cow::Borrowed(b"c"))));
+}
+
+#[test]
+fn an_edit_lexes_what_it_touches() {
+    let text = "x = 1\n".repeat(10_000);
+    let change = Document::new(&text)
+        .unwrap()
+        .edit(30_000..30_001, "yz")
+        .unwrap();
+    assert_eq!(change.old_range().len() + 1, change.new_range().len());
+    assert!((1..10_000).contains(&change.lexed()), "{change:?}");
+}
+
+/// Compiles only for a type that isn't `Sync`: else the trait's parameter is ambiguous.
+trait IsNotSync<Which> {
+    fn check() {}
+}
+
+struct IfSync;
+
+impl<T> IsNotSync<()> for T {}
+
+impl<T: Sync> IsNotSync<IfSync> for T {}
+
+fn is_send_and_sync<T: Send + Sync>() {}
+
+#[test]
+fn all_types_but_documents_are_shared_between_threads() {
+    is_send_and_sync::<Lexer<'_>>();
+    is_send_and_sync::<RecoveringLexer<'_>>();
+    is_send_and_sync::<Lexeme<'_>>();
+    is_send_and_sync::<Token<'_>>();
+    is_send_and_sync::<Fault>();
+    is_send_and_sync::<LineIndex<'_>>();
+    is_send_and_sync::<DocumentLexemes>();
+    is_send_and_sync::<DocumentLexemesIter<'_>>();
+    is_send_and_sync::<DocumentFaults>();
+    is_send_and_sync::<(Change, EditError)>();
+    <Document as IsNotSync<_>>::check();
 }
 
 #[test]

@@ -500,11 +500,6 @@ fn a_text_of_a_megabyte_in_pieces() {
 
 #[test]
 fn lexers_run_in_threads() {
-    fn is_for_threads<T: Send + Sync>() {}
-    is_for_threads::<Lexer<'_>>();
-    is_for_threads::<RecoveringLexer<'_>>();
-    is_for_threads::<Result<Lexeme<'_>, Fault>>();
-    is_for_threads::<LineIndex<'_>>();
     let text = long_text();
     let wanted = Lexer::new(&text).unwrap().count();
     let counts: Vec<usize> = thread::scope(|scope| {

@@ -2,13 +2,14 @@
 // STARLARK_WEB names.
 import assert from "node:assert/strict";
 import { readFileSync } from "node:fs";
+import { createRequire } from "node:module";
 import { test } from "node:test";
 import { pathToFileURL } from "node:url";
 import { linesOf, linesOfText } from "./lines.mjs";
 import { plainTexts, recoveredTexts } from "./stored.mjs";
 
 const PACKAGE = pathToFileURL(`${process.env.STARLARK_WEB}/`);
-const { Lexer, faults, lex, lexRecovering } = await import(new URL("starlark_lexer.js", PACKAGE));
+const { Document, Lexer, faults, lex, lexRecovering, open } = await import(new URL("starlark_lexer.js", PACKAGE));
 const WASM = readFileSync(new URL("starlark_lex.wasm", PACKAGE));
 const TOP = new URL("../../../", import.meta.url);
 
@@ -81,10 +82,21 @@ test("each stored text has one result up to its first fault", () => {
 
 test("a token has its kind, its spans and its value", () => {
     const token = lex("x = 'ä🔬\\n'\n").tokens.at(2);
-    assert.deepEqual({ ...token }, { kind: "String", start: 4, end: 11, startByte: 4, endByte: 14 });
+    assert.deepEqual({ ...token }, { kind: "String", begin: 4, end: 11, beginByte: 4, endByte: 14 });
     assert.equal(token.value, "ä🔬\n");
     assert.equal(lex("x").tokens.at(2), undefined);
-    assert.equal(lex("x").tokens.at(-1), undefined);
+    assert.equal(lex("x").tokens.at(-1).kind, "Newline");
+    assert.equal(lex("x").tokens.at(-2).value, "x");
+    assert.equal(lex("x").tokens.at(-3), undefined);
+});
+
+test("tokens are written into JSON", () => {
+    const text = "e = 'é' + b'\\x00\\xff' 5000000000 0xfffffffffffffffff";
+    const { tokens, faults: found } = JSON.parse(JSON.stringify(lex(text)));
+    assert.deepEqual(tokens[0], { kind: "Identifier", begin: 0, end: 1, beginByte: 0, endByte: 1, value: "e" });
+    const values = ["e", null, "é", null, "00ff", 5000000000, "295147905179352825855", null];
+    assert.deepEqual(tokens.map(({ value }) => value), values);
+    assert.deepEqual(found, []);
 });
 
 test("a token has the class of its kind", () => {
@@ -135,7 +147,7 @@ test("values are decoded", () => {
 test("offsets count units of UTF-16", () => {
     const text = "a = '🔬🔬' + '汉' # é\nb = '\u{10ffff}' ?";
     const { tokens, faults: found } = lex(text);
-    const written = [...Array.from(tokens), ...found].map(({ start, end }) => text.slice(start, end));
+    const written = [...Array.from(tokens), ...found].map(({ begin, end }) => text.slice(begin, end));
     assert.deepEqual(written, ["a", "=", "'🔬🔬'", "+", "'汉'", "# é", "\n", "b", "=", "'\u{10ffff}'", "?"]);
 });
 
@@ -144,7 +156,7 @@ test("a lone surrogate is lexed as U+FFFD", () => {
         const text = `a = '${lone}' + b`;
         const { tokens } = lex(text);
         assert.equal(tokens.at(2).value, "\ufffd");
-        assert.deepEqual({ ...tokens.at(4) }, { kind: "Identifier", start: 10, end: 11, startByte: 12, endByte: 13 });
+        assert.deepEqual({ ...tokens.at(4) }, { kind: "Identifier", begin: 10, end: 11, beginByte: 12, endByte: 13 });
         assert.equal(linesOf(new TextEncoder().encode(text), lex(text)), linesOf(new TextEncoder().encode(text), lex(new TextEncoder().encode(text))));
     }
     assert.equal(lex("\ud800").faults[0].message, "Parse error: invalid input `\ufffd`");
@@ -157,15 +169,15 @@ test("a fault has its code, its kind, its message and its place", () => {
         code: "SL008",
         kind: "StartsZero",
         message: "Parse error: integer cannot have leading 0, got `01`",
-        start: 15,
+        begin: 15,
         end: 17,
-        startByte: 18,
+        beginByte: 18,
         endByte: 20,
         tokensBefore: 6,
     });
     const kinds = ["InvalidInput", "StartsZero", "UnfinishedStringLiteral", "InvalidEscapeSequence", "ReservedKeyword"];
     assert.deepEqual(found.map((fault) => fault.kind), kinds);
-    assert.equal(text.slice(found[4].start, found[4].end), "class");
+    assert.equal(text.slice(found[4].begin, found[4].end), "class");
 });
 
 test("faults are named as in the header", () => {
@@ -208,10 +220,10 @@ test("what is no text is refused", () => {
 
 test("a result stays as it is after later calls", () => {
     const first = lex("a = 'b' # é");
-    const before = Array.from(first.tokens, (token) => [token.kind, token.start, token.value]);
+    const before = Array.from(first.tokens, (token) => [token.kind, token.begin, token.value]);
     lex("some other text = 'with other values'");
     lexRecovering("x = 1\n".repeat(1000));
-    assert.deepEqual(Array.from(first.tokens, (token) => [token.kind, token.start, token.value]), before);
+    assert.deepEqual(Array.from(first.tokens, (token) => [token.kind, token.begin, token.value]), before);
 });
 
 test("texts of any density have room", () => {
@@ -298,18 +310,156 @@ test("a small memory is kept, a large one is not", () => {
     }
 });
 
-test("without memory of 64 bits the lexer says what it needs", () => {
-    const { validate } = WebAssembly;
-    WebAssembly.validate = () => false;
-    try {
-        assert.throws(() => new Lexer(WASM), /needs WebAssembly with 64-bit memory: Chromium 133, Firefox 134 or Node 24/);
-    } finally {
-        WebAssembly.validate = validate;
-    }
-});
-
 test("a module is taken as bytes or compiled, and one module serves many lexers", () => {
     const module = new WebAssembly.Module(WASM);
     const lexers = [new Lexer(module), new Lexer(module), new Lexer(new Uint8Array(WASM).buffer)];
     assert.deepEqual(lexers.map((lexer) => lexer.lex("a b").tokens.length), [3, 3, 3]);
+});
+
+test("CommonJS has the same calls at once", () => {
+    const required = createRequire(import.meta.url)(new URL("starlark_lexer.cjs", PACKAGE).pathname);
+    const text = "x = 'é' + 01";
+    assert.equal(JSON.stringify(required.lexRecovering(text)), JSON.stringify(lexRecovering(text)));
+    assert.deepEqual(Object.keys(required).sort(), ["Document", "Lexer", "faults", "lex", "lexRecovering", "open"]);
+    assert.ok(required.open("x") instanceof required.Document);
+});
+
+// What random texts of documents are made of.
+const PIECES = [
+    "x = 1\n",
+    "def f(a, b):\n    return a\n",
+    "    y\n",
+    "\n",
+    "(",
+    ")",
+    "'a'",
+    '"""',
+    "'''\n",
+    "f'{a!r} b{'",
+    "}'",
+    "# é🔬\n",
+    "b'\\x00\\n'",
+    "\t",
+    "$",
+    "'\\q'\n",
+    "汉",
+    "🔬",
+    "if x:\n  if y:\n    z\n",
+    "0xFFFFFFFFFFF",
+];
+
+/** Numbers below others, the same ones each time. */
+function randomNumbers(seed) {
+    return (below) => (seed = (seed * 48271) % 2147483647) % below;
+}
+
+/** The first offset from another one on that cuts no character. */
+function boundary(text, at) {
+    return /[\udc00-\udfff]/.test(text[at] ?? "") ? at + 1 : at;
+}
+
+/** What tokens and faults tell of a range of their text. */
+function told({ tokens, faults: found }, begin, end) {
+    const touches = (span) => begin <= span.end && span.begin <= end;
+    return [
+        Array.from(tokens).filter(touches).map((token) => [JSON.stringify(token), token.kindClass]),
+        Array.from(found).filter(touches).map(({ tokensBefore, ...fault }) => fault),
+    ];
+}
+
+/** Compares a document with lexing its text: all of it, a range, and the place of an offset. */
+function compareDocument(document, text, random) {
+    const whole = lexRecovering(text);
+    assert.equal(document.slice(), text);
+    const begin = boundary(text, random(text.length + 1));
+    const end = boundary(text, Math.min(text.length, begin + 40));
+    for (const range of [[0, text.length], [begin, end]]) {
+        const found = { tokens: document.tokens(...range), faults: document.faults(...range) };
+        assert.deepEqual(told(found, ...range), told(whole, ...range));
+    }
+    const front = text.slice(0, begin).split("\n");
+    const position = { line: front.length - 1, character: front.at(-1).length };
+    assert.deepEqual(document.positionAt(begin), position);
+    assert.equal(document.offsetAt(position), begin);
+}
+
+/** Edits a document at random, and compares it after each edit. */
+function editAtRandom(text, edits, random) {
+    const made = (count) => Array.from({ length: count }, () => PIECES[random(PIECES.length)]).join("");
+    const document = open(text);
+    for (let edit = 0; edit < edits; edit++) {
+        const before = Array.from(document.tokens(), ({ begin }) => begin);
+        const begin = boundary(text, random(text.length + 1));
+        const end = boundary(text, Math.min(text.length, begin + random(12)));
+        const inserted = made(random(3));
+        const change = document.edit(begin, end, random(2) ? inserted : Buffer.from(inserted));
+        text = text.slice(0, begin) + inserted + text.slice(end);
+        assert.equal(document.length, text.length);
+        const moved = before.filter((at) => at > change.oldEnd).map((at) => at + change.newEnd - change.oldEnd);
+        const after = Array.from(document.tokens(), (token) => token.begin);
+        assert.deepEqual(after.filter((at) => at > change.newEnd), moved);
+        compareDocument(document, text, random);
+    }
+}
+
+test("a document that is edited is as its whole text is lexed", () => {
+    const random = randomNumbers(97);
+    for (let round = 0; round < 40; round++) {
+        editAtRandom(Array.from({ length: random(30) }, () => PIECES[random(PIECES.length)]).join(""), 20, random);
+    }
+    for (const line of ["x = 'é🔬' # 汉\n", "name = [1, 2]\n"]) {
+        editAtRandom(line.repeat(2000), 5, random);
+    }
+});
+
+test("a refused edit changes nothing", () => {
+    const document = open("x = '🔬'\n");
+    const refused = { name: "RangeError", message: /^the text has no characters from / };
+    for (const [begin, end] of [[2, 1], [0, 10], [10, 10], [-1, 2], [0, 1.5], [6, 6], [NaN, 1], ["0", 1]]) {
+        assert.throws(() => document.edit(begin, end, "y"), refused);
+        assert.throws(() => document.tokens(begin, end), refused);
+        assert.throws(() => document.slice(begin, end), refused);
+    }
+    assert.throws(() => document.positionAt(6), refused);
+    const notUtf8 = { name: "TypeError", message: "the text is not UTF-8" };
+    assert.throws(() => document.edit(0, 0, Uint8Array.of(255)), notUtf8);
+    assert.throws(() => open(Uint8Array.of(255)), notUtf8);
+    assert.throws(() => document.edit(0, 0, 7), { name: "TypeError", message: "a text is a string or a Uint8Array" });
+    for (const [line, character] of [[7, 0], [0, 6], [-1, 0], [0.5, 0]]) {
+        assert.equal(document.offsetAt({ line, character }), undefined);
+    }
+    assert.equal(document.slice(), "x = '🔬'\n");
+    assert.equal(document.length, 9);
+    assert.ok(document instanceof Document);
+});
+
+test("a document keeps its text where memory is refused", () => {
+    const line = "name = 'é' + other # comment\n";
+    let now = "";
+    let refused = 0;
+    let compared = 0;
+    let done = 0;
+    for (let pages = 0; done < 20; pages += 2) {
+        assert.ok(pages < 2000);
+        let document;
+        try {
+            document = new Lexer(limited(pages)).open(line);
+            now = line;
+            for (done = 0; done < 20; done++) {
+                document.edit(0, 0, line.repeat(200));
+                now = line.repeat(200) + now;
+            }
+        } catch (error) {
+            assert.match(error.message, /^out of memory/);
+            refused++;
+        }
+        assert.equal(document?.length ?? now.length, now.length);
+        try {
+            assert.equal(document?.tokens(7, 10).at(-1).value ?? "é", "é");
+            compared++;
+        } catch (error) {
+            assert.match(error.message, /^out of memory/);
+        }
+    }
+    assert.ok(refused > 3 && compared > 3, `${refused} refusals, ${compared} documents compared`);
 });

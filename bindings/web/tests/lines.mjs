@@ -59,17 +59,17 @@ function valueText({ kind, value }, written) {
 }
 
 // The place of a span as it is printed. Its offsets in UTF-16 have to be those of its bytes.
-function spanText(places, { start, end, startByte, endByte }, isString) {
-    const from = places.move(startByte);
+function spanText(places, { begin, end, beginByte, endByte }, isString) {
+    const from = places.move(beginByte);
     const to = places.move(endByte);
-    if (start !== from.units || end !== to.units) {
-        throw new Error(`${startByte}-${endByte} is ${from.units}-${to.units} in UTF-16, not ${start}-${end}`);
+    if (begin !== from.units || end !== to.units) {
+        throw new Error(`${beginByte}-${endByte} is ${from.units}-${to.units} in UTF-16, not ${begin}-${end}`);
     }
-    const begin = `${from.line}:${from.column}`;
+    const first = `${from.line}:${from.column}`;
     if (from.line !== to.line) {
-        return `${begin}-${to.line}:${to.column}`;
+        return `${first}-${to.line}:${to.column}`;
     }
-    return from.column === to.column ? begin : `${begin}-${to.column}`;
+    return from.column === to.column ? first : `${first}-${to.column}`;
 }
 
 /** The lines of tokens and faults, in the order in which the program prints them. */
@@ -77,15 +77,15 @@ export function linesOf(bytes, { tokens, faults }) {
     const places = new Places(bytes);
     const decoder = new TextDecoder();
     const lines = Array.from(tokens, (token) => {
-        const { startByte, endByte, kind } = token;
+        const { beginByte, endByte, kind } = token;
         const place = spanText(places, token);
-        const written = kind === "Int" ? decoder.decode(bytes.subarray(startByte, endByte)) : "";
-        return `${startByte}-${endByte} ${place} ${kind}${valueText(token, written)}\n`;
+        const written = kind === "Int" ? decoder.decode(bytes.subarray(beginByte, endByte)) : "";
+        return `${beginByte}-${endByte} ${place} ${kind}${valueText(token, written)}\n`;
     });
     const faultPlaces = new Places(bytes);
     const faultLines = faults.map((fault) => {
         const place = spanText(faultPlaces, fault);
-        return `fault ${fault.startByte}-${fault.endByte} <stdin>:${place} ${fault.message}\n`;
+        return `fault ${fault.beginByte}-${fault.endByte} <stdin>:${place} ${fault.message}\n`;
     });
     faults.forEach(({ tokensBefore }, index) => lines.splice(tokensBefore + index, 0, faultLines[index]));
     return lines.join("");

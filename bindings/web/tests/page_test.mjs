@@ -108,8 +108,8 @@ async function compare(page, text) {
     assert.equal(await page.call(shownText), text);
     const { tokens, faults } = lexRecovering(text);
     assert.equal(await page.call(shownCount), tokens.length, JSON.stringify(text));
-    const wanted = faults.slice(0, MOST_FAULTS).map(({ code, start, message }) => {
-        const front = text.slice(0, start).split("\n");
+    const wanted = faults.slice(0, MOST_FAULTS).map(({ code, begin, message }) => {
+        const front = text.slice(0, begin).split("\n");
         return `${code} ${front.length}:${front.at(-1).length + 1} ${message.replace("Parse error: ", "")}`;
     });
     assert.deepEqual(await page.call(shownFaults), wanted);

@@ -38,8 +38,8 @@ export class PlainLexer {
         return this.tokens;
     }
 
-    add(kind, start, value = undefined) {
-        this.tokens.push({ kind, start, end: this.at, value });
+    add(kind, begin, value = undefined) {
+        this.tokens.push({ kind, begin, end: this.at, value });
     }
 
     inFStringText() {
@@ -48,40 +48,40 @@ export class PlainLexer {
     }
 
     step() {
-        const start = this.at;
-        const code = this.text.charCodeAt(start);
+        const begin = this.at;
+        const code = this.text.charCodeAt(begin);
         if (code === SPACE || code === CR) {
             this.at++;
         } else if (code === LF) {
-            this.newline(start);
+            this.newline(begin);
         } else if (code === HASH) {
             this.comment();
         } else if (code === QUOTE || code === APOSTROPHE) {
-            this.string(start, "");
+            this.string(begin, "");
         } else if (isLetter(code)) {
-            this.word(start);
-        } else if (isDigit(code) || (code === DOT && isDigit(this.text.charCodeAt(start + 1)))) {
-            this.number(start);
+            this.word(begin);
+        } else if (isDigit(code) || (code === DOT && isDigit(this.text.charCodeAt(begin + 1)))) {
+            this.number(begin);
         } else if (code === BACKSLASH) {
-            this.at = this.text.indexOf("\n", start) + 1;
+            this.at = this.text.indexOf("\n", begin) + 1;
         } else {
-            this.symbol(start);
+            this.symbol(begin);
         }
     }
 
-    newline(start) {
+    newline(begin) {
         this.at++;
         if (this.depth > 0 || this.fstrings.length > 0) {
             return;
         }
-        this.add("Newline", this.text.charCodeAt(start - 1) === CR ? start - 1 : start);
+        this.add("Newline", this.text.charCodeAt(begin - 1) === CR ? begin - 1 : begin);
         this.margin();
     }
 
     // Comment-only lines, and the indentation of the line after them.
     margin() {
         for (;;) {
-            const start = this.at;
+            const begin = this.at;
             let code = this.text.charCodeAt(this.at);
             while (code === SPACE || code === CR) {
                 code = this.text.charCodeAt(++this.at);
@@ -91,66 +91,66 @@ export class PlainLexer {
                 this.at = Math.min(this.at + 1, this.text.length);
             } else {
                 if (code !== LF && this.at < this.text.length) {
-                    this.indentation(start, this.at - start);
+                    this.indentation(begin, this.at - begin);
                 }
                 return;
             }
         }
     }
 
-    indentation(start, width) {
+    indentation(begin, width) {
         if (width > (this.widths.at(-1) ?? 0)) {
             this.widths.push(width);
-            this.add("Indent", start);
+            this.add("Indent", begin);
         }
         while (this.widths.length > 0 && width < this.widths.at(-1)) {
             this.widths.pop();
-            this.tokens.push({ kind: "Dedent", start, end: start, value: undefined });
+            this.tokens.push({ kind: "Dedent", begin, end: begin, value: undefined });
         }
     }
 
     comment() {
-        const start = this.at;
-        const end = this.text.indexOf("\n", start);
+        const begin = this.at;
+        const end = this.text.indexOf("\n", begin);
         this.at = end < 0 ? this.text.length : end;
         const last = this.text.charCodeAt(this.at - 1) === CR ? this.at - 1 : this.at;
-        this.tokens.push({ kind: "Comment", start, end: last, value: this.text.slice(start + 1, last) });
+        this.tokens.push({ kind: "Comment", begin, end: last, value: this.text.slice(begin + 1, last) });
     }
 
-    word(start) {
+    word(begin) {
         let code = this.text.charCodeAt(++this.at);
         while (isLetter(code) || isDigit(code)) {
             code = this.text.charCodeAt(++this.at);
         }
-        const word = this.text.slice(start, this.at);
+        const word = this.text.slice(begin, this.at);
         if ((code === QUOTE || code === APOSTROPHE) && /^(?:r|b|f|fr|rf|br|rb)$/.test(word)) {
-            this.string(start, word);
+            this.string(begin, word);
         } else if (KEYWORDS.has(word)) {
-            this.add(word, start);
+            this.add(word, begin);
         } else {
-            this.add("Identifier", start, word);
+            this.add("Identifier", begin, word);
         }
     }
 
-    number(start) {
+    number(begin) {
         const pattern = /0[xX][\da-fA-F]+|0[oO][0-7]+|0[bB][01]+|(?:\d+\.\d*|\.\d+)(?:[eE][+-]?\d+)?|\d+[eE][+-]?\d+|\d+/y;
-        pattern.lastIndex = start;
+        pattern.lastIndex = begin;
         const [word] = pattern.exec(this.text);
         this.at += word.length;
         if (/^(?:0[xXoObB]|\d+$)/.test(word)) {
             const value = Number(word);
-            this.add("Int", start, value < 2 ** 31 ? value : BigInt(word));
+            this.add("Int", begin, value < 2 ** 31 ? value : BigInt(word));
         } else {
-            this.add("Float", start, word);
+            this.add("Float", begin, word);
         }
     }
 
-    symbol(start) {
+    symbol(begin) {
         let length = 3;
-        while (length > 1 && !SYMBOLS.has(this.text.slice(start, start + length))) {
+        while (length > 1 && !SYMBOLS.has(this.text.slice(begin, begin + length))) {
             length--;
         }
-        const word = this.text.slice(start, start + length);
+        const word = this.text.slice(begin, begin + length);
         this.at += length;
         const fstring = this.fstrings.at(-1);
         if ("([{".includes(word)) {
@@ -158,38 +158,38 @@ export class PlainLexer {
         } else if (")]}".includes(word)) {
             if (word === "}" && fstring?.depth === this.depth) {
                 fstring.depth = -1;
-                this.add("FStringExprEnd", start);
+                this.add("FStringExprEnd", begin);
                 return;
             }
             this.depth--;
         } else if (word === "!" && fstring) {
-            this.add("FStringBang", start);
+            this.add("FStringBang", begin);
             return;
         }
-        this.add(word, start);
+        this.add(word, begin);
     }
 
-    string(start, prefix) {
+    string(begin, prefix) {
         const quote = this.text[this.at];
         const quotes = this.text.startsWith(quote.repeat(3), this.at) ? quote.repeat(3) : quote;
         this.at += quotes.length;
         const isRaw = prefix.includes("r");
         if (prefix.includes("f")) {
             this.fstrings.push({ quotes, isRaw, depth: -1 });
-            this.add("FStringStart", start, quotes);
+            this.add("FStringStart", begin, quotes);
             return;
         }
         const value = this.body(quotes, isRaw, false);
         this.at += quotes.length;
-        this.add(prefix.includes("b") ? "Bytes" : "String", start, value);
+        this.add(prefix.includes("b") ? "Bytes" : "String", begin, value);
     }
 
     fstringText() {
-        const start = this.at;
+        const begin = this.at;
         const fstring = this.fstrings.at(-1);
         const value = this.body(fstring.quotes, fstring.isRaw, true);
         if (value) {
-            this.add("FStringText", start, value);
+            this.add("FStringText", begin, value);
         }
         const end = this.at;
         if (this.text[end] === "{") {
@@ -234,11 +234,11 @@ export class PlainLexer {
     }
 
     escape(isRaw) {
-        const start = this.at;
-        const letter = this.text[start + 1];
+        const begin = this.at;
+        const letter = this.text[begin + 1];
         this.at += 2;
         if (isRaw) {
-            return letter === "'" || letter === '"' ? letter : this.text.slice(start, this.at);
+            return letter === "'" || letter === '"' ? letter : this.text.slice(begin, this.at);
         }
         if (letter in ESCAPES) {
             return ESCAPES[letter];
@@ -246,11 +246,11 @@ export class PlainLexer {
         const digits = /[xuU]/.test(letter) ? { x: 2, u: 4, U: 8 }[letter] : 0;
         if (digits) {
             this.at += digits;
-            return String.fromCodePoint(Number.parseInt(this.text.slice(start + 2, this.at), 16));
+            return String.fromCodePoint(Number.parseInt(this.text.slice(begin + 2, this.at), 16));
         }
         if (/[0-7]/.test(letter)) {
-            const [octal] = /^[0-7]{1,3}/.exec(this.text.slice(start + 1, start + 4));
-            this.at = start + 1 + octal.length;
+            const [octal] = /^[0-7]{1,3}/.exec(this.text.slice(begin + 1, begin + 4));
+            this.at = begin + 1 + octal.length;
             return String.fromCharCode(Number.parseInt(octal, 8));
         }
         return /['"\\]/.test(letter) ? letter : `\\${letter}`;
