@@ -195,6 +195,13 @@ make_libraries() {
     compare_symbols
 }
 
+# Ends with a status. After a failure no archive may look current.
+finish() {
+    rm -rf "$work"
+    [ "$1" = 0 ] || rm -f "$output/libstarlark_lex.a"
+    exit "$1"
+}
+
 if [ "${1:-}" = --tools ]; then
     look_up "$2"
     require_tools
@@ -211,6 +218,6 @@ require_tools
 kit=$(dirname "$(rt doc)")
 clang="$kit/toolchain/bin/clang"
 work=$(mktemp -d)
-trap 'rm -rf "$work"' EXIT
-trap 'rm -f "$output/libstarlark_lex.a"; exit 1' HUP INT TERM
+trap 'finish $?' EXIT
+trap 'exit 1' HUP INT TERM
 make_libraries
