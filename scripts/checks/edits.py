@@ -2,14 +2,13 @@
 """Checks the edits of all crates: the wrong changes that the prover has to refuse.
 
     scripts/checks/edits.py                      fails where an edit doesn't say what it shows or can't be applied, a mistake is
-                                                 lost, or the list names an edit that is gone or lacks one of a crate
+                                                 lost, or the list names an edit that is gone
     scripts/checks/edits.py --print [CRATE..]    prints what each edit shows, and what else shows it, as a table
 
 The gate tries those of crates/*/must-fail, and scripts/edits_by_hand.py those of crates/*/must-fail-by-hand. An edit has a
 line `# shows: MISTAKE`, and where something else shows the mistake too a line `# also: WHAT`. Each line of mistakes.txt is a
-mistake that some edit has to show in these words. scripts/edits_by_hand.txt has edits by hand alone, and of a crate all of them:
-scripts/edits_by_hand.py tries a new one, and adds it. Of the crates of which it has none, since nobody has tried theirs yet, a
-line says how many each has.
+mistake that some edit has to show in these words. scripts/edits_by_hand.txt has edits by hand alone; of those that it hasn't,
+which nobody has tried yet, a line says how many each crate has.
 """
 
 import sys
@@ -66,16 +65,13 @@ def findings(edits):
 def findings_of_list(edits):
     """What is wrong with the list of when the edits by hand were last refused."""
     listed, by_hand = set(last_refused()), {edit.name for edit in edits if edit.tried == "by hand"}
-    tried = {name.partition("/")[0] for name in listed}
     yield from (f"scripts/edits_by_hand.txt names {name}, which is gone" for name in sorted(listed - by_hand))
-    lacking = sorted(name for name in by_hand - listed if name.partition("/")[0] in tried)
-    yield from (f"scripts/edits_by_hand.txt lacks {name}: nobody has seen it refused" for name in lacking)
 
 
 def print_untried(edits):
-    """Prints how many edits by hand each crate has of which the list has none."""
-    tried = {name.partition("/")[0] for name in last_refused()}
-    untried = Counter(edit.crate for edit in edits if edit.tried == "by hand" and edit.crate not in tried)
+    """Prints how many edits by hand of each crate the list doesn't have."""
+    listed = set(last_refused())
+    untried = Counter(edit.crate for edit in edits if edit.tried == "by hand" and edit.name not in listed)
     if untried:
         print("edits by hand that nobody has tried yet: " + ", ".join(f"{count} of {crate}" for crate, count in sorted(untried.items())))
 
