@@ -45,7 +45,7 @@ CLAIMS = [
     at_the_end(DECISIONS, "**The gate tries some 160 must-fail edits**.", "160 must-fail edits"),
     at_the_end(DECISIONS, "The gate proves sixteen crates.", "sixteen crates"),
     at_the_end(CONTRIBUTING, "| `found_at` | a function of its own: else each escape pays for it |", "found_at is inlined"),
-    at_the_end(CONTRIBUTING, "`next_plain` and `next_of_all` (`lexer_state.rt`) are inlined.", "next_of_all isn't inlined"),
+    at_the_end(CONTRIBUTING, "`advance` and `look_further` (`lexer_state.rt`) are inlined.", "look_further isn't inlined"),
     at_the_end(DECISIONS, "`LexedText::relex` never fails.", "LexedText::relex may fail"),
     at_the_end(DECISIONS, "| `lexemes`, `relex` | all of them | never fails |", "relex may fail"),
     at_the_end(DECISIONS, "`Lexer` never asks, and pays one flag a margin.", "`Lexer` never asks"),

@@ -1,14 +1,14 @@
 //! How far a text is lexed into buffers, and where it may be cut.
 
-ghost use Rattle.std.specs.Prelude.{◌≡◌};
+ghost use Rattle.std.specs.Prelude.{◌≡◌, true};
 ghost use Rattle.starlark_c.specs.Inner.Filling.{ends_line, wanted_with};
 ghost use Rattle.starlark_grammar.specs.Words.{Text};
-ghost use Rattle.starlark_lexemes.specs.PlainLexemes.{IsPlainIn, plain_view};
+ghost use Rattle.starlark_lexemes.specs.PlainLexemes.{IsPlainIn, is_plain, plain_view};
 ghost use Rattle.starlark_token.specs.TokenViews.{token_view};
 
 use crate::endings::Filled;
 use crate::records::{bytes_of, bytes_of_plain};
-use starlark_syntax::lexer::{PlainKind, PlainLexeme, Token};
+use starlark_syntax::lexer::{Kind, Passed, Token};
 
 /// An offset where the text may be cut, and what fills the buffers before it.
 #[derive(Clone, Copy)]
@@ -38,7 +38,7 @@ pub fn want(filled: Filled, token: &Token) -> Filled
 }
 
 /// What is wanted with one more plain lexeme.
-pub fn want_plain(filled: Filled, text: &str, plain: PlainLexeme) -> Filled
+pub fn want_plain(filled: Filled, text: &str, plain: Passed) -> Filled
     requires { IsPlainIn text.now plain }
     ensures { result ≡ wanted_with filled (plain_view text.now plain).node }
 {
@@ -55,10 +55,11 @@ pub fn want_lexeme(filled: Filled, lexeme: (usize, Token, usize)) -> Filled
 /// Whether a plain lexeme can be the last of its line, and so the last before a cut: a `Newline`, or a
 /// comment.
 #[inline(always)]
-pub fn is_last_of_line(plain: PlainLexeme) -> bool
+pub fn is_last_of_line(plain: Passed) -> bool
+    requires { is_plain plain.kind ≡ true }
     ensures { (text : Text) → result ≡ ends_line (plain_view text plain).node }
 {
-    matches!(plain.kind, PlainKind::Newline | PlainKind::Comment)
+    matches!(plain.kind, Kind::Newline | Kind::Comment)
 }
 
 impl CutPoint {

@@ -14,7 +14,6 @@ ghost use Rattle.starlark_errors.specs.Exceptions.{IsException, IsFaultIn};
 ghost use Rattle.starlark_grammar.specs.Words.{Text};
 ghost use Rattle.starlark_lexemes.specs.PlainLexemes.{IsPlainIn, plain_view, token_of};
 ghost use Rattle.starlark_token.specs.Lexemes.{fault_view, lexeme_view};
-ghost use Rattle.starlark_token.specs.TokenViews.{token_view};
 
 use crate::endings::{Ending, Filled};
 use crate::fill_state::{CutPoint, FillState, is_last_of_line, want, want_lexeme, want_plain};
@@ -26,7 +25,7 @@ use crate::records::{
 use starlark_syntax::codemap::{OrMemory, Span};
 use starlark_syntax::error::{ErrorKind, ParserMessage};
 use starlark_syntax::eval_exception::EvalException;
-use starlark_syntax::lexer::{LexemeError, Lexer, PlainLexeme, Token};
+use starlark_syntax::lexer::{LexemeError, Lexer, Passed, Step, Token};
 use std::alloc::Global;
 
 /// Writes bytes at an offset, and returns the offset after them. `None`, and nothing changes, where
@@ -76,7 +75,7 @@ pub fn put_lexeme(
 /// after it. `None`, and nothing changes, where it doesn't fit.
 // A kind without a value calls nothing: a copy of no bytes costs 12 instructions a lexeme.
 #[inline(always)]
-fn put_plain_value(values: &mut [u8], at: usize, text: &str, plain: PlainLexeme) -> Option<usize>
+fn put_plain_value(values: &mut [u8], at: usize, text: &str, plain: Passed) -> Option<usize>
     requires within { at ≤ length values.old }
     requires plain { IsPlainIn text.now plain }
     ensures some { IfSome result (λ end. (end ≡ at + length (value_bytes (plain_view text.now plain).node)) × (end ≤ length values.old) × (values.new ≡ put at (value_bytes (plain_view text.now plain).node) values.old)) }
@@ -100,7 +99,7 @@ fn put_plain(
     filled: Filled,
     number: u16,
     text: &str,
-    plain: PlainLexeme,
+    plain: Passed,
 ) -> Option<Filled>
     requires number { (value : Text) → number ≡ token_number (token_of plain.kind value) }
     requires values_within { filled.values ≤ length values.old }
@@ -219,7 +218,7 @@ fn take_plain(
     values: &mut [u8],
     progress: &mut FillState,
     text: &str,
-    plain: PlainLexeme,
+    plain: Passed,
 ) -> Result<(), Filled>
     requires values_within { progress.old.filled.values ≤ length values.old }
     requires plain { IsPlainIn text.now plain }
@@ -415,29 +414,28 @@ pub fn fill(
 {
     let mut progress = FillState::new(is_front);
     loop {
-        if let Some(plain) = lexer.next_plain() {
-            if let Err(passed) = take_plain(lexemes, values, &mut progress, text, plain) {
-                return (overflow(text, lexer, progress, passed), progress.stop);
+        match lexer.step() {
+            Step::Plain(plain) => {
+                if let Err(passed) = take_plain(lexemes, values, &mut progress, text, plain) {
+                    return (overflow(text, lexer, progress, passed), progress.stop);
+                }
+                stop_after(&mut progress, is_last_of_line(plain), text, lexer);
             }
-            stop_after(&mut progress, is_last_of_line(plain), text, lexer);
-            continue;
-        }
-        match lexer.next() {
-            Some(Ok(lexeme)) => {
+            Step::Other(Some(Ok(lexeme))) => {
                 if let Err(passed) = take_next(lexemes, values, &mut progress, lexeme) {
                     return (overflow(text, lexer, progress, passed), progress.stop);
                 }
                 stop_after(&mut progress, true, text, lexer);
             }
-            Some(Err(OrMemory::Error(exception))) => {
+            Step::Other(Some(Err(OrMemory::Error(exception)))) => {
                 let ending = end_at_fault(text, values, progress, &exception);
                 return (ending, progress.stop);
             }
-            Some(Err(OrMemory::Memory)) => {
+            Step::Other(Some(Err(OrMemory::Memory))) => {
                 let filled = progress.filled;
                 return (Ending::Memory { filled }, progress.stop);
             }
-            None => {
+            Step::Other(None) => {
                 let filled = progress.filled;
                 return (Ending::Whole { filled }, progress.stop);
             }

@@ -1,13 +1,13 @@
 //! The kinds of lexemes: their numbers and their names.
 
-ghost use Rattle.std.specs.Prelude.{◌≡◌};
+ghost use Rattle.std.specs.Prelude.{true, ◌≡◌};
 ghost use Rattle.starlark_c.specs.Kinds.{kind_name, kind_number, terminal_number, token_number};
 ghost use Rattle.starlark_grammar.specs.Words.{Text};
-ghost use Rattle.starlark_lexemes.specs.PlainLexemes.{token_of};
+ghost use Rattle.starlark_lexemes.specs.PlainLexemes.{is_plain, token_of};
 ghost use Rattle.starlark_token.specs.TokenViews.{token_view};
 
 use starlark_grammar::{match_terminals, terminals};
-use starlark_syntax::lexer::{PlainKind, Terminal, Token};
+use starlark_syntax::lexer::{Kind, Terminal, Token};
 
 /// The number of a keyword or symbol.
 macro_rules! number_of {
@@ -83,21 +83,23 @@ fn number_of_terminal(terminal: Terminal) -> u16
 /// The number of a plain lexeme's kind.
 #[tactic(auto, unfolding(crate::specs::Kinds::token_number))]
 #[inline(always)]
-pub fn number_of_plain(kind: PlainKind) -> u16
+pub fn number_of_plain(kind: Kind) -> u16
+    requires { is_plain kind ≡ true }
     ensures { (value : Text) → result ≡ token_number (token_of kind value) }
 {
     match kind {
-        PlainKind::Comment => 1,
-        PlainKind::Indent => 2,
-        PlainKind::Dedent => 3,
-        PlainKind::Newline => 4,
-        PlainKind::Identifier => 5,
-        PlainKind::String => 8,
-        PlainKind::FStringText => 11,
-        PlainKind::FStringExprStart => 12,
-        PlainKind::FStringExprEnd => 13,
-        PlainKind::FStringEnd => 15,
-        PlainKind::Word(terminal) => number_of_terminal(terminal),
+        Kind::Comment => 1,
+        Kind::Indent => 2,
+        Kind::Dedent => 3,
+        Kind::Newline => 4,
+        Kind::Identifier => 5,
+        Kind::String => 8,
+        Kind::FStringText => 11,
+        Kind::FStringExprStart => 12,
+        Kind::FStringExprEnd => 13,
+        Kind::FStringEnd => 15,
+        Kind::Word(terminal) => number_of_terminal(terminal),
+        _ => unreachable!(),
     }
 }
 

@@ -1,6 +1,6 @@
 //! Lexemes and faults as plain records of numbers, and the values that these point to.
 
-ghost use Rattle.std.specs.Prelude.{◌≡◌, ◌<◌, ◌≤◌, ◌+◌, ◌^◌, ℕ, IfSome, length};
+ghost use Rattle.std.specs.Prelude.{◌≡◌, ◌<◌, ◌^◌, IfSome, length};
 ghost use Rattle.starlark_c.specs.Kinds.{token_number};
 ghost use Rattle.starlark_c.specs.Records.{detail, fault_bytes, fault_number, integer, quotes_number, record_of, value_bytes};
 ghost use Rattle.starlark_grammar.specs.Words.{Text};
@@ -9,7 +9,7 @@ ghost use Rattle.starlark_token.specs.Lexemes.{fault_view, lexeme_view};
 ghost use Rattle.starlark_token.specs.TokenViews.{fstring_quote_view, token_view};
 
 use crate::lexeme_kinds::number_of_kind;
-use starlark_syntax::lexer::{FStringQuote, LexemeError, PlainKind, PlainLexeme, Token, TokenInt};
+use starlark_syntax::lexer::{FStringQuote, Kind, LexemeError, Passed, Token, TokenInt};
 
 /// A lexeme: its place in the text, its kind, and where its value is among the values.
 #[repr(C)]
@@ -68,12 +68,12 @@ pub fn bytes_of(token: &Token) -> &[u8]
 /// The bytes of a plain lexeme's value, which are in its text.
 #[tactic(auto, unfolding(crate::specs::Records::value_bytes))]
 #[inline(always)]
-pub fn bytes_of_plain(text: &str, plain: PlainLexeme) -> &[u8]
+pub fn bytes_of_plain(text: &str, plain: Passed) -> &[u8]
     requires { IsPlainIn text.now plain }
     ensures { result.now ≡ value_bytes (plain_view text.now plain).node }
 {
     match plain.kind {
-        PlainKind::Comment | PlainKind::Identifier | PlainKind::String | PlainKind::FStringText =>
+        Kind::Comment | Kind::Identifier | Kind::String | Kind::FStringText =>
             &text.as_bytes()[plain.value_begin..plain.value_end],
         _ => &[],
     }
@@ -149,7 +149,7 @@ pub fn record_at(at: usize, lexeme: &(usize, Token, usize)) -> LexemeRecord
 /// `at` of the values.
 #[tactic(auto, unfolding(crate::specs::Kinds::kind_number, crate::specs::Records::integer, crate::specs::Records::detail))]
 #[inline(always)]
-pub fn plain_record_at(at: usize, len: usize, number: u16, plain: PlainLexeme) -> LexemeRecord
+pub fn plain_record_at(at: usize, len: usize, number: u16, plain: Passed) -> LexemeRecord
     requires number { (value : Text) → number ≡ token_number (token_of plain.kind value) }
     requires begin { plain.begin < 2 ^ 32 }
     requires end { plain.end < 2 ^ 32 }

@@ -5,7 +5,7 @@ use crate::rows::{Answer, Row, both, given, shown, unknown};
 use starlark_syntax::codemap::OrMemory;
 use starlark_syntax::dialect::Dialect;
 use starlark_syntax::lexer::{
-    Lexer, PlainLexeme, RecoveringLexer, Token, TokenInt, lex_exactly_one_identifier,
+    Lexer, Passed, RecoveringLexer, Step, Token, TokenInt, lex_exactly_one_identifier,
 };
 use std::alloc::{AllocError, Global};
 use std::fmt::{Display, Write};
@@ -116,31 +116,21 @@ pub fn lexemes(alloc: Global, text: &str, source: &str) -> Answer {
 }
 
 /// Adds the places of a plain lexeme of a text, and its value.
-fn add_plain(list: &mut String, text: &str, plain: PlainLexeme) -> Result<(), AllocError> {
+fn add_plain(list: &mut String, text: &str, plain: Passed) -> Result<(), AllocError> {
     let value = text
         .get(plain.value_begin..plain.value_end)
         .unwrap_or("no text");
     write!(list, "{}-{} [{value}]; ", plain.begin, plain.end)
 }
 
-/// Passes the next item, and returns whether there was one.
-fn pass_other(lexer: &mut Lexer<'_>) -> Result<bool, AllocError> {
-    match lexer.next() {
-        None => Ok(false),
-        Some(Err(OrMemory::Memory)) => Err(AllocError),
-        Some(_) => Ok(true),
-    }
-}
-
 /// Adds the plain lexemes of a lexer, and `other` for each item that isn't one.
 fn add_all_plain(list: &mut String, lexer: &mut Lexer<'_>, text: &str) -> Result<(), AllocError> {
     for _ in 0..u64::MAX {
-        if let Some(plain) = lexer.next_plain() {
-            add_plain(list, text, plain)?;
-        } else if pass_other(lexer)? {
-            list.push_str("other; ")?;
-        } else {
-            break;
+        match lexer.step() {
+            Step::Plain(plain) => add_plain(list, text, plain)?,
+            Step::Other(None) => break,
+            Step::Other(Some(Err(OrMemory::Memory))) => return Err(AllocError),
+            Step::Other(Some(_)) => list.push_str("other; ")?,
         }
     }
     Ok(())
@@ -154,6 +144,15 @@ fn plain_lexemes(alloc: Global, text: &str) -> Answer {
     Ok(list)
 }
 
+/// Passes the next item, and returns whether there was one.
+fn pass_item(lexer: &mut Lexer<'_>) -> Result<bool, AllocError> {
+    match lexer.next() {
+        None => Ok(false),
+        Some(Err(OrMemory::Memory)) => Err(AllocError),
+        Some(_) => Ok(true),
+    }
+}
+
 /// Adds the offset where the text may be cut, before each item of a lexer and after the last one.
 fn add_cuts(list: &mut String, lexer: &mut Lexer<'_>) -> Result<(), AllocError> {
     for _ in 0..u64::MAX {
@@ -161,7 +160,7 @@ fn add_cuts(list: &mut String, lexer: &mut Lexer<'_>) -> Result<(), AllocError> 
             Some(at) => write!(list, "{at}; ")?,
             None => list.push_str("-; ")?,
         }
-        if !pass_other(lexer)? {
+        if !pass_item(lexer)? {
             break;
         }
     }

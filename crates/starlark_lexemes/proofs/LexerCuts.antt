@@ -99,7 +99,7 @@ no_cut_yet state none = known_is state ∙ rw none (by state.has_ended)
     by false = refl
 
 pub fresh_view : (state : LexerState) (text : Text) (file : SourceFile) → view_of state ≡ record { text = text; yielded_count = 0; has_ended = false; reads = 0 }
-    → lexer_view state file false ≡ record { text = text; code_map = file; yielded_count = 0; has_ended = false; reads = 0; cut = None }
+    → lexer_view state file ≡ record { text = text; code_map = file; yielded_count = 0; has_ended = false; reads = 0; cut = None }
 fresh_view state text file is = search (rules, no_cut_yet)
 
 -- After a lexeme

@@ -8,7 +8,7 @@ use Rattle.std.proofs.lemmas.List.{length-drop, length-map}
 use Rattle.starlark_token.specs.TokenViews.{TokenView}
 use Rattle.starlark_grammar.proofs.Order.Inside.{fault_within}
 use Rattle.starlark_grammar.specs.Reading.{outcome}
-use Rattle.starlark_lexemes.specs.Inner.LexerStates.{HasAnswered, HasGivenNext, HasThrown, IsLexing, IsLexingIn, StateView, has_fault, left_in, view_of}
+use Rattle.starlark_lexemes.specs.Inner.LexerStates.{HasAnswered, HasPassedAs, HasPassedNext, HasThrown, IsLexing, IsLexingIn, StateView, has_fault, left_in, view_of}
 use Rattle.starlark_reader.specs.Inner.Reader.{IsAtEnd, IsLeft, IsOver, IsRaw, IsSomething, IsSound, is_fault}
 use Rattle.starlark_reader.proofs.TakenPieces.NextLexeme.{nothing_next}
 use Rattle.starlark_reader.proofs.NextLines.{restart_inside}
@@ -20,11 +20,13 @@ use Rattle.starlark_grammar.specs.Tokens.{Fault, Lexeme, Outcome, Spanned}
 use Rattle.starlark_token.specs.declared.lexeme_error.LexemeError.{LexemeError}
 use Rattle.std.proofs.lemmas.Bool.{and_parts, not-true}
 use Rattle.starlark_grammar.specs.Words.{Text}
-use Rattle.starlark_lexemes.proofs.LexerReads.{end_read, found_few}
 use Rattle.starlark_lexemes.proofs.LexerItems.{fault_item, lexeme_item, lexeme_within, nothing_item, some_item}
 use Rattle.starlark_lexemes.specs.Lexer.{AnswersNext, AnswersWithin, HasReadFor, is_ended_by, most_reads, yielded_by}
 use Rattle.starlark_errors.specs.declared.error.kinds.ErrorKind.{ErrorKind}
 use Rattle.starlark_lexemes.specs.declared.lexer_state.LexerState.{LexerState}
+use Rattle.starlark_lexemes.specs.declared.passed.Kind.{Kind}
+use Rattle.starlark_lexemes.specs.declared.passed.Kind.TheVariants as kind
+use Rattle.starlark_lexemes.specs.declared.passed.Passed.{Passed}
 use Rattle.starlark_text.specs.declared.or_memory.OrMemory.{OrMemory}
 use Rattle.starlark_text.specs.declared.or_memory.OrMemory.TheVariants.{Error, Memory}
 use Rattle.starlark_token.specs.Lexemes.{IsWithin, shown_lexeme}
@@ -52,13 +54,18 @@ IsSameText first now = (now.reader.text.now ≡ first.reader.text.now) × (now.y
 pub same_text : (first now : LexerState) (reader : Reader) → IsGoingOn first now → reader.text ≡ now.reader.text → IsSameText first (record now { reader = reader })
 same_text first now reader on same = (ap (λ t. t.now) same ∙ ap (λ (v : StateView). v.text) on.same, ap (λ (v : StateView). v.yielded_count) on.same)
 
-pub answered_same : (first now : LexerState) (answer : Option (Result (ℕ × Token × ℕ) (OrMemory (Diagnosed ErrorKind)))) (new : LexerState) → IsSameText first now → HasAnswered now answer new → HasAnswered first answer new
-answered_same first now None new same is = rw same.0 at is
-answered_same first now (Some (Err (Error exception))) new same is = is
-answered_same first now answer new same is = rw (same.0, same.1) at is
+-- what was passed after what has no lexeme, was passed of the lexer before that
+pub passed_same : (first now : LexerState) (it : Kind) (passed : Passed) (new : LexerState) → IsSameText first now → HasPassedAs now it passed new → HasPassedAs first it passed new
+passed_same first now kind.Layout passed new same is = absurd is
+passed_same first now kind.Last passed new same is = rw same.0 at is
+passed_same first now it passed new same is = rw (same.0, same.1) at is
 
-pub given_same : (first now : LexerState) (item : Option (Result (ℕ × Token × ℕ) (OrMemory (Diagnosed ErrorKind)))) (new : LexerState) → IsSameText first now → HasGivenNext now item new → HasGivenNext first item new
-given_same first now item new same is = record { answer = answered_same first now item new same is.answer; lexing = is.lexing; after = rw (same.0, same.1) at is.after }
+pub next_same : (first now : LexerState) (passed : Passed) (new : LexerState) → IsSameText first now → HasPassedNext now passed new → HasPassedNext first passed new
+next_same first now passed new same is = record { passed = passed_same first now passed.kind passed new same is.passed; lexing = is.lexing; after = rw (same.0, same.1) at is.after }
+
+pub or_true : (b : Bool) → (b || true) ≡ true
+or_true true = refl
+or_true false = refl
 
 pub or_false : (b : Bool) → (b || false) ≡ b
 or_false true = refl
@@ -134,7 +141,7 @@ read_at text reader left stage is has = omega (arith, has.1)
 pub lexing_read_in : (text : Text) (state : LexerState) → IsLexingIn text state → state.has_ended ≡ false → state.reader.reads ≤ most_reads text
 lexing_read_in text state lexing going =
     let ahead = (lexing.1 going).1 in
-    found_few text state.reader state.word state.run state.found _ _ ahead (lexing.3 going) (read_at text state.reader ahead.left state.reader.stage ahead.is_left)
+    read_at text state.reader ahead.left state.reader.stage ahead.is_left (lexing.3 going)
 
 pub lexing_read : (state : LexerState) → IsLexing state → state.has_ended ≡ false → state.reader.reads ≤ most_reads state.reader.text.now
 lexing_read state lexing going = lexing_read_in state.reader.text.now state lexing going
@@ -157,7 +164,7 @@ at_end state lexing going end none = by state.reader.stage refl end.1 (sym (ap (
     by (stages.Fault begin fault last) e over h = cc
     by stages.Closed e over h =
         let last = nothing_next state.reader.text.now state.reader state.reader (left_in state) (outcome state.reader.text.now).fault (record { at = refl; nesting = refl; levels = refl; before = refl }) end.0 refl e e (lexing.1 going).1 in
-        (last.0, last.1, omega (arith, (subst (HasReadAt state.reader.text.now state.reader) e (end_read state.reader.text.now state.reader state.word state.run state.found end (lexing.3 going))).0, lexing.0.fits))
+        (last.0, last.1, omega (arith, (subst (HasReadAt state.reader.text.now state.reader) e (lexing.3 going)).0, lexing.0.fits))
     by now e over h = absurd over
 
 -- So nothing more is answered.

@@ -1,9 +1,9 @@
 -- Where each proof is. What belongs to one function is in a folder that has its name.
--- LexerReads: reads: of a piece, after each step, and of the lexer by its lookahead.
+-- LexerReads: reads: of a piece, and after each step.
 -- LexerItems, LexerStates: items: items by their number, inside of the text; what a call on the state returns is
 --   the next.
--- FoundWords, PlainLexemes: the fast path: the state at a word that the scanner has found, and after a lexeme was
---   passed; a plain lexeme as the grammar sees it.
+-- FoundWords, PlainLexemes: the state at a word that the scanner has found, and after a lexeme was passed; a plain
+--   lexeme as the grammar sees it; what is taken of what was passed.
 -- LexerCuts: where a lexer may cut its text.
 -- NextItems: what is left: the first of it, which is answered next.
 -- RepairedStates: a lexer that goes on in a text with a repair.

@@ -1,8 +1,7 @@
--- Plain lexemes, as the fast path passes them.
+-- What a step passes, and what is taken of it.
 use Rattle.std.proofs.Common.{◌≡◌, ◌≢◌, ◌≤◌, ◌<◌, ◌+◌, ◌-◌, ◌^◌, ◌∷◌, ◌||◌, Bool, true, false, ℕ, List, [], Option, Some, None, Ok, Err, ap, arith, drop, length, refl, subst, sym, take, ◌∙◌}
-use Rattle.std.specs.Prelude.{◌&&◌, not, Result}
+use Rattle.std.specs.Prelude.{Result}
 use Rattle.std.specs.Option.{is_some}
-use Rattle.std.specs.declared.alloc.AllocError.{AllocError}
 use Rattle.std.specs.Str.{IsCharBoundary, IsUtf8}
 use Rattle.starlark_base.specs.Diagnostics.{Diagnosed}
 use Rattle.starlark_base.specs.Sources.{SourceFile}
@@ -15,28 +14,26 @@ use Rattle.starlark_reader.specs.Inner.Reader.{IsAhead, IsAheadAfter, IsAheadPas
 use Rattle.starlark_reader.specs.declared.reader.Reader.{Reader}
 use Rattle.starlark_reader.specs.declared.reader.Stage.TheVariants as stages
 use Rattle.starlark_reader.proofs.TakenPieces.PieceTaken.{left_onward}
-use Rattle.starlark_lexemes.specs.Inner.LexerStates.{HasAnswered, HasRunOut, StateView, known_cut, view_of, HasTold, HasToldNext, HasAdvanced, HasTaken, IsLexing, IsOfPendingToken, is_out_of_memory, left_in, lexer_view, told_as, told_count, plain_fstring_text, plain_valueless, plain_string}
-use Rattle.starlark_lexemes.specs.Lexer.{LexerView, is_ended_by, most_reads, yielded_by}
-use Rattle.starlark_lexemes.specs.PlainLexemes.{IsPlainIn, plain_token, plain_value, plain_view, token_of}
+use Rattle.starlark_lexemes.specs.Inner.LexerStates.{HasAdvanced, HasAnswered, HasPassed, HasPassedAs, HasPassedNext, IsItemOf, IsLexing, IsTakenAs, IsTakenOf, StateView, is_out_of_memory, item_of, known_cut, left_in, lexer_view, made_view, passed_count, passed_of, valueless, view_of}
+use Rattle.starlark_lexemes.specs.Lexer.{is_ended_by, most_reads, yielded_by}
+use Rattle.starlark_lexemes.specs.PlainLexemes.{IsPlainIn, is_plain, plain_token, plain_value, plain_view, token_of}
 use Rattle.starlark_errors.specs.declared.error.kinds.ErrorKind.{ErrorKind}
 use Rattle.starlark_lexemes.proofs.LexerItems.{given_between, lexeme_item}
-use Rattle.starlark_lexemes.proofs.LexerStates.{IsSameText, answers_within, lexing_read}
+use Rattle.starlark_lexemes.proofs.LexerStates.{IsSameText, answers_within, lexing_read, or_true}
 use Rattle.starlark_lexemes.specs.declared.lexer_state.LexerState.{LexerState}
-use Rattle.starlark_lexemes.specs.declared.lexer_state.Advance.{Advance}
-use Rattle.starlark_lexemes.specs.declared.lexer_state.Advance.TheVariants as advance
-use Rattle.starlark_lexemes.specs.declared.plain_lexeme.PlainKind.{PlainKind}
-use Rattle.starlark_lexemes.specs.declared.plain_lexeme.PlainKind.TheVariants as kind
-use Rattle.starlark_lexemes.specs.declared.plain_lexeme.PlainLexeme.{PlainLexeme}
+use Rattle.starlark_lexemes.specs.declared.passed.Kind.{Kind}
+use Rattle.starlark_lexemes.specs.declared.passed.Kind.TheVariants as kind
+use Rattle.starlark_lexemes.specs.declared.passed.Passed.{Passed}
 use Rattle.starlark_text.specs.declared.or_memory.OrMemory.{OrMemory}
-use Rattle.starlark_text.specs.declared.or_memory.OrMemory.TheVariants.{Error, Memory}
 use Rattle.starlark_token.specs.Lexemes.{lexeme_view}
 use Rattle.starlark_token.specs.TokenViews.{TokenView, Whole, token_view}
 use Rattle.starlark_token.specs.declared.tokens.Token.{Token}
 
 -- a plain lexeme whose four offsets are in order, at character boundaries
-pub plain_inside : (text : Text) (kind : PlainKind) (begin end value_begin value_end : ℕ) → length text < 2 ^ 32 → begin ≤ end → value_begin ≤ value_end → IsCharBoundary text begin → IsCharBoundary text end → IsCharBoundary text value_begin → IsCharBoundary text value_end
-    → IsPlainIn text (record { kind = kind; begin = begin; end = end; value_begin = value_begin; value_end = value_end })
-plain_inside text kind begin end value_begin value_end short order value first last from to = record {
+pub plain_inside : (text : Text) (it : Kind) (begin end value_begin value_end : ℕ) → is_plain it ≡ true → length text < 2 ^ 32 → begin ≤ end → value_begin ≤ value_end → IsCharBoundary text begin → IsCharBoundary text end → IsCharBoundary text value_begin → IsCharBoundary text value_end
+    → IsPlainIn text (record { kind = it; begin = begin; end = end; value_begin = value_begin; value_end = value_end })
+plain_inside text it begin end value_begin value_end plain short order value first last from to = record {
+  kind = plain;
   lexeme = (order, last.0, short);
   value = (value, to.0, short);
   begin = first;
@@ -54,7 +51,7 @@ name_shown text at len end is =
     let count : len ≡ end - at = omega (arith, is) in
     ap (λ n. record { begin = at; node = Whole (grammar.Identifier (take n (drop at text))); end = at + len }) count ∙ ap (λ n. record { begin = at; node = Whole (grammar.Identifier (take (end - at) (drop at text))); end = n }) (sym is)
 
-pub string_shown : (text : Text) (at mid len body end : ℕ) → mid ≡ at → end ≡ mid + (len + body + 1) → text_lexeme text mid len body ≡ plain_view text (plain_string at len end)
+pub string_shown : (text : Text) (at mid len body end : ℕ) → mid ≡ at → end ≡ mid + (len + body + 1) → text_lexeme text mid len body ≡ plain_view text (record { kind = kind.String; begin = at; end = end; value_begin = at + len; value_end = end - 1 })
 string_shown text at mid len body end same is =
     let count : body ≡ end - 1 - (at + len) = omega (arith, is, same) in
     let last : at + (len + body + 1) ≡ end = omega (arith, is, same) in
@@ -63,33 +60,124 @@ string_shown text at mid len body end same is =
     ∙ ap (λ n. record { begin = at; node = Whole (grammar.String (take n (drop (at + len) text))); end = at + (len + body + 1) }) count
     ∙ ap (λ n. record { begin = at; node = Whole (grammar.String (take (end - 1 - (at + len)) (drop (at + len) text))); end = n }) last
 
-pub fstring_text_shown : (text : Text) (at len : ℕ) → fstring_text_lexeme text at len ≡ plain_view text (plain_fstring_text at (at + len))
+pub fstring_text_shown : (text : Text) (at len : ℕ) → fstring_text_lexeme text at len ≡ plain_view text (record { kind = kind.FStringText; begin = at; end = at + len; value_begin = at; value_end = at + len })
 fstring_text_shown text at len = let count : len ≡ at + len - at = omega (arith) in ap (λ n. record { begin = at; node = Whole (grammar.FStringText (take n (drop at text))); end = at + len }) count
 
 -- where a lexeme was passed, something was left
 pub past_something : (text : Text) (lexeme : Spanned TokenView) (reader : Reader) (lexemes : List (Spanned TokenView)) (fault : Option (Spanned Fault)) → IsAheadPast text lexeme reader lexemes fault → IsSomething lexemes fault
 past_something text lexeme reader lexemes fault past none whole = let both : lexeme ∷ past.0 ≡ [] = sym past.1 ∙ none in cc
 
--- what is made of a plain lexeme is an answer
-pub taken_answer : (old mid : LexerState) (plain : PlainLexeme) (answer : Option (Result (ℕ × Token × ℕ) (OrMemory (Diagnosed ErrorKind)))) (new : LexerState) → HasTold old (Ok (Some plain)) mid → mid.reader.text.now ≡ old.reader.text.now → HasTaken mid plain answer new → HasAnswered old answer new
-taken_answer old mid plain None new passed text taken = absurd taken
-taken_answer old mid plain (Some (Ok lexeme)) new passed text taken =
-    subst (λ (state : LexerState). HasAnswered old (Some (Ok lexeme)) state) (sym taken.1)
-    (subst (λ (view : Spanned TokenView). IsAheadPast old.reader.text.now view mid.reader (left_in old) (outcome old.reader.text.now).fault) (sym (taken.0 ∙ ap (λ (t : Text). plain_view t plain) text)) passed.1)
-taken_answer old mid plain (Some (Err (Error exception))) new passed text taken = absurd taken
-taken_answer old mid plain (Some (Err Memory)) new passed text taken = past_something old.reader.text.now (plain_view old.reader.text.now plain) mid.reader (left_in old) (outcome old.reader.text.now).fault passed.1
+-- a plain kind, of which it isn't known which
+pub plain_passes : (old : LexerState) (it : Kind) (passed : Passed) (new : LexerState) → is_plain it ≡ true → IsPlainIn old.reader.text.now passed × IsAheadPast old.reader.text.now (plain_view old.reader.text.now passed) new.reader (left_in old) (outcome old.reader.text.now).fault → HasPassedAs old it passed new
+plain_passes old kind.Made passed new plain is = cc
+plain_passes old kind.Layout passed new plain is = cc
+plain_passes old kind.Last passed new plain is = cc
+plain_passes old kind.OutOfMemory passed new plain is = cc
+plain_passes old it passed new plain is = is
 
-pub taken_lexing : (mid : LexerState) (plain : PlainLexeme) (answer : Option (Result (ℕ × Token × ℕ) (OrMemory (Diagnosed ErrorKind)))) (new : LexerState) → IsLexing mid → HasTaken mid plain answer new → IsLexing new
-taken_lexing mid plain None new lexing taken = absurd taken
-taken_lexing mid plain (Some (Ok lexeme)) new lexing taken = subst IsLexing (sym taken.1) lexing
-taken_lexing mid plain (Some (Err (Error exception))) new lexing taken = absurd taken
-taken_lexing mid plain (Some (Err Memory)) new lexing taken = subst IsLexing (sym taken) (lexing.0, (λ on. cc), tt, (λ on. cc))
+pub passed_plain : (old : LexerState) (it : Kind) (passed : Passed) (new : LexerState) → is_plain it ≡ true → HasPassedAs old it passed new → IsPlainIn old.reader.text.now passed × IsAheadPast old.reader.text.now (plain_view old.reader.text.now passed) new.reader (left_in old) (outcome old.reader.text.now).fault
+passed_plain old kind.Made passed new plain is = cc
+passed_plain old kind.Layout passed new plain is = cc
+passed_plain old kind.Last passed new plain is = cc
+passed_plain old kind.OutOfMemory passed new plain is = cc
+passed_plain old it passed new plain is = is
 
--- what the fast path tells of a state, it tells of one with the same text and number of items
-pub told_same : (first now : LexerState) (found : Result (Option PlainLexeme) AllocError) (new : LexerState) → IsSameText first now → HasTold now found new → HasTold first found new
-told_same first now (Ok (Some plain)) new same is = rw (same.0, same.1) at is
-told_same first now (Ok None) new same is = is
-told_same first now (Err error) new same is = rw (same.0, same.1) at is
+-- it is one lexeme
+pub plain_counts : (it : Kind) → is_plain it ≡ true → (passed_count it ≡ 1) × (is_out_of_memory it ≡ false)
+plain_counts kind.Made plain = (refl, refl)
+plain_counts kind.Layout plain = cc
+plain_counts kind.Last plain = cc
+plain_counts kind.OutOfMemory plain = cc
+plain_counts it plain = (refl, refl)
+
+pub plain_advances : (old : LexerState) (it : Kind) (new : LexerState) → is_plain it ≡ true → HasPassedNext old (passed_of new it) new → HasAdvanced old it new
+plain_advances old kind.Layout new plain is = cc
+plain_advances old it new plain is = is
+
+-- what was passed is no layout
+pub next_advances : (old : LexerState) (it : Kind) (new : LexerState) → HasPassedNext old (passed_of new it) new → HasAdvanced old it new
+next_advances old kind.Layout new is = absurd is.passed
+next_advances old it new is = is
+
+pub advances_next : (old : LexerState) (it : Kind) (new : LexerState) → it ≢ kind.Layout → HasAdvanced old it new → HasPassedNext old (passed_of new it) new
+advances_next old kind.Layout new other is = absurd (other refl)
+advances_next old it new other is = is
+
+-- the token of a plain lexeme is taken
+takes_plain : (old : LexerState) (it : Kind) (passed : Passed) (token : Token) (new : LexerState) → is_plain it ≡ true → (token_view token ≡ Whole (plain_token old.reader.text.now passed)) × (new ≡ old) → IsTakenAs old it passed (Ok token) new
+takes_plain old kind.Made passed token new plain is = cc
+takes_plain old kind.Layout passed token new plain is = cc
+takes_plain old kind.Last passed token new plain is = cc
+takes_plain old kind.OutOfMemory passed token new plain is = cc
+takes_plain old it passed token new plain is = is
+
+pub taken_plain : (old : LexerState) (it : Kind) (passed : Passed) (token : Token) (new : LexerState) → passed.kind ≡ it → is_plain it ≡ true → token_view token ≡ Whole (token_of it (plain_value old.reader.text.now passed)) → new ≡ old → IsTakenOf old passed (Ok token) new
+taken_plain old it passed token new same plain is stays =
+    subst (λ (k : Kind). IsTakenAs old k passed (Ok token) new) (sym same) (takes_plain old it passed token new plain (is ∙ ap (λ (k : Kind). Whole (token_of k (plain_value old.reader.text.now passed))) (sym same), stays))
+
+-- what is taken of what was passed is an answer
+taken_answer : (old mid : LexerState) (it : Kind) (passed : Passed) (taken : Result Token Kind) (new : LexerState) → HasPassedAs old it passed mid → mid.reader.text.now ≡ old.reader.text.now → IsTakenAs mid it passed taken new → HasAnswered old (item_of passed taken) new
+taken_answer old mid kind.Made passed (Ok token) new is text taken =
+    rw taken.1 (subst (λ (t : Token). IsAheadPast old.reader.text.now (made_view passed t) mid.reader (left_in old) (outcome old.reader.text.now).fault) (sym taken.0) is)
+taken_answer old mid kind.Made passed (Err e) new is text taken = absurd taken
+taken_answer old mid kind.Layout passed taken new is text taken' = absurd is
+taken_answer old mid kind.Last passed (Ok token) new is text taken = absurd taken
+taken_answer old mid kind.Last passed (Err e) new is text taken = rw (taken.0, taken.1) is
+taken_answer old mid kind.OutOfMemory passed (Ok token) new is text taken = absurd taken
+taken_answer old mid kind.OutOfMemory passed (Err e) new is text taken = rw taken.0 is
+taken_answer old mid it passed (Ok token) new is text taken =
+    rw taken.1 (subst (λ (view : Spanned TokenView). IsAheadPast old.reader.text.now view mid.reader (left_in old) (outcome old.reader.text.now).fault) (ap (λ (view : TokenView). record { begin = passed.begin; node = view; end = passed.end }) (ap (λ (t : Text). Whole (plain_token t passed)) (sym text) ∙ sym taken.0)) is.1)
+taken_answer old mid it passed (Err e) new is text taken = rw taken.0 (past_something old.reader.text.now (plain_view old.reader.text.now passed) mid.reader (left_in old) (outcome old.reader.text.now).fault is.1)
+
+pub item_answers : (old mid : LexerState) (passed : Passed) (answer : Option (Result (ℕ × Token × ℕ) (OrMemory (Diagnosed ErrorKind)))) (new : LexerState) → HasPassed old passed mid → mid.reader.text.now ≡ old.reader.text.now → IsItemOf mid passed answer new → HasAnswered old answer new
+item_answers old mid passed answer new is text taken = rw taken.2 (taken_answer old mid passed.kind passed taken.0 new is text taken.1)
+
+-- so the lexer goes on
+taken_lexing : (mid : LexerState) (it : Kind) (passed : Passed) (taken : Result Token Kind) (new : LexerState) → IsLexing mid → IsTakenAs mid it passed taken new → IsLexing new
+taken_lexing mid kind.Made passed (Ok token) new lexing taken = rw taken.1 lexing
+taken_lexing mid kind.Made passed (Err e) new lexing taken = absurd taken
+taken_lexing mid kind.Layout passed (Ok token) new lexing taken = absurd taken
+taken_lexing mid kind.Layout passed (Err e) new lexing taken = rw taken.1 lexing
+taken_lexing mid kind.Last passed (Ok token) new lexing taken = absurd taken
+taken_lexing mid kind.Last passed (Err e) new lexing taken = rw taken.1 lexing
+taken_lexing mid kind.OutOfMemory passed (Ok token) new lexing taken = absurd taken
+taken_lexing mid kind.OutOfMemory passed (Err e) new lexing taken = rw taken.1 lexing
+taken_lexing mid it passed (Ok token) new lexing taken = rw taken.1 lexing
+taken_lexing mid it passed (Err e) new lexing taken = rw taken.1 (lexing.0, (λ on. cc), (λ yes. cc), (λ on. cc), (λ yes. cc))
+
+pub item_lexing : (mid : LexerState) (passed : Passed) (answer : Option (Result (ℕ × Token × ℕ) (OrMemory (Diagnosed ErrorKind)))) (new : LexerState) → IsLexing mid → IsItemOf mid passed answer new → IsLexing new
+item_lexing mid passed answer new lexing taken = taken_lexing mid passed.kind passed taken.0 new lexing taken.1
+
+-- and is as users see it
+taken_view : (old mid : LexerState) (it : Kind) (passed : Passed) (taken : Result Token Kind) (new : LexerState)
+    → view_of mid ≡ record (view_of old) { yielded_count = old.yielded_count + passed_count it; has_ended = old.has_ended || is_out_of_memory it; reads = mid.reader.reads } → IsTakenAs mid it passed taken new
+    → view_of new ≡ record (view_of old) { yielded_count = old.yielded_count + yielded_by (item_of passed taken); has_ended = old.has_ended || is_ended_by (item_of passed taken); reads = new.reader.reads }
+taken_view old mid kind.Made passed (Ok token) new after taken = rw taken.1 after
+taken_view old mid kind.Made passed (Err e) new after taken = absurd taken
+taken_view old mid kind.Layout passed (Ok token) new after taken = absurd taken
+taken_view old mid kind.Layout passed (Err e) new after taken = rw (taken.0, taken.1) after
+taken_view old mid kind.Last passed (Ok token) new after taken = absurd taken
+taken_view old mid kind.Last passed (Err e) new after taken = rw (taken.0, taken.1) after
+taken_view old mid kind.OutOfMemory passed (Ok token) new after taken = absurd taken
+taken_view old mid kind.OutOfMemory passed (Err e) new after taken = rw (taken.0, taken.1) after
+taken_view old mid it passed (Ok token) new after taken = rw taken.1 after
+taken_view old mid it passed (Err e) new after taken =
+    let less : mid.yielded_count - 1 ≡ old.yielded_count + 0 = omega (arith, ap (λ (v : StateView). v.yielded_count) after) in
+    let text = ap (λ (v : StateView). v.text) after in
+    rw (taken.0, taken.1, less, text) (ap (λ ended. record { text = old.reader.text.now; yielded_count = old.yielded_count + 0; has_ended = ended; reads = mid.reader.reads }) (sym (or_true old.has_ended)))
+
+pub item_view : (old mid : LexerState) (passed : Passed) (answer : Option (Result (ℕ × Token × ℕ) (OrMemory (Diagnosed ErrorKind)))) (new : LexerState)
+    → view_of mid ≡ record (view_of old) { yielded_count = old.yielded_count + passed_count passed.kind; has_ended = old.has_ended || is_out_of_memory passed.kind; reads = mid.reader.reads } → IsItemOf mid passed answer new
+    → view_of new ≡ record (view_of old) { yielded_count = old.yielded_count + yielded_by answer; has_ended = old.has_ended || is_ended_by answer; reads = new.reader.reads }
+item_view old mid passed answer new after taken = rw taken.2 (taken_view old mid passed.kind passed taken.0 new after taken.1)
+
+-- nothing is taken where nothing was passed
+pub last_item : (mid : LexerState) (passed : Passed) (answer : Option (Result (ℕ × Token × ℕ) (OrMemory (Diagnosed ErrorKind)))) (new : LexerState) → passed.kind ≡ kind.Last → IsItemOf mid passed answer new → (answer ≡ None) × (new ≡ mid)
+last_item mid passed answer new last taken = by taken.0 (subst (λ (it : Kind). IsTakenAs mid it passed taken.0 new) last taken.1) taken.2
+  where
+    by : (it : Result Token Kind) → IsTakenAs mid kind.Last passed it new → answer ≡ item_of passed it → (answer ≡ None) × (new ≡ mid)
+    by (Ok token) is same = absurd is
+    by (Err e) is same = (same ∙ ap (λ (k : Kind). item_of passed (Err k)) is.0, is.1)
 
 -- a name was passed, where the text and the number of items are those before
 pub name_passed : (first state : LexerState) (mid new : Reader) (len : ℕ) → IsSameText first state → length state.reader.text.now < 2 ^ 32 → mid.stage ≡ stages.Onward → new.stage ≡ stages.Onward → IsAhead state.reader.text.now mid mid.stage (left_in state) (outcome state.reader.text.now).fault
@@ -102,7 +190,7 @@ name_passed first state mid new len same short on onward ahead at is =
     let last = reader_boundary text new is.0 (outcome text).fault onward is.2 in
     let past = subst (λ (view : Spanned TokenView). IsAheadPast text view new (left_in state) (outcome text).fault) (name_shown text mid.at len new.at at) is in
     let both : IsPlainIn text (record { kind = kind.Identifier; begin = mid.at; end = new.at; value_begin = mid.at; value_end = new.at }) × IsAheadPast text (plain_view text (record { kind = kind.Identifier; begin = mid.at; end = new.at; value_begin = mid.at; value_end = new.at })) new (left_in state) (outcome text).fault =
-    (plain_inside text kind.Identifier mid.at new.at mid.at new.at short (omega (arith, at)) (omega (arith, at)) front last front last, past) in
+    (plain_inside text kind.Identifier mid.at new.at mid.at new.at refl short (omega (arith, at)) (omega (arith, at)) front last front last, past) in
     rw (same.0, same.1) at both
 
 -- a newline was passed
@@ -115,91 +203,39 @@ newline_passed first state mid new len same short on ahead last is =
     let text = state.reader.text.now in
     let front = reader_boundary text mid (left_in state) (outcome text).fault on ahead in
     let both : IsPlainIn text (record { kind = kind.Newline; begin = mid.at; end = mid.at + len; value_begin = mid.at + len; value_end = mid.at + len }) × IsAheadPast text (plain_view text (record { kind = kind.Newline; begin = mid.at; end = mid.at + len; value_begin = mid.at + len; value_end = mid.at + len })) new (left_in state) (outcome text).fault =
-    (plain_inside text kind.Newline mid.at (mid.at + len) (mid.at + len) (mid.at + len) short (omega (arith)) (omega (arith)) front last last last, is) in
+    (plain_inside text kind.Newline mid.at (mid.at + len) (mid.at + len) (mid.at + len) refl short (omega (arith)) (omega (arith)) front last last last, is) in
     rw (same.0, same.1) at both
 
 -- a keyword or symbol lies in the text
-pub symbol_inside : (state : LexerState) (lexeme : ℕ × Token × ℕ) (new : LexerState) (plain : PlainLexeme) → length state.reader.text.now < 2 ^ 32 → state.yielded_count ≤ length (outcome state.reader.text.now).lexemes → IsUtf8 state.reader.text.now
+pub symbol_inside : (state : LexerState) (lexeme : ℕ × Token × ℕ) (new : LexerState) (plain : Passed) → is_plain plain.kind ≡ true → length state.reader.text.now < 2 ^ 32 → state.yielded_count ≤ length (outcome state.reader.text.now).lexemes → IsUtf8 state.reader.text.now
     → HasAnswered state (Some (Ok lexeme)) new → plain ≡ record { kind = plain.kind; begin = lexeme.0; end = lexeme.2; value_begin = lexeme.2; value_end = lexeme.2 } → IsPlainIn state.reader.text.now plain
-symbol_inside state lexeme new plain short few utf8 is places =
+symbol_inside state lexeme new plain sort short few utf8 is places =
     let item = lexeme_item state.reader.text.now state.yielded_count _ is.0 is.1 in
     let within = answers_within state (Some (Ok lexeme)) new refl short is in
     let between = given_between state.reader.text.now state.yielded_count (lexeme_view lexeme) utf8 item in
-    subst (IsPlainIn state.reader.text.now) (sym places) (plain_inside state.reader.text.now plain.kind lexeme.0 lexeme.2 lexeme.2 lexeme.2 short within.0 (omega (arith)) between.0 between.1 between.1 between.1)
+    subst (IsPlainIn state.reader.text.now) (sym places) (plain_inside state.reader.text.now plain.kind lexeme.0 lexeme.2 lexeme.2 lexeme.2 sort short within.0 (omega (arith)) between.0 between.1 between.1 between.1)
 
-pub symbol_shown : (text : Text) (lexeme : ℕ × Token × ℕ) (plain : PlainLexeme) → token_view lexeme.1 ≡ Whole (token_of plain.kind (plain_value text plain)) → plain ≡ record { kind = plain.kind; begin = lexeme.0; end = lexeme.2; value_begin = lexeme.2; value_end = lexeme.2 }
+pub symbol_shown : (text : Text) (lexeme : ℕ × Token × ℕ) (plain : Passed) → token_view lexeme.1 ≡ Whole (token_of plain.kind (plain_value text plain)) → plain ≡ record { kind = plain.kind; begin = lexeme.0; end = lexeme.2; value_begin = lexeme.2; value_end = lexeme.2 }
     → lexeme_view lexeme ≡ plain_view text plain
 symbol_shown text lexeme plain token places =
     ap (λ (view : TokenView). record { begin = lexeme.0; node = view; end = lexeme.2 }) token
-    ∙ ap (λ n. record { begin = n; node = Whole (plain_token text plain); end = lexeme.2 }) (sym (ap (λ (p : PlainLexeme). p.begin) places))
-    ∙ ap (λ n. record { begin = plain.begin; node = Whole (plain_token text plain); end = n }) (sym (ap (λ (p : PlainLexeme). p.end) places))
+    ∙ ap (λ n. record { begin = n; node = Whole (plain_token text plain); end = lexeme.2 }) (sym (ap (λ (p : Passed). p.begin) places))
+    ∙ ap (λ n. record { begin = plain.begin; node = Whole (plain_token text plain); end = n }) (sym (ap (λ (p : Passed). p.end) places))
 
 -- a lexeme without a value was passed
-pub valueless_told : (state : LexerState) (it : PlainKind) (lexeme : ℕ × Token × ℕ) (new : LexerState) → length state.reader.text.now < 2 ^ 32 → state.yielded_count ≤ length (outcome state.reader.text.now).lexemes → IsUtf8 state.reader.text.now
-    → ((value : Text) → token_view lexeme.1 ≡ Whole (token_of it value)) → HasAnswered state (Some (Ok lexeme)) new → HasTold state (Ok (Some (plain_valueless it lexeme.0 lexeme.2))) new
-valueless_told state it lexeme new short few utf8 token is =
-    let plain = plain_valueless it lexeme.0 lexeme.2 in (
-      symbol_inside state lexeme new plain short few utf8 is refl,
+pub valueless_passed : (state : LexerState) (it : Kind) (lexeme : ℕ × Token × ℕ) (new : LexerState) → is_plain it ≡ true → length state.reader.text.now < 2 ^ 32 → state.yielded_count ≤ length (outcome state.reader.text.now).lexemes → IsUtf8 state.reader.text.now
+    → ((value : Text) → token_view lexeme.1 ≡ Whole (token_of it value)) → HasAnswered state (Some (Ok lexeme)) new → HasPassedAs state it (valueless it lexeme.0 lexeme.2) new
+valueless_passed state it lexeme new sort short few utf8 token is =
+    let plain = valueless it lexeme.0 lexeme.2 in
+    plain_passes state it plain new sort (
+      symbol_inside state lexeme new plain sort short few utf8 is refl,
       subst (λ (view : Spanned TokenView). IsAheadPast state.reader.text.now view new.reader (left_in state) (outcome state.reader.text.now).fault) (symbol_shown state.reader.text.now lexeme plain (token _) refl) is,
     )
 
--- a pending token was passed
-pub pending_token_passed : (state : LexerState) (it : Advance) (lexeme : ℕ × Token × ℕ) (new : LexerState) → length state.reader.text.now < 2 ^ 32 → state.yielded_count ≤ length (outcome state.reader.text.now).lexemes → IsUtf8 state.reader.text.now
-    → IsOfPendingToken it (token_view lexeme.1) → HasAnswered state (Some (Ok lexeme)) new → HasTold state (told_as it lexeme.0 lexeme.2) new
-pending_token_passed state advance.Indent lexeme new short few utf8 token is = valueless_told state kind.Indent lexeme new short few utf8 (λ value. token) is
-pending_token_passed state advance.Dedent lexeme new short few utf8 token is = valueless_told state kind.Dedent lexeme new short few utf8 (λ value. token) is
-pending_token_passed state advance.FStringExprStart lexeme new short few utf8 token is = valueless_told state kind.FStringExprStart lexeme new short few utf8 (λ value. token) is
-pending_token_passed state advance.FStringEnd lexeme new short few utf8 token is = valueless_told state kind.FStringEnd lexeme new short few utf8 (λ value. token) is
-pending_token_passed state it lexeme new short few utf8 token is = absurd token
-
--- it is one lexeme
-pub pending_token_counted : (it : Advance) (view : TokenView) (begin end : ℕ) → IsOfPendingToken it view → told_count (told_as it begin end) ≡ 1
-pending_token_counted advance.Indent view begin end token = refl
-pending_token_counted advance.Dedent view begin end token = refl
-pending_token_counted advance.FStringExprStart view begin end token = refl
-pending_token_counted advance.FStringEnd view begin end token = refl
-pending_token_counted it view begin end token = absurd token
-
-pub advance_in_memory : (it : Advance) (view : TokenView) (begin end : ℕ) → IsOfPendingToken it view → is_out_of_memory (told_as it begin end) ≡ false
-advance_in_memory advance.OutOfMemory view begin end token = absurd token
-advance_in_memory it view begin end token = refl
-
--- what was passed is a lexeme, or has none
-pub lexeme_advances : (old : LexerState) (it : Advance) (new : LexerState) → it ≢ advance.Layout → HasToldNext old (told_as it new.lexeme_begin new.lexeme_end) new → HasAdvanced old it new
-lexeme_advances old advance.Layout new other is = absurd (other refl)
-lexeme_advances old it new other is = is
-
-pub advances_lexeme : (old : LexerState) (it : Advance) (new : LexerState) → it ≢ advance.Layout → HasAdvanced old it new → HasToldNext old (told_as it new.lexeme_begin new.lexeme_end) new
-advances_lexeme old advance.Layout new other is = absurd (other refl)
-advances_lexeme old it new other is = is
-
-pub pending_token_advances : (it : Advance) (view : TokenView) → IsOfPendingToken it view → it ≢ advance.Layout
-pending_token_advances it view token is = absurd (subst (λ (it : Advance). IsOfPendingToken it view) is token)
-
--- a lexer that owes no error has ended where its state has
-pub whole_going : (state : LexerState) (file : SourceFile) (has_run_out : Bool) (lexer : LexerView) → has_run_out ≡ false → lexer_view state file has_run_out ≡ lexer → lexer.has_ended ≡ false → state.has_ended ≡ false
-whole_going state file has_run_out lexer none is going = by state.has_ended refl
-  where
-    ended : (state.has_ended && not has_run_out) ≡ false
-    ended = ap (λ (v : LexerView). v.has_ended) is ∙ going
-
-    by : (b : Bool) → state.has_ended ≡ b → state.has_ended ≡ false
-    by true e = let both : true ≡ false = sym (ap (λ (b : Bool). b && true) e) ∙ ap (λ (b : Bool). state.has_ended && not b) (sym none) ∙ ended in cc
-    by false e = e
-
--- what a lexer says of itself after an answer of its state, which no error had ended
-pub view_after : (file : SourceFile) (has_run_out : Bool) (old : LexerState) (answer : Option (Result (ℕ × Token × ℕ) (OrMemory (Diagnosed ErrorKind)))) (new : LexerState) → (has_run_out ≡ true → HasRunOut old) → old.has_ended ≡ false
-    → view_of new ≡ record (view_of old) { yielded_count = old.yielded_count + yielded_by answer; has_ended = old.has_ended || is_ended_by answer; reads = new.reader.reads }
-    → lexer_view new file has_run_out ≡ record (lexer_view old file has_run_out) { yielded_count = old.yielded_count + yielded_by answer; has_ended = (lexer_view old file has_run_out).has_ended || is_ended_by answer; reads = new.reader.reads; cut = known_cut new }
-view_after file true old answer new run going after = absurd (let ended = (run refl).ended in cc)
-view_after file false old answer new run going after =
-    ap (λ (v : StateView). record { text = v.text; code_map = file; yielded_count = v.yielded_count; has_ended = v.has_ended && true; reads = v.reads; cut = known_cut new }) after
-    ∙ ap (λ has_ended. record { text = old.reader.text.now; code_map = file; yielded_count = old.yielded_count + yielded_by answer; has_ended = has_ended; reads = new.reader.reads; cut = known_cut new }) (both old.has_ended (is_ended_by answer))
-  where
-    both : (a b : Bool) → ((a || b) && true) ≡ ((a && true) || b)
-    both true b = refl
-    both false true = refl
-    both false false = refl
+-- what a lexer says of itself after an answer of its state
+pub view_after : (file : SourceFile) (old : LexerState) (count : ℕ) (ends : Bool) (new : LexerState) → view_of new ≡ record (view_of old) { yielded_count = old.yielded_count + count; has_ended = old.has_ended || ends; reads = new.reader.reads }
+    → lexer_view new file ≡ record (lexer_view old file) { yielded_count = old.yielded_count + count; has_ended = old.has_ended || ends; reads = new.reader.reads; cut = known_cut new }
+view_after file old count ends new after = ap (λ (v : StateView). record { text = v.text; code_map = file; yielded_count = v.yielded_count; has_ended = v.has_ended; reads = v.reads; cut = known_cut new }) after
 
 -- an ended state yields nothing
 pub some_going : (state : LexerState) (found : Option (Result (ℕ × Token × ℕ) (OrMemory (Diagnosed ErrorKind)))) (new : LexerState) → is_some found ≡ true → (state.has_ended ≡ true → (found ≡ None) × (new ≡ state)) → state.has_ended ≡ false
@@ -210,13 +246,43 @@ some_going state found new some ended = by state.has_ended refl
     by false e = e
 
 -- an ended state passes nothing
-pub told_going : (old : LexerState) (found : Result (Option PlainLexeme) AllocError) (new : LexerState) → (found ≡ (Ok None) → ⊥) → (old.has_ended ≡ true → (found ≡ (Ok None)) × (new ≡ old)) → old.has_ended ≡ false
-told_going old found new other ended = by old.has_ended refl
+pub passed_going : (old : LexerState) (passed : Passed) (new : LexerState) → (passed.kind ≡ kind.Last → ⊥) → (old.has_ended ≡ true → (passed.kind ≡ kind.Last) × (new ≡ old)) → old.has_ended ≡ false
+passed_going old passed new other ended = by old.has_ended refl
   where
     by : (b : Bool) → old.has_ended ≡ b → old.has_ended ≡ false
     by true is = absurd (other (ended is).0)
     by false is = is
 
+-- a plain kind isn't the last
+pub plain_goes : (it : Kind) → is_plain it ≡ true → it ≡ kind.Last → ⊥
+plain_goes it plain last = let both : is_plain kind.Last ≡ true = subst (λ (k : Kind). is_plain k ≡ true) last plain in cc
+
 -- what was read to pass a lexeme
-pub told_reads : (old new : LexerState) → IsLexing new → old.has_ended ≡ false → new.reader.text.now ≡ old.reader.text.now → new.has_ended ≡ (old.has_ended || false) → new.reader.reads ≤ most_reads old.reader.text.now
-told_reads old new lexing going text goes = subst (λ (t : Text). new.reader.reads ≤ most_reads t) text (lexing_read new lexing (goes ∙ ap (λ b. b || false) going))
+pub passed_reads : (old new : LexerState) → IsLexing new → old.has_ended ≡ false → new.reader.text.now ≡ old.reader.text.now → new.has_ended ≡ (old.has_ended || false) → new.reader.reads ≤ most_reads old.reader.text.now
+passed_reads old new lexing going text goes = subst (λ (t : Text). new.reader.reads ≤ most_reads t) text (lexing_read new lexing (goes ∙ ap (λ b. b || false) going))
+
+-- a plain lexeme that was passed lies in the text
+pub passed_within : (old : LexerState) (passed : Passed) (new : LexerState) → (old.has_ended ≡ true → (passed.kind ≡ kind.Last) × (new ≡ old)) → (old.has_ended ≡ false → HasPassed old passed new) → new.reader.text.now ≡ old.reader.text.now → is_plain passed.kind ≡ true → IsPlainIn new.reader.text.now passed
+passed_within old passed new ended is text plain =
+    let going = passed_going old passed new (plain_goes passed.kind plain) ended in
+    subst (λ (t : Text). IsPlainIn t passed) (sym text) (passed_plain old passed.kind passed new plain (is going)).0
+
+-- and is counted
+pub passed_counted : (old : LexerState) (passed : Passed) (new : LexerState) → view_of new ≡ record (view_of old) { yielded_count = old.yielded_count + passed_count passed.kind; has_ended = old.has_ended || is_out_of_memory passed.kind; reads = new.reader.reads } → is_plain passed.kind ≡ true → 0 < new.yielded_count
+passed_counted old passed new after plain = omega (arith, ap (λ (v : StateView). v.yielded_count) after, (plain_counts passed.kind plain).0)
+
+-- what a call answers of a state
+pub record IsNextAnswer (old : LexerState) (item : Option (Result (ℕ × Token × ℕ) (OrMemory (Diagnosed ErrorKind)))) (new : LexerState) : Type 0 where
+  pub ended : old.has_ended ≡ true → (item ≡ None) × (new ≡ old)
+  pub answer : old.has_ended ≡ false → HasAnswered old item new
+  pub lexing : IsLexing new
+  pub after : view_of new ≡ record (view_of old) { yielded_count = old.yielded_count + yielded_by item; has_ended = old.has_ended || is_ended_by item; reads = new.reader.reads }
+
+pub item_next : (old mid : LexerState) (passed : Passed) (item : Option (Result (ℕ × Token × ℕ) (OrMemory (Diagnosed ErrorKind)))) (new : LexerState) → (old.has_ended ≡ true → (passed.kind ≡ kind.Last) × (mid ≡ old)) → (old.has_ended ≡ false → HasPassed old passed mid) → IsLexing mid
+    → view_of mid ≡ record (view_of old) { yielded_count = old.yielded_count + passed_count passed.kind; has_ended = old.has_ended || is_out_of_memory passed.kind; reads = mid.reader.reads } → IsItemOf mid passed item new → IsNextAnswer old item new
+item_next old mid passed item new ended is lexing after taken = record {
+  ended = λ yes. (let none = ended yes in let last = last_item mid passed item new none.0 taken in (last.0, last.1 ∙ none.1));
+  answer = λ going. item_answers old mid passed item new (is going) (ap (λ (v : StateView). v.text) after) taken;
+  lexing = item_lexing mid passed item new lexing taken;
+  after = item_view old mid passed item new after taken;
+}

@@ -15,7 +15,6 @@ use Rattle.starlark_lexemes.specs.Inner.LexerStates.{IsAtFault, IsLexingIn}
 use Rattle.starlark_lexemes.specs.declared.lexer_state.LexerState.{LexerState}
 use Rattle.starlark_reader.specs.Inner.Reader.{IsAhead}
 use Rattle.starlark_reader.specs.Inner.ReadBounds.{HasRead}
-use Rattle.starlark_reader.specs.declared.lookahead.Lookahead.TheVariants as found
 use Rattle.starlark_reader.specs.declared.reader.Reader.{Reader}
 use Rattle.starlark_token.specs.Lexemes.{shown_lexeme}
 
@@ -26,5 +25,5 @@ passed_few text fault keeps = search (rules, repairs_keep, length-append, semico
 -- what the reader has ahead is what the lexer has left
 pub lexing_repaired : (text : Text) (fault : Spanned Fault) (old : LexerState) (reader : Reader) (count : ℕ) (here : IsAtFault text fault old) → KeepsLine text fault → IsUtf8 (repaired text fault) → count ≡ passed_count text fault
     → IsAhead (repaired text fault) reader reader.stage (map shown_lexeme (drop (passed_count text fault) (outcome (repaired text fault)).lexemes)) (outcome (repaired text fault)).fault
-    → HasRead (repaired text fault) reader → IsLexingIn (repaired text fault) (record old { yielded_count = count; has_ended = false; found = found.All; reader = reader })
+    → HasRead (repaired text fault) reader → IsLexingIn (repaired text fault) (record old { yielded_count = count; has_ended = false; is_at_code = false; reader = reader })
 lexing_repaired text fault old reader count here keeps utf8 is ahead read = search (rules, drop-map, repaired_len, passed_few)

@@ -1,4 +1,3 @@
 -- Definitions that only contracts of inner functions, and proofs, cite.
 pub mod LexerStates
-pub mod FoundKinds
 pub mod RawItems

@@ -4,3 +4,4 @@ pub mod CutAfter
 pub mod PlainLexemes
 pub mod SourceErrors
 pub mod Inner
+pub mod LexerSteps

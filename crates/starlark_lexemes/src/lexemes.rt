@@ -2,13 +2,13 @@
 
 ghost use Rattle.std.specs.Prelude.{◌≡◌, ◌≤◌, ◌+◌, ◌*◌, ◌^◌, ◌<◌, ◌↔◌, ◌||◌, ℕ, None, Some, length, true, false, IfOk, IfSome, IsErr, OnOk};
 ghost use Rattle.std.specs.List.{slice_get};
-ghost use Rattle.starlark_lexemes.specs.Lexer.{AnswersBetween, AnswersNext, AnswersWithin, HasReadFor, is_ended_by, most_reads, yielded_by};
+ghost use Rattle.starlark_lexemes.specs.Lexer.{AnswersBetween, AnswersNext, AnswersWithin, HasReadFor, is_ended_by, yielded_by};
 ghost use Rattle.starlark_lexemes.specs.CutAfter.{IsCutAfter, KnowsCut};
-ghost use Rattle.starlark_lexemes.specs.PlainLexemes.{IsPlainIn, passed_by, plain_view};
-ghost use Rattle.starlark_token.specs.TextItems.{Given, items};
+ghost use Rattle.starlark_lexemes.specs.LexerSteps.{HasReadForStep, IsStepIn, KnowsCutAfter, StepsTo, is_ended_by_step, stepped_by};
+ghost use Rattle.starlark_token.specs.TextItems.{items};
 
 use crate::lexer_state::LexerState;
-use crate::plain_lexeme::PlainLexeme;
+use crate::passed::Passed;
 use starlark_base::codemap::{CodeMap, OrMemory, SourceTooLong};
 use starlark_base::dialect::Dialect;
 use starlark_errors::eval_exception::EvalException;
@@ -18,6 +18,12 @@ use std::marker::Model;
 
 /// An item of a lexer: begin in bytes, token, end in bytes; or the fault, or out of memory.
 pub type Lexeme = Result<(usize, Token, usize), OrMemory<EvalException>>;
+
+/// What a step of a lexer yields: a plain lexeme, or what `Lexer::next` returns for anything else.
+pub enum Step {
+    Plain(Passed),
+    Other(Option<Lexeme>),
+}
 
 /// A lexer: an iterator over the lexemes of a text, up to its first fault if it has one.
 ///
@@ -29,20 +35,17 @@ pub struct Lexer<'a> {
     state: LexerState<'a>,
     code_map: CodeMap,
     alloc: Global,
-    /// Whether `next_plain` ran out of memory, which `next` has still to return.
-    has_run_out: bool,
 }
 
 impl<'a> Model for Lexer<'a> {
-    ghost use Rattle.std.specs.Prelude.{◌≡◌, true};
-    ghost use Rattle.starlark_lexemes.specs.Inner.LexerStates.{HasRunOut, IsLexing, lexer_view};
+    ghost use Rattle.starlark_lexemes.specs.Inner.LexerStates.{IsLexing, lexer_view};
     ghost use Rattle.starlark_lexemes.specs.Lexer.{LexerView};
 
     ghost Value = { LexerView };
 
-    ghost view = { λ lexer. lexer_view lexer.state lexer.code_map lexer.has_run_out };
+    ghost view = { λ lexer. lexer_view lexer.state lexer.code_map };
 
-    ghost invariant = { λ lexer. IsLexing lexer.state × (lexer.has_run_out ≡ true → HasRunOut lexer.state) };
+    ghost invariant = { λ lexer. IsLexing lexer.state };
 }
 
 impl<'a> Lexer<'a> {
@@ -67,7 +70,6 @@ impl<'a> Lexer<'a> {
             state: LexerState::new(alloc, input),
             code_map,
             alloc,
-            has_run_out: false,
         })
     }
 
@@ -90,10 +92,6 @@ impl<'a> Lexer<'a> {
         if item.is_some() {
             return item;
         }
-        if self.has_run_out {
-            self.has_run_out = false;
-            return Some(Err(OrMemory::Memory));
-        }
         // Not `None`: then the item would be dropped, which is inlined, too.
         if !self.state.has_fault() {
             return item;
@@ -101,29 +99,33 @@ impl<'a> Lexer<'a> {
         Some(Err(self.state.take_exception(&self.code_map)))
     }
 
-    /// Passes the next lexeme if it is plain, and returns it. `None` where it isn't, and where there
-    /// is none: `next` tells which.
+    /// Yields the next item as `next` does, but a plain lexeme without its token, so that no value is
+    /// allocated.
     ///
-    /// It doesn't allocate a value. Plain are names, keywords, symbols, `Newline`, `Indent`, `Dedent`,
-    /// comments, and string literals without escapes that one quote closes; and of f-strings a text
-    /// without escapes, and what ends it. For some of them, as the last `Newline` of a text, it returns
-    /// `None` too. Where it can't allocate for an indent, it returns `None`, and `next` returns out of
-    /// memory.
+    /// Plain are names, keywords, symbols, `Newline`, `Indent`, `Dedent`, comments, string literals
+    /// without escapes that one quote closes, and of f-strings a text without escapes, and what ends it.
+    /// Some of them, as the last `Newline` of a text, are yielded with their tokens.
     #[inline(always)]
-    pub fn next_plain(&mut self) -> Option<PlainLexeme>
-        ensures item { IfSome result (λ plain. slice_get (items self.old.text) self.old.yielded_count ≡ Some (Given (plain_view self.old.text plain))) }
-        ensures within { IfSome result (IsPlainIn self.old.text) }
-        ensures going { IfSome result (λ plain. self.old.has_ended ≡ false) }
-        ensures after { self.new ≡ record self.old { yielded_count = self.old.yielded_count + passed_by result; reads = self.new.reads; cut = self.new.cut } }
-        ensures cut { IfSome result (λ plain. KnowsCut self.new.text self.new.yielded_count self.new.cut) }
-        ensures reads { IfSome result (λ plain. self.new.reads ≤ most_reads self.old.text) }
+    pub fn step(&mut self) -> Step
+        ensures ended { self.old.has_ended ≡ true → StepsTo self.old.code_map self.old.text None result }
+        ensures item { self.old.has_ended ≡ false → StepsTo self.old.code_map self.old.text (slice_get (items self.old.text) self.old.yielded_count) result }
+        ensures within { IsStepIn self.old.text result }
+        ensures after { self.new ≡ record self.old { yielded_count = self.old.yielded_count + stepped_by result; has_ended = self.old.has_ended || is_ended_by_step result; reads = self.new.reads; cut = self.new.cut } }
+        ensures cut { KnowsCutAfter self.new.text self.new.yielded_count self.new.cut result }
+        ensures reads { self.old.has_ended ≡ false → HasReadForStep self.old.text result self.new.reads }
     {
-        match self.state.next_plain() {
-            Ok(Some(plain)) => return Some(plain),
-            Ok(None) => {}
-            Err(_) => self.has_run_out = true,
+        let passed = self.state.advance();
+        if passed.kind.is_plain() {
+            return Step::Plain(passed);
         }
-        None
+        let item = self.state.item(passed);
+        if item.is_some() {
+            return Step::Other(item);
+        }
+        if !self.state.has_fault() {
+            return Step::Other(item);
+        }
+        Step::Other(Some(Err(self.state.take_exception(&self.code_map))))
     }
 
     /// Offset in bytes where the text may be cut, if the lexemes yielded so far are those before it.
@@ -131,7 +133,7 @@ impl<'a> Lexer<'a> {
     /// The text up to the offset is a clean cut. Its lexemes but the closing `Newline` are those
     /// yielded so far; the text's other lexemes are those of the rest, moved. The offset is before the
     /// end of the text. `None` where there is no such offset, and after any error. Right after a lexeme
-    /// each is found, but maybe not after a `None` of `next_plain`. No byte is read.
+    /// each is found. No byte is read.
     #[inline(always)]
     pub fn cut(&self) -> Option<usize>
         ensures kept { IfSome result (IsCutAfter self.now.text self.now.yielded_count) }

@@ -1,151 +1,108 @@
-//! Lexes a text lexeme by lexeme. The fast path decides by the first bytes of a lexeme; what these
-//! don't determine comes from the reader.
+//! Lexes a text lexeme by lexeme: the first bytes of a lexeme tell how it is passed.
 
-ghost use Rattle.std.specs.Prelude.{◌≡◌, ◌≢◌, ◌<◌, ◌≤◌, ◌+◌, ◌-◌, ◌^◌, ◌&&◌, ◌||◌, ℕ, None, Ok, Some, codes, length, nat_eq, true, false, IfSome, IsSome, OnOk};
-ghost use Rattle.std.specs.List.{ends_with};
+ghost use Rattle.std.specs.Prelude.{◌≡◌, ◌≢◌, ◌<◌, ◌≤◌, ◌+◌, ◌-◌, ◌*◌, ◌^◌, ◌||◌, Err, None, Ok, Some, length, string_bytes, true, false, IfErr, IfOk, IsSome, OnOk};
 ghost use Rattle.std.specs.Option.{is_some};
 ghost use Rattle.std.specs.Str.{IsCharBoundary, IsUtf8};
-ghost use Rattle.starlark_grammar.specs.Cuts.{is_settled};
 ghost use Rattle.starlark_grammar.specs.Found.{passed_count as passed_lexemes};
 ghost use Rattle.starlark_grammar.specs.RepairLaws.{KeepsLine};
 ghost use Rattle.starlark_grammar.specs.Repairs.{repair_end, repaired};
 ghost use Rattle.starlark_grammar.specs.Tokens.{Fault, Spanned};
 ghost use Rattle.starlark_grammar.specs.Words.{Text};
-ghost use Rattle.starlark_grammar.specs.Reading.{History};
-ghost use Rattle.starlark_reader.specs.Inner.MarginCuts.{IsCutBefore};
-ghost use Rattle.starlark_reader.specs.Inner.Reader.{IsAtCode, IsAtEnd, IsReached, IsStateAfter, has_read_none};
-ghost use Rattle.starlark_lexemes.specs.Inner.LexerStates.{HasAdvanced, HasAnswered, HasFound, HasGivenNext, HasGoneOn, KnowsNext, HasTold, HasToldNext, HasTaken, HasTakenLast, HasThrown, IsAtFault, IsAtOpener, IsAtWord, IsBegun, IsReadNext, IsUnnamed, IsLexing, IsLexingIn, IsOfPendingToken, IsTakenNext, has_fault, is_out_of_memory, left_in, told_as, told_count, plain_string, taken_count, thrown_count, view_of};
-ghost use Rattle.starlark_lexemes.specs.Lexer.{is_ended_by, most_reads, yielded_by};
-ghost use Rattle.starlark_lexemes.specs.Inner.RawItems.{OffsetsHold};
-ghost use Rattle.starlark_lexemes.specs.PlainLexemes.{IsPlainIn};
-ghost use Rattle.starlark_token.specs.Lexemes.{IsWithin};
+ghost use Rattle.starlark_grammar.specs.declared.class.LiteralKind.TheVariants as literal;
+ghost use Rattle.starlark_reader.specs.Inner.Lookaheads.{is_slow, most_peeked};
 ghost use Rattle.starlark_reader.specs.Inner.Pending.{IsIdle, IsPendingToken, IsPending};
 ghost use Rattle.starlark_reader.specs.Inner.ReadBounds.{HasRead};
-ghost use Rattle.starlark_token.specs.TokenViews.{token_view};
-ghost use Rattle.starlark_lexemes.specs.Inner.FoundKinds.{IsFoundInCode, IsFoundOut};
-ghost use Rattle.starlark_reader.specs.Inner.Lookaheads.{IsFound};
-ghost use Rattle.starlark_reader.specs.declared.reader.Stage.TheVariants as Stage;
-ghost use Rattle.starlark_grammar.specs.declared.class.LiteralKind.TheVariants as kind;
+ghost use Rattle.starlark_reader.specs.Inner.Reader.{IsAtCode, IsAtEnd, IsInCode, IsTokenOf};
+ghost use Rattle.starlark_lexemes.specs.Inner.LexerStates.{HasAdvanced, HasAnswered, HasFound, HasPassed, HasPassedNext, HasTakenLast, HasThrown, IsAtFault, IsAtLiteral, IsAtText, IsAtWord, IsAtWordless, IsBegun, IsItemOf, IsLexing, IsLexingIn, IsReadNext, IsTakenNext, IsTakenOf, IsUnnamed, has_fault, is_out_of_memory, passed_count, passed_of, taken_count, thrown_count, view_of};
+ghost use Rattle.starlark_lexemes.specs.Lexer.{is_ended_by, most_reads, yielded_by};
+ghost use Rattle.starlark_lexemes.specs.Inner.RawItems.{OffsetsHold};
+ghost use Rattle.starlark_lexemes.specs.PlainLexemes.{IsPlainIn, is_plain, plain_value, token_of};
+ghost use Rattle.starlark_token.specs.Lexemes.{IsWithin};
+ghost use Rattle.starlark_token.specs.TokenViews.{Whole, token_view};
 
 use crate::lexemes::Lexeme;
-use crate::plain_lexeme::{PlainKind, PlainLexeme, token_of};
+use crate::passed::{Kind, Passed};
 use starlark_base::codemap::{CodeMap, OrMemory};
 use starlark_errors::eval_exception::EvalException;
 use starlark_errors::fault_exception::exception;
-use starlark_reader::lookahead::Lookahead;
 use starlark_reader::nesting::LexerMode;
 use starlark_reader::reader::{Before, Reader, Stage, TakenLineEnd};
+use starlark_reader::{ends_expression, own_token};
 use starlark_token::lexeme_error::LexemeError;
 use starlark_token::tokens::Token;
 use starlark_words::scanner::{Class, LiteralKind, Quote, Terminal, Word};
 use std::alloc::{AllocError, Global};
+use std::mem;
 
 /// The state of lexing a text, which all lexers and `LexedText` share.
 ///
-/// It yields the lexemes of the text one by one, and then its fault. Any error ends it.
-/// `lexeme_begin` and `lexeme_end` are the offsets of the lexeme that `advance_outside_code` or
-/// `look_further` passed last.
+/// It passes the lexemes of the text one by one, and then its fault. Any error ends it.
 // In this order for the reason that `Reader` has one.
 #[derive(Drop)]
 pub struct LexerState<'a> {
-    /// Number of lexemes, and faults, that were yielded so far.
+    /// Number of lexemes, and faults, that were passed so far.
     pub yielded_count: usize,
-    /// What lookahead has found, which no lexeme has been taken from.
-    found: Lookahead,
-    /// The word that was found, or the opener of the literal.
-    word: Word,
-    /// Length in bytes of the run that was found.
-    run: usize,
+    /// Whether what comes next is in code, and no lexeme is pending.
+    is_at_code: bool,
     /// Whether an error has ended the lexer.
     pub has_ended: bool,
     /// What reads the text, and where it is.
     pub reader: Reader<'a>,
-    lexeme_begin: usize,
-    lexeme_end: usize,
+    /// Where the lexeme that was passed last begins and ends, and its value if that is a part of the
+    /// text.
+    begin: usize,
+    end: usize,
+    value_begin: usize,
+    value_end: usize,
+    /// The token of the lexeme that was passed last, if it was made.
+    token: Token,
     alloc: Global,
 }
 
-/// What `advance_outside_code` or `look_further` has passed: a lexeme of a kind, or none.
-#[derive(Clone, Copy)]
-enum Advance {
-    /// None.
-    Nothing,
-    Indent,
-    Dedent,
-    /// A text of an f-string.
-    FStringText,
-    FStringExprStart,
-    FStringEnd,
-    Comment,
-    /// What has no lexeme.
-    Layout,
-    /// Out of memory, which ends the lexer.
-    OutOfMemory,
-}
-
-impl Advance {
-    /// The kind of a pending token.
-    #[tactic(auto, unfolding(starlark_token::specs::TokenViews::token_view))]
-    #[inline(always)]
-    fn of_pending_token(token: &Token) -> Advance
-        requires { IsPendingToken (token_view token.now) }
-        ensures { IsOfPendingToken result (token_view token.now) }
-    {
-        match token {
-            Token::Indent => Advance::Indent,
-            Token::Dedent => Advance::Dedent,
-            Token::FStringExprStart => Advance::FStringExprStart,
-            _ => Advance::FStringEnd,
-        }
-    }
-
-    /// The lexeme that was passed, between two offsets, if it is one.
-    #[inline]
-    fn lexeme(self, begin: usize, end: usize) -> Result<Option<PlainLexeme>, AllocError>
-        requires { self ≡ Advance.Comment → begin < end }
-        ensures { result ≡ told_as self begin end }
-    {
-        let kind = match self {
-            Advance::Nothing | Advance::Layout => return Ok(None),
-            Advance::OutOfMemory => return Err(AllocError),
-            Advance::FStringText => {
-                let text = PlainLexeme::new(PlainKind::FStringText, begin, end, begin);
-                return Ok(Some(text));
-            }
-            Advance::Comment => {
-                let comment = PlainLexeme::new(PlainKind::Comment, begin, end, begin + 1);
-                return Ok(Some(comment));
-            }
-            Advance::Indent => PlainKind::Indent,
-            Advance::Dedent => PlainKind::Dedent,
-            Advance::FStringExprStart => PlainKind::FStringExprStart,
-            Advance::FStringEnd => PlainKind::FStringEnd,
-        };
-        Ok(Some(PlainLexeme::new(kind, begin, end, end)))
-    }
-}
-
-/// What lookahead has found after a keyword or symbol: only the bracket depth can have changed it.
+/// The kind of a token that was pending.
+#[tactic(auto, unfolding(starlark_token::specs::TokenViews::token_view))]
 #[inline(always)]
-fn found_in_code(reader: &Reader<'_>) -> Lookahead
-    ensures { IsFoundInCode reader.now result }
+fn pending_kind(token: &Token) -> Kind
+    requires { IsPendingToken (token_view token.now) }
+    ensures plain { is_plain result ≡ true }
+    ensures token { (value : Text) → token_view token.now ≡ Whole (token_of result value) }
 {
-    match reader.nesting.mode() {
-        LexerMode::InText(_) => Lookahead::All,
-        _ => Lookahead::Nothing,
+    match token {
+        Token::Indent => Kind::Indent,
+        Token::Dedent => Kind::Dedent,
+        Token::FStringExprStart => Kind::FStringExprStart,
+        _ => Kind::FStringEnd,
     }
 }
 
-/// What lookahead has found after any lexeme.
+/// The kind of a keyword or symbol, whose token is dropped.
 #[inline(always)]
-fn found_after(reader: &Reader<'_>) -> Lookahead
-    ensures { IsFoundOut reader.now result }
+fn symbol_kind(token: Token, terminal: Terminal) -> Kind
+    requires { IsTokenOf terminal (token_view token) }
+    ensures plain { is_plain result ≡ true }
+    ensures token { (value : Text) → token_view token ≡ Whole (token_of result value) }
 {
-    if reader.pending.is_nothing() && matches!(reader.stage, Stage::Onward) {
-        found_in_code(reader)
+    if ends_expression(&token) {
+        Kind::FStringExprEnd
     } else {
-        Lookahead::All
+        Kind::Word(terminal)
     }
+}
+
+/// Whether code comes after a keyword or symbol: only the bracket depth can have changed it.
+#[inline(always)]
+fn stays_in_code(reader: &Reader<'_>) -> bool
+    ensures { result ≡ true → IsInCode reader.now }
+{
+    !matches!(reader.nesting.mode(), LexerMode::InText(_))
+}
+
+/// Whether code comes after any lexeme, and no lexeme is pending.
+#[inline(always)]
+fn is_at_code(reader: &Reader<'_>) -> bool
+    ensures { result ≡ true → (text : Text) → IsPending text reader.now.pending → IsAtCode text reader.now }
+{
+    reader.pending.is_nothing() && matches!(reader.stage, Stage::Onward) && stays_in_code(reader)
 }
 
 impl<'a> LexerState<'a> {
@@ -160,69 +117,79 @@ impl<'a> LexerState<'a> {
             reader: Reader::new(alloc, text),
             yielded_count: 0,
             has_ended: false,
-            found: Lookahead::All,
-            word: Word {
-                class: Class::Skipped,
-                len: 0,
-            },
-            run: 0,
-            lexeme_begin: 0,
-            lexeme_end: 0,
+            is_at_code: false,
+            begin: 0,
+            end: 0,
+            value_begin: 0,
+            value_end: 0,
+            token: Token::Newline,
         }
     }
 
-    /// The item of what the reader took here, after which `found` is found. Out of memory ends the
-    /// lexer.
+    /// Ends lexing where memory runs out.
     #[inline(always)]
-    fn item_of(
+    fn run_out(&mut self) -> Kind
+        ensures { (result ≡ Kind.OutOfMemory) × (self.new ≡ record self.old { has_ended = true; is_at_code = false }) }
+    {
+        self.has_ended = true;
+        self.is_at_code = false;
+        Kind::OutOfMemory
+    }
+
+    /// Takes over a lexeme that the reader took here. Out of memory ends the lexer.
+    #[inline(always)]
+    fn put_taken(
         &mut self,
         taken: Result<(usize, Token, usize), AllocError>,
-        found: Lookahead,
-    ) -> Option<Lexeme>
+        is_at_code: bool,
+    ) -> Kind
         requires taken { IsTakenNext self.old taken }
-        requires found { OnOk taken (IsFound self.old.reader.text.now self.old.reader self.old.word self.old.run found) }
-        ensures { HasGivenNext self.old result self.new }
+        requires read { OnOk taken (HasRead self.old.reader.text.now self.old.reader) }
+        requires code { OnOk taken (is_at_code ≡ true → IsAtCode self.old.reader.text.now self.old.reader) }
+        ensures { HasPassedNext self.old (passed_of self.new result) self.new }
     {
-        match taken {
-            Ok(lexeme) => {
-                self.yielded_count += 1;
-                self.found = found;
-                Some(Ok(lexeme))
-            }
-            Err(_) => {
-                self.has_ended = true;
-                self.found = Lookahead::All;
-                Some(Err(OrMemory::Memory))
-            }
-        }
+        let Ok((begin, token, end)) = taken else {
+            return self.run_out();
+        };
+        self.yielded_count += 1;
+        self.is_at_code = is_at_code;
+        self.begin = begin;
+        self.end = end;
+        self.token = token;
+        Kind::Made
     }
 
-    /// The item of what the reader read here: a lexeme, or nothing at a fault and at the text's end. Out
-    /// of memory ends the lexer.
+    /// Takes over what the reader read here: a lexeme, or nothing at a fault and at the text's end. Out of
+    /// memory ends the lexer.
     #[inline(always)]
-    fn item_read(
-        &mut self,
-        read: Result<Option<(usize, Token, usize)>, AllocError>,
-    ) -> Option<Lexeme>
+    fn put_read(&mut self, read: Result<Option<(usize, Token, usize)>, AllocError>) -> Kind
         requires { IsReadNext self.old read }
-        ensures { HasGivenNext self.old result self.new }
+        ensures { HasPassedNext self.old (passed_of self.new result) self.new }
     {
         let Some(taken) = read.transpose() else {
-            self.found = Lookahead::All;
-            return None;
+            self.is_at_code = false;
+            return Kind::Last;
         };
-        let found = found_after(&self.reader);
-        self.item_of(taken, found)
+        let is_at_code = is_at_code(&self.reader);
+        self.put_taken(taken, is_at_code)
     }
 
-    /// Next lexeme, a bytes literal whose opener has `len` bytes.
+    /// Passes the string or bytes literal whose opener is here, after which a run of `run` bytes is known.
+    // A call: it needs registers that a literal without escapes doesn't.
+    #[inline(never)]
+    fn pass_literal(&mut self, opener: Word, run: usize) -> Kind
+        requires { IsAtLiteral self.old opener run }
+        ensures { HasPassedNext self.old (passed_of self.new result) self.new }
+    {
+        let read = self.reader.read_literal(opener, run);
+        self.put_read(read)
+    }
+
+    /// Passes the bytes literal whose opener of `len` bytes is here.
     #[inline(always)]
-    fn next_bytes(&mut self, is_raw: bool, quote: Quote, len: usize) -> Option<Lexeme>
-        requires lexing { IsLexing self.old }
-        requires going { self.old.has_ended ≡ false }
-        requires found { self.old.found ≡ Lookahead.Word }
-        requires word { self.old.word ≡ record { class = Class.Opener kind.Bytes is_raw quote; len = len } }
-        ensures { HasGivenNext self.old result self.new }
+    fn pass_bytes(&mut self, is_raw: bool, quote: Quote, len: usize) -> Kind
+        requires { IsAtWord self.old (record { class = Class.Opener literal.Bytes is_raw quote; len = len }) (5 * len - 2) }
+        ensures { HasPassedNext self.old (passed_of self.new result) self.new }
     {
         match self
             .reader
@@ -230,23 +197,27 @@ impl<'a> LexerState<'a> {
         {
             Ok(body) => {
                 let taken = self.reader.take_plain_bytes(is_raw, quote, len, body);
-                self.item_of(taken, Lookahead::Nothing)
+                self.put_taken(taken, true)
             }
             Err(run) => {
-                let read = self.reader.read_literal(self.word, run);
-                self.item_read(read)
+                let class = Class::Opener {
+                    kind: LiteralKind::Bytes,
+                    is_raw,
+                    quote,
+                };
+                self.pass_literal(Word { class, len }, run)
             }
         }
     }
 
-    /// Next lexeme, which begins with a word that the fast path doesn't pass. `None` if it is a fault.
-    #[inline(always)]
-    fn next_word(&mut self, word: Word) -> Option<Lexeme>
-        requires lexing { IsLexing self.old }
-        requires going { self.old.has_ended ≡ false }
-        requires found { self.old.found ≡ Lookahead.Word }
-        requires word { self.old.word ≡ word }
-        ensures { HasGivenNext self.old result self.new }
+    /// Passes the word here, of which only the whole tells what it is: the start of an f-string, a
+    /// bytes literal, or a number; or stops at the fault that it is.
+    // A call: in line it costs each lexeme.
+    #[inline(never)]
+    fn pass_word(&mut self, word: Word) -> Kind
+        requires here { IsAtWord self.old word (most_peeked word) }
+        requires slow { is_slow word.class ≡ true }
+        ensures { HasPassedNext self.old (passed_of self.new result) self.new }
     {
         match word.class {
             Class::Opener {
@@ -255,211 +226,226 @@ impl<'a> LexerState<'a> {
                 quote,
             } => {
                 let taken = self.reader.take_fstring(is_raw, quote, word.len);
-                self.item_of(taken, Lookahead::All)
+                self.put_taken(taken, false)
             }
             Class::Opener {
                 kind: LiteralKind::Bytes,
                 is_raw,
                 quote,
-            } => self.next_bytes(is_raw, quote, word.len),
+            } => self.pass_bytes(is_raw, quote, word.len),
             _ => {
                 if let Some(digit) = self.reader.single_digit(word) {
                     let lexeme = self.reader.take_digit(digit);
-                    return self.item_of(Ok(lexeme), Lookahead::Nothing);
+                    return self.put_taken(Ok(lexeme), true);
                 }
                 if self.reader.is_plain_number(word) {
                     let taken = self.reader.take_number(word);
-                    return self.item_of(taken, Lookahead::Nothing);
+                    return self.put_taken(taken, true);
                 }
                 let read = self.reader.refuse_word(word);
-                self.item_read(read)
+                self.put_read(read)
             }
         }
     }
 
-    /// Next lexeme where the fast path doesn't pass it.
-    // A call: in line it costs each lexeme.
-    #[inline(never)]
-    fn next_of_all(&mut self) -> Option<Lexeme>
-        requires lexing { IsLexing self.old }
-        requires going { self.old.has_ended ≡ false }
-        requires next { KnowsNext self.old }
-        ensures { HasGivenNext self.old result self.new }
+    /// Passes what is here, where no word begins: the last `Newline` at the end of the text, or the `!` of
+    /// an f-string's expression; or stops at the fault that it is.
+    #[inline(always)]
+    fn pass_wordless(&mut self) -> Kind
+        requires { IsAtWordless self.old }
+        ensures { HasPassedNext self.old (passed_of self.new result) self.new }
     {
-        let read = match self.found {
-            Lookahead::Word => return self.next_word(self.word),
-            Lookahead::Wordless if self.reader.at == self.reader.text.len() => {
-                Ok(Some(self.reader.close()))
-            }
-            Lookahead::Wordless => self.reader.read_wordless(),
-            Lookahead::Literal => self.reader.read_literal(self.word, self.run),
-            Lookahead::Text => self.reader.read_text(self.run),
-            Lookahead::Nothing | Lookahead::All => Ok(None),
+        let read = if self.reader.at == self.reader.text.len() {
+            Ok(Some(self.reader.close()))
+        } else {
+            self.reader.read_wordless()
         };
-        self.item_read(read)
+        self.put_read(read)
     }
 
-    /// Counts a lexeme that was passed, between two offsets.
+    /// What was passed last, of a kind.
     #[inline(always)]
-    fn count_passed(&mut self, begin: usize, end: usize)
+    fn passed(&self, kind: Kind) -> Passed
+        ensures { result ≡ record { kind = kind; begin = self.now.begin; end = self.now.end; value_begin = self.now.value_begin; value_end = self.now.value_end } }
+    {
+        Passed {
+            kind,
+            begin: self.begin,
+            end: self.end,
+            value_begin: self.value_begin,
+            value_end: self.value_end,
+        }
+    }
+
+    /// Puts a lexeme of a plain kind without a value, between two offsets.
+    #[inline(always)]
+    fn put_plain(&mut self, kind: Kind, begin: usize, end: usize) -> Kind
         requires { self.old.yielded_count + 1 < 2 ^ 64 }
-        ensures same { self.new ≡ record self.old { yielded_count = self.old.yielded_count + 1; lexeme_begin = begin; lexeme_end = end; found = self.new.found } }
-        ensures found { IsFoundOut self.old.reader self.new.found }
+        ensures { (result ≡ kind) × (self.new ≡ record self.old { yielded_count = self.old.yielded_count + 1; begin = begin; end = end; value_begin = end; value_end = end }) }
+    {
+        self.put_valued(kind, begin, end, end, end)
+    }
+
+    /// Puts a lexeme of a plain kind, whose value is between two offsets.
+    #[inline(always)]
+    fn put_valued(
+        &mut self,
+        kind: Kind,
+        begin: usize,
+        end: usize,
+        value_begin: usize,
+        value_end: usize,
+    ) -> Kind
+        requires { self.old.yielded_count + 1 < 2 ^ 64 }
+        ensures { (result ≡ kind) × (self.new ≡ record self.old { yielded_count = self.old.yielded_count + 1; begin = begin; end = end; value_begin = value_begin; value_end = value_end }) }
     {
         self.yielded_count += 1;
-        self.lexeme_begin = begin;
-        self.lexeme_end = end;
-        self.found = found_after(&self.reader);
+        self.begin = begin;
+        self.end = end;
+        self.value_begin = value_begin;
+        self.value_end = value_end;
+        kind
     }
 
     /// Passes the first pending comment.
     #[inline(always)]
-    fn pass_pending_comment(&mut self) -> Advance
+    fn pass_pending_comment(&mut self) -> Kind
         requires lexing { IsLexing self.old }
         requires going { self.old.has_ended ≡ false }
-        requires all { self.old.found ≡ Lookahead.All }
         requires some { self.old.reader.pending.from < self.old.reader.pending.to }
-        ensures { HasAdvanced self.old result self.new }
+        ensures { HasPassedNext self.old (passed_of self.new result) self.new }
     {
         let reader = &mut self.reader;
         let (begin, end) = reader.pending.pass_comment(&mut reader.reads, reader.text);
-        self.count_passed(begin, end);
-        Advance::Comment
+        self.is_at_code = is_at_code(&self.reader);
+        self.put_valued(Kind::Comment, begin, end, begin + 1, end)
     }
 
-    /// Passes the first pending lexeme, where no comments are pending. Returns its kind.
+    /// Passes the first pending lexeme, where no comments are pending; `Layout` if none is.
     #[inline(always)]
-    fn pass_pending_token(&mut self) -> Advance
+    fn pass_pending_token(&mut self) -> Kind
         requires lexing { IsLexing self.old }
         requires going { self.old.has_ended ≡ false }
-        requires all { self.old.found ≡ Lookahead.All }
         requires none { self.old.reader.pending.to ≤ self.old.reader.pending.from }
-        ensures passed { result ≢ Advance.Nothing → HasAdvanced self.old result self.new }
-        ensures stays { result ≡ Advance.Nothing → self.new ≡ self.old }
-        ensures idle { result ≡ Advance.Nothing → IsIdle self.old.reader.text.now self.old.reader.pending }
+        ensures passed { result ≢ Kind.Layout → HasPassedNext self.old (passed_of self.new result) self.new }
+        ensures stays { result ≡ Kind.Layout → self.new ≡ self.old }
+        ensures idle { result ≡ Kind.Layout → IsIdle self.old.reader.text.now self.old.reader.pending }
     {
         let Some((begin, token, end)) = self.reader.pending.next_token() else {
-            return Advance::Nothing;
+            return Kind::Layout;
         };
-        self.count_passed(begin, end);
-        Advance::of_pending_token(&token)
+        self.is_at_code = is_at_code(&self.reader);
+        self.put_plain(pending_kind(&token), begin, end)
     }
 
-    /// Passes the f-string text that comes next if it has no escapes, or what ends it if it is empty.
-    /// Returns what was passed.
+    /// Passes the f-string text here, of which a run of `run` bytes is known, or what ends it if it is
+    /// empty.
+    #[inline(never)]
+    fn pass_decoded_text(&mut self, run: usize) -> Kind
+        requires { IsAtText self.old run }
+        ensures { HasPassedNext self.old (passed_of self.new result) self.new }
+    {
+        let read = self.reader.read_text(run);
+        self.put_read(read)
+    }
+
+    /// Passes the f-string text that comes next, or what ends it if it is empty; `Layout` if code comes
+    /// next.
     #[inline(always)]
-    fn pass_fstring_text(&mut self) -> Advance
+    fn pass_fstring_text(&mut self) -> Kind
         requires lexing { IsLexing self.old }
         requires going { self.old.has_ended ≡ false }
-        requires all { self.old.found ≡ Lookahead.All }
+        requires out { self.old.is_at_code ≡ false }
         requires stage { self.old.reader.stage ≡ Stage.Onward }
         requires idle { IsIdle self.old.reader.text.now self.old.reader.pending }
         ensures { HasAdvanced self.old result self.new }
     {
         let found = match self.reader.plain_text() {
             Some(Ok(found)) => found,
-            Some(Err(run)) => {
-                self.found = Lookahead::Text;
-                self.run = run;
-                return Advance::Nothing;
-            }
+            Some(Err(run)) => return self.pass_decoded_text(run),
             None => {
-                self.found = Lookahead::Nothing;
-                return Advance::Layout;
+                self.is_at_code = true;
+                return Kind::Layout;
             }
         };
         if found.len == 0 {
             let (begin, token, end) = self.reader.take_chunk_end(found);
-            self.count_passed(begin, end);
-            return Advance::of_pending_token(&token);
+            self.is_at_code = is_at_code(&self.reader);
+            return self.put_plain(pending_kind(&token), begin, end);
         }
         let begin = self.reader.at;
         self.reader.pass_chunk(found);
-        self.count_passed(begin, begin + found.len);
-        Advance::FStringText
+        let end = begin + found.len;
+        self.put_valued(Kind::FStringText, begin, end, begin, end)
     }
 
-    /// Passes what comes next where lookahead in code is spent: a pending lexeme, the plain text of an
-    /// f-string, or the first margin. Returns what was passed; its offsets are `lexeme_begin` and
-    /// `lexeme_end`.
+    /// Passes what comes next where that isn't known to be code: a pending lexeme, the text of an
+    /// f-string, or the first margin. `Layout` where that was a margin, and where code comes next.
     // A kind in a register: a result in memory costs each lexeme.
     #[inline(never)]
-    fn advance_outside_code(&mut self) -> Advance
+    fn advance_outside_code(&mut self) -> Kind
         requires lexing { IsLexing self.old }
         requires going { self.old.has_ended ≡ false }
-        requires found { self.old.found ≢ Lookahead.Nothing }
+        requires out { self.old.is_at_code ≡ false }
         ensures { HasAdvanced self.old result self.new }
     {
-        if !matches!(self.found, Lookahead::All) {
-            return Advance::Nothing;
-        }
         if self.reader.pending.has_comments() {
             return self.pass_pending_comment();
         }
         match self.pass_pending_token() {
-            Advance::Nothing => {}
+            Kind::Layout => {}
             passed => return passed,
         }
         match self.reader.stage {
             Stage::Begin => {}
             Stage::Onward => return self.pass_fstring_text(),
-            _ => return Advance::Nothing,
+            _ => return Kind::Last,
         }
         let Ok(()) = self.reader.read_first_margin() else {
-            self.has_ended = true;
-            return Advance::OutOfMemory;
+            return self.run_out();
         };
-        self.found = match found_after(&self.reader) {
-            // No word begins at the text's end.
-            Lookahead::Nothing if self.reader.at == self.reader.text.len() => Lookahead::Wordless,
-            found => found,
-        };
-        Advance::Layout
+        self.is_at_code = is_at_code(&self.reader);
+        Kind::Layout
     }
 
     /// Passes the name of `len` bytes here.
     // Always, as `pass_symbol` and `pass_string`: as plain `inline` these are calls (39 % of a mix).
     #[inline(always)]
-    fn pass_name(&mut self, len: usize) -> Result<Option<PlainLexeme>, AllocError>
-        requires { IsAtWord self.old (record { class = Class.Identifier; len = len }) }
-        ensures { HasToldNext self.old result self.new }
+    fn pass_name(&mut self, len: usize) -> Passed
+        requires { IsAtWord self.old (record { class = Class.Identifier; len = len }) (5 * len - 2) }
+        ensures { HasPassedNext self.old result self.new }
     {
         let begin = self.reader.at;
         self.yielded_count += 1;
         self.reader.step_over(len, Before::Other);
         let end = self.reader.at;
-        let name = PlainLexeme::new(PlainKind::Identifier, begin, end, begin);
-        Ok(Some(name))
+        Passed {
+            kind: Kind::Identifier,
+            begin,
+            end,
+            value_begin: begin,
+            value_end: end,
+        }
     }
 
     /// Passes the keyword or symbol of `len` bytes here.
     #[inline(always)]
-    fn pass_symbol(
-        &mut self,
-        terminal: Terminal,
-        len: usize,
-    ) -> Result<Option<PlainLexeme>, AllocError>
-        requires { IsAtWord self.old (record { class = Class.Fixed terminal; len = len }) }
-        ensures { HasToldNext self.old result self.new }
+    fn pass_symbol(&mut self, terminal: Terminal, len: usize) -> Passed
+        requires { IsAtWord self.old (record { class = Class.Fixed terminal; len = len }) (5 * len - 2) }
+        ensures { HasPassedNext self.old result self.new }
     {
         self.yielded_count += 1;
-        let lexeme = self.reader.take_terminal(terminal, len);
-        self.found = found_in_code(&self.reader);
-        Ok(Some(PlainLexeme::of_symbol(terminal, lexeme)))
+        let (begin, token, end) = self.reader.take_terminal(terminal, len);
+        self.is_at_code = stays_in_code(&self.reader);
+        Passed::valueless(symbol_kind(token, terminal), begin, end)
     }
 
-    /// Passes the string literal whose opener of `len` bytes is here, if it has no escapes and one
-    /// quote closes it.
+    /// Passes the string literal whose opener of `len` bytes is here.
     // Always: as a call it costs 3 % of BUILD files.
     #[inline(always)]
-    fn pass_string(
-        &mut self,
-        is_raw: bool,
-        quote: Quote,
-        len: usize,
-    ) -> Result<Option<PlainLexeme>, AllocError>
-        requires { IsAtOpener self.old is_raw quote len }
-        ensures { HasToldNext self.old result self.new }
+    fn pass_string(&mut self, is_raw: bool, quote: Quote, len: usize) -> Passed
+        requires { IsAtWord self.old (record { class = Class.Opener literal.Text is_raw quote; len = len }) (5 * len - 2) }
+        ensures { HasPassedNext self.old result self.new }
     {
         let begin = self.reader.at;
         match self
@@ -470,13 +456,13 @@ impl<'a> LexerState<'a> {
                 self.reader.step_over(len + body + 1, Before::Other);
                 self.yielded_count += 1;
                 let end = self.reader.at;
-                Ok(Some(PlainLexeme {
-                    kind: PlainKind::String,
+                Passed {
+                    kind: Kind::String,
                     begin,
                     end,
                     value_begin: begin + len,
                     value_end: end - 1,
-                }))
+                }
             }
             Err(run) => {
                 let class = Class::Opener {
@@ -484,70 +470,60 @@ impl<'a> LexerState<'a> {
                     is_raw,
                     quote,
                 };
-                self.found = Lookahead::Literal;
-                self.word = Word { class, len };
-                self.run = run;
-                Ok(None)
+                let kind = self.pass_literal(Word { class, len }, run);
+                self.passed(kind)
             }
         }
     }
 
-    /// Finds the word here, where the first two bytes tell none. Passes it if it is skipped, or a
-    /// comment, as `advance_outside_code` does.
+    /// Passes what is here, where the first two bytes tell no word. `Layout` where that has no lexeme.
     // A call: in line it costs each lexeme.
     #[inline(never)]
-    fn look_further(&mut self) -> Advance
+    fn look_further(&mut self) -> Kind
         requires { IsUnnamed self.old }
         ensures { HasAdvanced self.old result self.new }
     {
         let Some(word) = self.reader.unnamed_word() else {
-            self.found = Lookahead::Wordless;
-            return Advance::Nothing;
+            return self.pass_wordless();
         };
         match word.class {
             Class::Skipped => {
                 self.reader.step_over(word.len, Before::Gap);
-                Advance::Layout
+                Kind::Layout
             }
             Class::Comment => {
                 let begin = self.reader.at;
                 self.reader.step_over(word.len, Before::Other);
-                self.count_passed(begin, self.reader.at);
-                Advance::Comment
+                let end = self.reader.at;
+                self.put_valued(Kind::Comment, begin, end, begin + 1, end)
             }
-            _ => {
-                self.found = Lookahead::Word;
-                self.word = word;
-                Advance::Nothing
-            }
+            _ => self.pass_word(word),
         }
     }
 
-    /// Passes the next lexeme if the fast path decides it: a name, a keyword, a symbol, a newline, a
-    /// comment, a string literal without escapes, a pending lexeme, or a text of an f-string without
-    /// escapes.
+    /// Passes the next lexeme, or tells why it passes none. It never returns `Layout`.
     #[inline(always)]
-    pub(crate) fn next_plain(&mut self) -> Result<Option<PlainLexeme>, AllocError>
+    pub(crate) fn advance(&mut self) -> Passed
         requires { IsLexing self.old }
-        ensures ended { self.old.has_ended ≡ true → (result ≡ Ok None) × (self.new ≡ self.old) }
-        ensures passed { self.old.has_ended ≡ false → HasTold self.old result self.new }
+        ensures ended { self.old.has_ended ≡ true → (result.kind ≡ Kind.Last) × (self.new ≡ self.old) }
+        ensures passed { self.old.has_ended ≡ false → HasPassed self.old result self.new }
         ensures lexing { IsLexing self.new }
-        ensures after { view_of self.new ≡ record (view_of self.old) { yielded_count = self.old.yielded_count + told_count result; has_ended = self.old.has_ended || is_out_of_memory result; reads = self.new.reader.reads } }
+        ensures after { view_of self.new ≡ record (view_of self.old) { yielded_count = self.old.yielded_count + passed_count result.kind; has_ended = self.old.has_ended || is_out_of_memory result.kind; reads = self.new.reader.reads } }
     {
         loop {
-            if !self.found.is_nothing() {
+            if !self.is_at_code {
                 if self.has_ended {
-                    return Ok(None);
+                    return self.passed(Kind::Last);
                 }
                 match self.advance_outside_code() {
-                    Advance::Layout => continue,
-                    advance => return advance.lexeme(self.lexeme_begin, self.lexeme_end),
+                    Kind::Layout => continue,
+                    kind => return self.passed(kind),
                 }
             }
             let Some(Word { class, len }) = self.reader.common_word() else {
                 match self.look_further() {
-                    Advance::Layout => continue,
-                    advance => return advance.lexeme(self.lexeme_begin, self.lexeme_end),
+                    Kind::Layout => continue,
+                    kind => return self.passed(kind),
                 }
             };
             match class {
@@ -556,23 +532,20 @@ impl<'a> LexerState<'a> {
                 Class::LineEnd => {
                     let begin = self.reader.at;
                     let Ok(line_end) = self.reader.take_line_end(len) else {
-                        self.has_ended = true;
-                        self.found = Lookahead::All;
-                        return Err(AllocError);
+                        let kind = self.run_out();
+                        return self.passed(kind);
                     };
                     match line_end {
                         TakenLineEnd::Passed => continue,
                         TakenLineEnd::Fault => {
-                            self.found = Lookahead::All;
-                            return Ok(None);
+                            self.is_at_code = false;
+                            return self.passed(Kind::Last);
                         }
-                        TakenLineEnd::Pending => self.found = Lookahead::All,
+                        TakenLineEnd::Pending => self.is_at_code = false,
                         TakenLineEnd::Newline => {}
                     }
                     self.yielded_count += 1;
-                    let end = begin + len;
-                    let newline = PlainLexeme::new(PlainKind::Newline, begin, end, end);
-                    return Ok(Some(newline));
+                    return Passed::valueless(Kind::Newline, begin, begin + len);
                 }
                 Class::Opener {
                     kind: LiteralKind::Text,
@@ -581,47 +554,69 @@ impl<'a> LexerState<'a> {
                 } => return self.pass_string(is_raw, quote, len),
                 Class::Skipped => self.reader.step_over(len, Before::Gap),
                 _ => {
-                    self.found = Lookahead::Word;
-                    self.word = Word { class, len };
-                    return Ok(None);
+                    let kind = self.pass_word(Word { class, len });
+                    return self.passed(kind);
                 }
             }
         }
     }
 
-    /// The item of a plain lexeme, which was passed. Out of memory ends the lexer.
+    /// A copy of the value of a plain lexeme that was passed. Out of memory, which is the error, ends the
+    /// lexer.
     #[inline(always)]
-    fn take(&mut self, plain: PlainLexeme) -> Option<Lexeme>
-        requires within { IsPlainIn self.old.reader.text.now plain }
+    fn copied(&mut self, passed: Passed) -> Result<String, Kind>
+        requires within { IsPlainIn self.old.reader.text.now passed }
         requires counted { 0 < self.old.yielded_count }
-        ensures { HasTaken self.old plain result self.new }
+        ensures value { IfOk result (λ value. (string_bytes value ≡ plain_value self.old.reader.text.now passed) × (self.new ≡ self.old)) }
+        ensures memory { IfErr result (λ it. (it ≡ Kind.OutOfMemory) × (self.new ≡ record self.old { yielded_count = self.old.yielded_count - 1; has_ended = true; is_at_code = false })) }
     {
-        match token_of(plain, self.alloc, self.reader.text) {
-            Ok(token) => Some(Ok((plain.begin, token, plain.end))),
+        let text = self.reader.text;
+        match String::from_str(self.alloc, &text[passed.value_begin..passed.value_end]) {
+            Ok(value) => Ok(value),
             Err(_) => {
                 self.yielded_count -= 1;
-                self.has_ended = true;
-                self.found = Lookahead::All;
-                Some(Err(OrMemory::Memory))
+                Err(self.run_out())
             }
         }
     }
 
-    /// The next item where the fast path doesn't decide it.
-    // Inlined, and called last: else each lexeme fills memory for what it returns (6 % of a mix).
+    /// The token of what was passed last, which is taken once. The error is why there is none.
+    // One `match`, an arm for each kind: so what passes a kind goes on in its arm (4 % of a mix).
     #[inline(always)]
-    fn next_slowly(&mut self) -> Option<Lexeme>
-        requires lexing { IsLexing self.old }
-        requires next { self.old.has_ended ≡ false → KnowsNext self.old }
-        ensures ended { self.old.has_ended ≡ true → (result ≡ None) × (self.new ≡ self.old) }
-        ensures answer { self.old.has_ended ≡ false → HasAnswered self.old result self.new }
-        ensures lexing { IsLexing self.new }
-        ensures after { view_of self.new ≡ record (view_of self.old) { yielded_count = self.old.yielded_count + yielded_by result; has_ended = self.old.has_ended || is_ended_by result; reads = self.new.reader.reads } }
+    pub(crate) fn take(&mut self, passed: Passed) -> Result<Token, Kind>
+        requires within { is_plain passed.kind ≡ true → IsPlainIn self.old.reader.text.now passed }
+        requires counted { is_plain passed.kind ≡ true → 0 < self.old.yielded_count }
+        ensures { IsTakenOf self.old passed result self.new }
     {
-        if self.has_ended {
-            return None;
+        match passed.kind {
+            Kind::Word(terminal) => Ok(own_token(terminal)),
+            Kind::Identifier => Ok(Token::Identifier(self.copied(passed)?)),
+            Kind::String => Ok(Token::String(self.copied(passed)?)),
+            Kind::FStringText => Ok(Token::FStringText(self.copied(passed)?)),
+            Kind::Comment => Ok(Token::Comment(self.copied(passed)?)),
+            Kind::Newline => Ok(Token::Newline),
+            Kind::Indent => Ok(Token::Indent),
+            Kind::Dedent => Ok(Token::Dedent),
+            Kind::FStringExprStart => Ok(Token::FStringExprStart),
+            Kind::FStringExprEnd => Ok(Token::FStringExprEnd),
+            Kind::FStringEnd => Ok(Token::FStringEnd),
+            Kind::Made => Ok(mem::replace(&mut self.token, Token::Newline)),
+            Kind::Layout | Kind::Last | Kind::OutOfMemory => Err(passed.kind),
         }
-        self.next_of_all()
+    }
+
+    /// The item of what was passed last: a lexeme, out of memory, or none.
+    #[inline(always)]
+    pub(crate) fn item(&mut self, passed: Passed) -> Option<Lexeme>
+        requires within { is_plain passed.kind ≡ true → IsPlainIn self.old.reader.text.now passed }
+        requires counted { is_plain passed.kind ≡ true → 0 < self.old.yielded_count }
+        ensures { IsItemOf self.old passed result self.new }
+    {
+        match self.take(passed) {
+            Ok(token) => Some(Ok((passed.begin, token, passed.end))),
+            Err(Kind::OutOfMemory) => Some(Err(OrMemory::Memory)),
+            Err(_) => None,
+        }
     }
 
     /// The next lexeme, or out of memory in its place; `None` after all, and after any error. No result
@@ -634,11 +629,8 @@ impl<'a> LexerState<'a> {
         ensures lexing { IsLexing self.new }
         ensures after { view_of self.new ≡ record (view_of self.old) { yielded_count = self.old.yielded_count + yielded_by result; has_ended = self.old.has_ended || is_ended_by result; reads = self.new.reader.reads } }
     {
-        match self.next_plain() {
-            Ok(Some(plain)) => self.take(plain),
-            Ok(None) => self.next_slowly(),
-            Err(_) => Some(Err(OrMemory::Memory)),
-        }
+        let passed = self.advance();
+        self.item(passed)
     }
 
     /// The next lexeme, and after the last one the fault, between two offsets, if the text has one; out of
@@ -670,13 +662,14 @@ impl<'a> LexerState<'a> {
     {
         LexerState {
             yielded_count: self.yielded_count,
-            found: self.found,
-            word: self.word,
-            run: self.run,
+            is_at_code: self.is_at_code,
             has_ended: self.has_ended,
             reader: self.reader.over(text),
-            lexeme_begin: self.lexeme_begin,
-            lexeme_end: self.lexeme_end,
+            begin: self.begin,
+            end: self.end,
+            value_begin: self.value_begin,
+            value_end: self.value_end,
+            token: self.token,
             alloc: self.alloc,
         }
     }
@@ -694,7 +687,7 @@ impl<'a> LexerState<'a> {
     {
         self.yielded_count = self.yielded_count - 1 + (end - begin);
         self.has_ended = false;
-        self.found = Lookahead::All;
+        self.is_at_code = false;
         self.reader.go_on(begin, end);
     }
 
@@ -719,7 +712,7 @@ impl<'a> LexerState<'a> {
         if self.has_ended {
             return None;
         }
-        self.found = Lookahead::All;
+        self.is_at_code = false;
         let fault = self.reader.take_fault()?;
         self.yielded_count += 1;
         self.has_ended = true;

@@ -5,5 +5,5 @@
 
 pub mod lexemes;
 pub mod lexer_state;
-pub mod plain_lexeme;
+pub mod passed;
 pub mod source_error;

@@ -7,7 +7,6 @@
 
 mod indent_stack;
 mod literal;
-pub mod lookahead;
 mod margins;
 pub mod nesting;
 pub mod pending;

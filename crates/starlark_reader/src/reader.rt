@@ -1,6 +1,6 @@
 //! The reader: reads a text piece by piece, and stores what later pieces depend on.
 
-ghost use Rattle.std.specs.Prelude.{◌&&◌, ◌≡◌, ◌≢◌, true, false, ◌<◌, ◌≤◌, ◌+◌, ◌-◌, ◌*◌, ◌^◌, [], ℕ, None, Some, List, Option, codes, drop, length, map, nat_eq, nat_lt, take, OnErr, OnOk, IfErr, IfOk, IfSome};
+ghost use Rattle.std.specs.Prelude.{◌&&◌, ◌≡◌, ◌≢◌, true, false, ◌<◌, ◌≤◌, ◌+◌, ◌-◌, ◌*◌, ◌^◌, [], ℕ, None, Some, List, Option, codes, drop, length, map, nat_eq, take, OnErr, OnOk, IfErr, IfOk, IfSome};
 ghost use Rattle.std.specs.List.{ends_with};
 ghost use Rattle.std.specs.Str.{IsCharBoundary};
 ghost use Rattle.starlark_words.specs.Inner.Reads.{AreReads, more_reads};
@@ -15,13 +15,13 @@ ghost use Rattle.starlark_reader.specs.Inner.MarginViews.{IsMargin, spaces_margi
 ghost use Rattle.starlark_grammar.specs.Pieces as grammar;
 ghost use Rattle.starlark_grammar.specs.declared.class.Class.TheVariants as class;
 ghost use Rattle.starlark_grammar.specs.declared.class.LiteralKind.TheVariants as kind;
-ghost use Rattle.starlark_reader.specs.Inner.Pending.{IsCommentIn, IsIdle, IsPendingToken, IsPending, comment_lexeme, owed, pending_lexemes};
+ghost use Rattle.starlark_reader.specs.Inner.Pending.{IsIdle, IsPendingToken, owed, pending_lexemes};
 ghost use Rattle.starlark_reader.specs.Inner.MarginCuts.{IsCutBefore};
 ghost use Rattle.starlark_reader.specs.Inner.ReadBounds.{HasStarted, HasScanned, HasScannedHere, HasRead, HasReadAt, HasReadLast, IsMarginRead, IsPassedBy, IsTaken};
-ghost use Rattle.starlark_reader.specs.Inner.Reader.{HasSomething, IsText, IsAtLineEnd, IsAtStep, IsLineEndStep, IsSound, KeepsAhead, PassesNext, Takes, TakesNext, has_read_none, is_fault, IsAhead, IsAheadAfter, IsAtCode, IsBangHere, IsInCode, IsInFlatMargin, IsReached, IsStateAfter, IsStateAtFault, IsAtEnd, IsLast, IsPlainTextHere, IsRead, IsReadPast, IsReady, IsTokenOf, IsWordHere, before_view, chunk_lexemes, fstring_text_lexeme, left_here, left_to_read, name_lexeme, newline_of, step_here, text_lexeme};
+ghost use Rattle.starlark_reader.specs.Inner.Reader.{HasSomething, IsAtLineEnd, IsAtStep, IsLineEndStep, IsSound, KeepsAhead, Takes, TakesNext, has_read_none, IsAhead, IsAtCode, IsBangHere, IsInCode, IsReached, IsStateAfter, IsStateAtFault, IsAtEnd, IsLast, IsPlainTextHere, IsRead, IsReadPast, IsTokenOf, IsWordHere, chunk_lexemes, left_here, left_to_read, newline_of, step_here};
 ghost use Rattle.starlark_reader.specs.Inner.PieceViews.{IsLineEnd};
-ghost use Rattle.starlark_reader.specs.Inner.Lookaheads.{HasPeeked, IsFound, IsTextRun};
-ghost use Rattle.starlark_grammar.specs.Cuts.{is_layout, is_settled};
+ghost use Rattle.starlark_reader.specs.Inner.Lookaheads.{HasPeeked, IsLiteralHere, IsTextRun};
+ghost use Rattle.starlark_grammar.specs.Cuts.{is_settled};
 ghost use Rattle.starlark_grammar.specs.Found.{passed_count};
 ghost use Rattle.starlark_grammar.specs.RepairLaws.{KeepsLine};
 ghost use Rattle.starlark_grammar.specs.Repairs.{repair_end, repaired};
@@ -37,7 +37,6 @@ use crate::indent_stack::IndentStack;
 use crate::literal::{
     Chunk, Opening, chunk_from, literal_piece, opening_of, plain_text, quotes_of,
 };
-use crate::lookahead::Lookahead;
 use crate::margins::{Margin, margin_of, plain_margin};
 use crate::nesting::{LexerMode, Nesting};
 use crate::pending::{AfterComments, Pending, text_end};
@@ -793,7 +792,7 @@ impl<'a> Reader<'a> {
         run: usize,
     ) -> Result<Option<(usize, Token, usize)>, AllocError>
         requires sound { IsSound self.old }
-        requires found { IsFound self.old.text.now self.old opener run Lookahead.Literal }
+        requires found { IsLiteralHere self.old.text.now self.old opener run }
         ensures text { self.new.text ≡ self.old.text }
         ensures ahead { IfOk result (λ given. TakesNext self.old given self.new) }
         ensures end { IfOk result (λ given. given ≡ None → IsAtEnd self.old.text.now self.new) }

@@ -1,5 +1,5 @@
 -- A lexer that goes on after faults: what is left to it, before and after each answer.
-use Rattle.std.proofs.Common.{◌≡◌, ◌≤◌, ◌+◌, ◌-◌, ◌*◌, ℕ, false, List, [], ◌∷◌, map, length, drop, take, refl, ap, sym, subst, ◌∙◌, arith, Ok, Err, None, Some, IfSome, rules}
+use Rattle.std.proofs.Common.{◌≡◌, ◌≤◌, ◌+◌, ◌-◌, ◌*◌, ℕ, true, false, List, [], ◌∷◌, map, length, drop, take, refl, ap, sym, subst, ◌∙◌, arith, Ok, Err, None, Some, IfSome, rules}
 use Rattle.std.proofs.lemmas.List.{length-drop}
 use Rattle.std.proofs.lemmas.Str.{IsCharBoundary-from_drop, IsCharBoundary-from_rest, IsUtf8-drop}
 use Rattle.std.specs.Result.{is_err}
@@ -33,10 +33,9 @@ use Rattle.starlark_grammar.specs.Reading.{outcome}
 use Rattle.starlark_grammar.specs.Tokens.{Fault, Lexeme, Spanned, moved}
 use Rattle.starlark_grammar.specs.Words.{Text}
 use Rattle.starlark_reader.specs.Inner.Reader.{IsSomething}
-use Rattle.starlark_reader.proofs.TakenPieces.SameTexts.{over_ahead, over_state}
+use Rattle.starlark_reader.proofs.TakenPieces.SameTexts.{over_ahead, over_code, over_reads, over_state}
 use Rattle.starlark_reader.specs.Inner.Reader.{IsText}
 use Rattle.starlark_reader.specs.declared.reader.Reader.{Reader}
-use Rattle.starlark_lexemes.proofs.LexerReads.{over_found}
 use Rattle.starlark_lexemes.specs.Inner.LexerStates.{HasFound, IsAtFault, IsBegun, IsLexing, IsLexingIn, StateView}
 use Rattle.starlark_lexemes.specs.Lexer.{HasReadToFault, most_reads}
 use Rattle.starlark_lexemes.specs.declared.lexer_state.LexerState.{LexerState}
@@ -50,7 +49,7 @@ use Rattle.starlark_token.specs.declared.tokens.Token.{Token}
 -- A state that was lent another text
 
 over_lexing : (part : Text) (old : LexerState) (over : Reader) → IsLexingIn part old → IsLexingIn part (record old { reader = record old.reader { text = over.text } })
-over_lexing part old over lexing = search (rules, over_ahead, over_found)
+over_lexing part old over lexing = (lexing.0, (λ on. ((lexing.1 on).0, over_ahead part old.reader over old.reader.stage _ _ (lexing.1 on).1)), lexing.2, (λ on. over_reads part old.reader over old.reader.stage (lexing.3 on)), (λ yes. over_code part old.reader over (lexing.4 yes)))
 
 pub lent_lexing : (part : Text) (old lent over : LexerState) → over ≡ record lent { reader = record lent.reader { text = over.reader.text } } → lent ≡ old → over.reader.text.now ≡ part → IsLexingIn part old → IsLexing over
 lent_lexing part old lent over same is text lexing = search (rules, over_lexing)
@@ -207,7 +206,7 @@ module _ (old : RecoveryState) (fault : Spanned Fault) (stopped : IsStopped old 
 pub begun_lexing : (text any : Text) (state : LexerState) → IsText any → IsBegun text state → IsLexingIn any state
 begun_lexing text any state is begun =
     let none : state.yielded_count ≡ 0 = ap (λ (v : StateView). v.yielded_count) begun.view in
-    (is, (λ on. (omega (arith, none), rw none (begun.ahead any))), rw begun.lookahead tt, (λ on. rw begun.lookahead (begun.reads any)))
+    (is, (λ on. (omega (arith, none), rw none (begun.ahead any))), (λ yes. let both : true ≡ false = sym yes ∙ begun.outside in cc), (λ on. begun.reads any), (λ yes. let both : true ≡ false = sym yes ∙ begun.outside in cc))
 
 pub all_from_none : (lexemes : List Lexeme) → AllByRecursion (λ (lexeme : Lexeme). 0 ≤ lexeme.begin) lexemes
 all_from_none [] = tt

@@ -1,8 +1,8 @@
 //! The lexer, one that goes on after faults, lexed texts, tokens, and errors of lexing.
 
 pub use starlark_lexed_text::lexed_text::LexedText;
-pub use starlark_lexemes::lexemes::{Lexeme, Lexer};
-pub use starlark_lexemes::plain_lexeme::{PlainKind, PlainLexeme};
+pub use starlark_lexemes::lexemes::{Lexeme, Lexer, Step};
+pub use starlark_lexemes::passed::{Kind, Passed};
 pub use starlark_lexemes::source_error::SourceError;
 pub use starlark_recovery::recovering_lexer::RecoveringLexer;
 pub use starlark_token::big_int::BigInt;

@@ -1,6 +1,5 @@
 -- What is ahead of a text that is lexed so far, and what a call answers of it.
-use Rattle.std.specs.Prelude.{◌≡◌, ◌≢◌, ◌≤◌, ◌<◌, ◌^◌, ◌+◌, ◌-◌, ◌*◌, ◌&&◌, if◌then◌else◌, nat_lt, not, Bool, ℕ, true, false, List, [], ◌∷◌, drop, length, map, Option, None, Some, Result, Ok, Err, IfOk, OnErr, OnOk, alloc_error}
-use Rattle.std.specs.declared.alloc.AllocError.{AllocError}
+use Rattle.std.specs.Prelude.{◌≡◌, ◌≤◌, ◌<◌, ◌^◌, ◌+◌, ◌-◌, ◌*◌, ◌&&◌, if◌then◌else◌, nat_lt, not, Bool, ℕ, true, false, List, [], ◌∷◌, drop, length, map, Option, None, Some, Result, Ok, Err, IfOk, OnErr, OnOk}
 use Rattle.starlark_base.specs.Diagnostics.{Diagnosed}
 use Rattle.starlark_base.specs.Sources.{SourceFile}
 use Rattle.starlark_words.specs.Inner.Reads.{more_reads}
@@ -10,7 +9,6 @@ use Rattle.starlark_grammar.specs.Tokens.{Fault, Spanned}
 use Rattle.starlark_grammar.specs.Words.{Text, begins, is_name_start}
 use Rattle.starlark_grammar.specs.declared.class.Class.TheVariants as class
 use Rattle.starlark_grammar.specs.declared.class.LiteralKind.TheVariants as literal
-use Rattle.starlark_grammar.specs.declared.class.Quote.{Quote}
 use Rattle.starlark_words.specs.Inner.ScannedWords.{begins_mark, peeked_len}
 use Rattle.starlark_words.specs.declared.scanner.word.Word.{Word}
 use Rattle.starlark_reader.specs.Inner.Reader.{IsAhead, IsAheadAfter, IsAheadPast, IsAtCode, IsAtEnd, IsRaw, IsSomething, IsStateAfter, IsStateAtFault, IsText, IsWordHere, begins_with_tab, has_read_none, history_of, is_fault, left_to_read}
@@ -21,23 +19,19 @@ use Rattle.starlark_reader.specs.declared.reader.Reader.{Reader}
 use Rattle.starlark_reader.specs.declared.reader.Stage.{Stage}
 use Rattle.starlark_reader.specs.declared.reader.Stage.TheVariants as stages
 use Rattle.starlark_errors.specs.Exceptions.{IsException}
-use Rattle.starlark_reader.specs.Inner.Lookaheads.{HasPeeked, IsFound}
-use Rattle.starlark_reader.specs.declared.lookahead.Lookahead.{Lookahead}
-use Rattle.starlark_reader.specs.declared.lookahead.Lookahead.TheVariants as found
-use Rattle.starlark_lexemes.specs.Inner.FoundKinds.{GoesOn}
-use Rattle.starlark_lexemes.specs.Lexer.{HasReadToFault, LexerView, is_ended_by, most_reads, yielded_by}
+use Rattle.starlark_reader.specs.Inner.Lookaheads.{HasPeeked, IsLiteralHere, IsTextRun}
+use Rattle.starlark_grammar.specs.Front.{language_front}
+use Rattle.starlark_lexemes.specs.Lexer.{HasReadToFault, LexerView, most_reads}
 use Rattle.starlark_errors.specs.declared.error.kinds.ErrorKind.{ErrorKind}
-use Rattle.starlark_lexemes.specs.PlainLexemes.{IsPlainIn, plain_view}
+use Rattle.starlark_lexemes.specs.PlainLexemes.{IsPlainIn, plain_token, plain_view}
 use Rattle.starlark_lexemes.specs.declared.lexer_state.LexerState.{LexerState}
-use Rattle.starlark_lexemes.specs.declared.lexer_state.Advance.{Advance}
-use Rattle.starlark_lexemes.specs.declared.lexer_state.Advance.TheVariants as advance
 use Rattle.starlark_text.specs.declared.or_memory.OrMemory.{OrMemory}
 use Rattle.starlark_text.specs.declared.or_memory.OrMemory.TheVariants.{Error, Memory}
-use Rattle.starlark_lexemes.specs.declared.plain_lexeme.PlainKind.{PlainKind}
-use Rattle.starlark_lexemes.specs.declared.plain_lexeme.PlainKind.TheVariants as kind
-use Rattle.starlark_lexemes.specs.declared.plain_lexeme.PlainLexeme.{PlainLexeme}
+use Rattle.starlark_lexemes.specs.declared.passed.Kind.{Kind}
+use Rattle.starlark_lexemes.specs.declared.passed.Kind.TheVariants as kind
+use Rattle.starlark_lexemes.specs.declared.passed.Passed.{Passed}
 use Rattle.starlark_token.specs.Lexemes.{lexeme_view, shown_lexeme}
-use Rattle.starlark_token.specs.TokenViews.{TokenView, Whole}
+use Rattle.starlark_token.specs.TokenViews.{TokenView, Whole, token_view}
 use Rattle.starlark_token.specs.declared.lexeme_error.LexemeError.{LexemeError}
 use Rattle.starlark_token.specs.declared.tokens.Token.{Token}
 
@@ -72,8 +66,9 @@ IsLexingIn text state =
     IsText text
     × (state.has_ended ≡ false → (state.yielded_count ≤ length (outcome text).lexemes)
     × IsAhead text state.reader state.reader.stage (drop state.yielded_count (map shown_lexeme (outcome text).lexemes)) (outcome text).fault)
-    × GoesOn state.found state.has_ended
-    × (state.has_ended ≡ false → IsFound text state.reader state.word state.run state.found)
+    × (state.is_at_code ≡ true → state.has_ended ≡ false)
+    × (state.has_ended ≡ false → HasRead text state.reader)
+    × (state.is_at_code ≡ true → IsAtCode text state.reader)
 
 -- So it is of the state's own text.
 abbrev pub IsLexing : LexerState → Type 0
@@ -84,7 +79,7 @@ pub record IsBegun (text : Text) (state : LexerState) : Type 0 where
   pub view : view_of state ≡ record { text = text; yielded_count = 0; has_ended = false; reads = 0 }
   pub ahead : (any : Text) → IsAhead any state.reader state.reader.stage (map shown_lexeme (outcome any).lexemes) (outcome any).fault
   pub reads : (any : Text) → HasRead any state.reader
-  pub lookahead : state.found ≡ found.All
+  pub outside : state.is_at_code ≡ false
 
 -- What a call answers: the first lexeme that is left, or nothing where none is; or out of memory in the place of a lexeme or
 -- the fault.
@@ -149,12 +144,6 @@ abbrev pub taken_count : Option (ℕ × LexemeError × ℕ) → ℕ
 taken_count (Some found) = 1
 taken_count None = 0
 
--- A call gave the next item, where no error had ended the lexer.
-pub record HasGivenNext (old : LexerState) (item : Option (Result (ℕ × Token × ℕ) (OrMemory (Diagnosed ErrorKind)))) (new : LexerState) : Type 0 where
-  pub answer : HasAnswered old item new
-  pub lexing : IsLexing new
-  pub after : view_of new ≡ record (view_of old) { yielded_count = old.yielded_count + yielded_by item; has_ended = is_ended_by item; reads = new.reader.reads }
-
 -- The reader took the first lexeme that is left, which the lexer hasn't counted yet, or ran out of memory in its place.
 pub record IsTakenNext {E : Type 0} (state : LexerState) (taken : Result (ℕ × Token × ℕ) E) : Type 0 where
   pub text : IsText state.reader.text.now
@@ -174,89 +163,103 @@ pub record IsReadNext {E : Type 0} (state : LexerState) (read : Result (Option (
   pub memory : OnErr read (IsSomething (left_in state) (outcome state.reader.text.now).fault)
   pub reads : OnOk read (HasRead state.reader.text.now state.reader)
 
--- The lexer has looked at what comes next, if something does.
-pub record KnowsNext (state : LexerState) : Type 0 where
-  pub some : state.found ≢ found.Nothing
-  pub end : state.found ≡ found.All → IsAtEnd state.reader.text.now state.reader
+-- how many lexemes a kind is
+abbrev pub passed_count : Kind → ℕ
+passed_count kind.Layout = 0
+passed_count kind.Last = 0
+passed_count kind.OutOfMemory = 0
+passed_count it = 1
 
--- What the fast path tells: the first lexeme that is left, which it passed; or out of memory in the place of an item.
-abbrev pub HasTold : LexerState → Result (Option PlainLexeme) AllocError → LexerState → Type 0
-HasTold old (Ok (Some plain)) new = IsPlainIn old.reader.text.now plain × IsAheadPast old.reader.text.now (plain_view old.reader.text.now plain) new.reader (left_in old) (outcome old.reader.text.now).fault
-HasTold old (Ok None) new = KnowsNext new
-HasTold old (Err error) new = IsSomething (left_in old) (outcome old.reader.text.now).fault
+abbrev pub is_out_of_memory : Kind → Bool
+is_out_of_memory kind.OutOfMemory = true
+is_out_of_memory it = false
 
--- how many lexemes the fast path passed
-abbrev pub told_count : Result (Option PlainLexeme) AllocError → ℕ
-told_count (Ok (Some plain)) = 1
-told_count (Ok None) = 0
-told_count (Err error) = 0
-
-abbrev pub is_out_of_memory : Result (Option PlainLexeme) AllocError → Bool
-is_out_of_memory (Err error) = true
-is_out_of_memory other = false
-
--- The fast path passed what it tells, where no error had ended the lexer.
-pub record HasToldNext (old : LexerState) (found : Result (Option PlainLexeme) AllocError) (new : LexerState) : Type 0 where
-  pub passed : HasTold old found new
-  pub lexing : IsLexing new
-  pub after : view_of new ≡ record (view_of old) { yielded_count = old.yielded_count + told_count found; has_ended = is_out_of_memory found; reads = new.reader.reads }
-
--- the comment between two offsets, whose value is all after its `#`
-abbrev pub plain_comment : (begin end : ℕ) → PlainLexeme
-plain_comment begin end = record { kind = kind.Comment; begin = begin; end = end; value_begin = begin + 1; value_end = end }
-
--- the text of an f-string between two offsets
-abbrev pub plain_fstring_text : (begin end : ℕ) → PlainLexeme
-plain_fstring_text begin end = record { kind = kind.FStringText; begin = begin; end = end; value_begin = begin; value_end = end }
+-- what was passed last, of a kind, by the offsets of a state
+abbrev pub passed_of : LexerState → Kind → Passed
+passed_of state it = record { kind = it; begin = state.begin; end = state.end; value_begin = state.value_begin; value_end = state.value_end }
 
 -- a lexeme without a value between two offsets
-abbrev pub plain_valueless : PlainKind → (begin end : ℕ) → PlainLexeme
-plain_valueless it begin end = record { kind = it; begin = begin; end = end; value_begin = end; value_end = end }
+abbrev pub valueless : Kind → (begin end : ℕ) → Passed
+valueless it begin end = record { kind = it; begin = begin; end = end; value_begin = end; value_end = end }
 
--- what the fast path tells of what was passed without lookahead in code, between two offsets
-abbrev pub told_as : Advance → (begin end : ℕ) → Result (Option PlainLexeme) AllocError
-told_as advance.Nothing begin end = Ok None
-told_as advance.Indent begin end = Ok (Some (plain_valueless kind.Indent begin end))
-told_as advance.Dedent begin end = Ok (Some (plain_valueless kind.Dedent begin end))
-told_as advance.FStringText begin end = Ok (Some (plain_fstring_text begin end))
-told_as advance.FStringExprStart begin end = Ok (Some (plain_valueless kind.FStringExprStart begin end))
-told_as advance.FStringEnd begin end = Ok (Some (plain_valueless kind.FStringEnd begin end))
-told_as advance.Comment begin end = Ok (Some (plain_comment begin end))
-told_as advance.Layout begin end = Ok None
-told_as advance.OutOfMemory begin end = Err alloc_error
+-- a lexeme whose token was made
+abbrev pub made_view : Passed → Token → Spanned TokenView
+made_view passed token = record { begin = passed.begin; node = token_view token; end = passed.end }
+
+-- What a step passed, by its kind: the first lexeme that is left; nothing where none is; or out of memory in the place of an
+-- item.
+abbrev pub HasPassedAs : LexerState → Kind → Passed → LexerState → Type 0
+HasPassedAs old kind.Layout passed new = ⊥
+HasPassedAs old kind.Last passed new = IsAtEnd old.reader.text.now new.reader
+HasPassedAs old kind.OutOfMemory passed new = IsSomething (left_in old) (outcome old.reader.text.now).fault
+HasPassedAs old kind.Made passed new = IsAheadPast old.reader.text.now (made_view passed new.token) new.reader (left_in old) (outcome old.reader.text.now).fault
+HasPassedAs old it passed new = IsPlainIn old.reader.text.now passed × IsAheadPast old.reader.text.now (plain_view old.reader.text.now passed) new.reader (left_in old) (outcome old.reader.text.now).fault
+
+abbrev pub HasPassed : LexerState → Passed → LexerState → Type 0
+HasPassed old passed new = HasPassedAs old passed.kind passed new
+
+-- A step passed it, where no error had ended the lexer.
+pub record HasPassedNext (old : LexerState) (what : Passed) (new : LexerState) : Type 0 where
+  pub passed : HasPassed old what new
+  pub lexing : IsLexing new
+  pub after : view_of new ≡ record (view_of old) { yielded_count = old.yielded_count + passed_count what.kind; has_ended = is_out_of_memory what.kind; reads = new.reader.reads }
+
+-- how much is left to look at, before code
+abbrev pub left_to_look : (at_code : Bool) → ℕ
+left_to_look true = 0
+left_to_look false = 1
 
 -- how much is left to pass
 abbrev pub left_to_pass : LexerState → ℕ
-left_to_pass state = 2 * left_to_read state.reader.text.now state.reader state.reader.stage + left_to_look state.found
-  where
-    left_to_look : Lookahead → ℕ
-    left_to_look found.All = 1
-    left_to_look it = 0
+left_to_pass state = 2 * left_to_read state.reader.text.now state.reader state.reader.stage + left_to_look state.is_at_code
 
--- The fast path passed what has no lexeme.
+-- What has no lexeme was passed.
 pub record HasGoneOn (old new : LexerState) : Type 0 where
   pub lexing : IsLexing new
   pub after : view_of new ≡ record (view_of old) { reads = new.reader.reads }
   pub less : left_to_pass new < left_to_pass old
 
--- What was passed without lookahead in code: the next lexeme, or what has none.
-abbrev pub HasAdvanced : LexerState → Advance → LexerState → Type 0
-HasAdvanced old advance.Layout new = HasGoneOn old new
-HasAdvanced old it new = HasToldNext old (told_as it new.lexeme_begin new.lexeme_end) new
+-- What was passed: what has no lexeme, or else; its offsets are the state's.
+abbrev pub HasAdvanced : LexerState → Kind → LexerState → Type 0
+HasAdvanced old kind.Layout new = HasGoneOn old new
+HasAdvanced old it new = HasPassedNext old (passed_of new it) new
 
--- The lexer is at a word in code, which the scanner has found, and has spent no other lookahead.
-pub record IsAtWord (state : LexerState) (word : Word) : Type 0 where
+-- The lexer is at a word in code, which was found by at most so many reads, and all that was read before is paid for.
+pub record IsAtWord (state : LexerState) (word : Word) (most : ℕ) : Type 0 where
   pub text : IsText state.reader.text.now
   pub going : state.has_ended ≡ false
   pub few : state.yielded_count ≤ length (outcome state.reader.text.now).lexemes
   pub ahead : IsAhead state.reader.text.now state.reader state.reader.stage (left_in state) (outcome state.reader.text.now).fault
   pub stands : IsWordHere state.reader.text.now state.reader word
-  pub lookahead : state.found ≡ found.Nothing
-  pub read : HasPeeked state.reader.text.now word.len (5 * word.len - 2) state.reader
+  pub code : state.is_at_code ≡ true
+  pub read : HasPeeked state.reader.text.now word.len most state.reader
 
--- The lexer is at the opener of `len` bytes of a text literal.
-abbrev pub IsAtOpener : LexerState → (is_raw : Bool) → Quote → (len : ℕ) → Type 0
-IsAtOpener state is_raw quote len = IsAtWord state (record { class = class.Opener literal.Text is_raw quote; len = len })
+-- The lexer is at the opener of a literal, after which a run without escapes was looked at.
+pub record IsAtLiteral (state : LexerState) (opener : Word) (run : ℕ) : Type 0 where
+  pub text : IsText state.reader.text.now
+  pub going : state.has_ended ≡ false
+  pub few : state.yielded_count ≤ length (outcome state.reader.text.now).lexemes
+  pub ahead : IsAhead state.reader.text.now state.reader state.reader.stage (left_in state) (outcome state.reader.text.now).fault
+  pub stands : IsLiteralHere state.reader.text.now state.reader opener run
+
+-- The lexer is at the text of an f-string, whose first bytes were looked at.
+pub record IsAtText (state : LexerState) (run : ℕ) : Type 0 where
+  pub text : IsText state.reader.text.now
+  pub going : state.has_ended ≡ false
+  pub few : state.yielded_count ≤ length (outcome state.reader.text.now).lexemes
+  pub ahead : IsAhead state.reader.text.now state.reader state.reader.stage (left_in state) (outcome state.reader.text.now).fault
+  pub stands : IsTextRun state.reader.text.now run state.reader
+  pub read : HasPeeked state.reader.text.now run (8 * run + 4) state.reader
+
+-- The lexer is in code where no word begins.
+pub record IsAtWordless (state : LexerState) : Type 0 where
+  pub text : IsText state.reader.text.now
+  pub going : state.has_ended ≡ false
+  pub few : state.yielded_count ≤ length (outcome state.reader.text.now).lexemes
+  pub ahead : IsAhead state.reader.text.now state.reader state.reader.stage (left_in state) (outcome state.reader.text.now).fault
+  pub code : IsAtCode state.reader.text.now state.reader
+  pub none : language_front (drop state.reader.at state.reader.text.now) ≡ None
+  pub read : HasPeeked state.reader.text.now 0 3 state.reader
 
 -- The lexer is in code, where the first two bytes tell no word, and none begins with a letter.
 pub record IsUnnamed (state : LexerState) : Type 0 where
@@ -267,33 +270,35 @@ pub record IsUnnamed (state : LexerState) : Type 0 where
   pub code : IsAtCode state.reader.text.now state.reader
   pub unnamed : begins is_name_start (drop state.reader.at state.reader.text.now) ≡ false
   pub marks : begins_mark (drop state.reader.at state.reader.text.now) ≡ false
-  pub lookahead : state.found ≡ found.Nothing
+  pub at_code : state.is_at_code ≡ true
   pub read : HasPeeked state.reader.text.now (peeked_len (drop state.reader.at state.reader.text.now)) (peeked_len (drop state.reader.at state.reader.text.now)) state.reader
 
--- the string literal between two offsets, by the length of its opener
-abbrev pub plain_string : (begin opener end : ℕ) → PlainLexeme
-plain_string begin opener end = record { kind = kind.String; begin = begin; end = end; value_begin = begin + opener; value_end = end - 1 }
+-- What is taken of what was passed, by its kind: its token, or why there is none. Out of memory ends the lexer.
+abbrev pub IsTakenAs : LexerState → Kind → Passed → Result Token Kind → LexerState → Type 0
+IsTakenAs old kind.Made passed (Ok token) new = (token ≡ old.token) × (new ≡ record old { token = new.token })
+IsTakenAs old kind.Made passed (Err it) new = ⊥
+IsTakenAs old kind.Layout passed (Ok token) new = ⊥
+IsTakenAs old kind.Layout passed (Err it) new = (it ≡ kind.Layout) × (new ≡ old)
+IsTakenAs old kind.Last passed (Ok token) new = ⊥
+IsTakenAs old kind.Last passed (Err it) new = (it ≡ kind.Last) × (new ≡ old)
+IsTakenAs old kind.OutOfMemory passed (Ok token) new = ⊥
+IsTakenAs old kind.OutOfMemory passed (Err it) new = (it ≡ kind.OutOfMemory) × (new ≡ old)
+IsTakenAs old plain passed (Ok token) new = (token_view token ≡ Whole (plain_token old.reader.text.now passed)) × (new ≡ old)
+IsTakenAs old plain passed (Err it) new = (it ≡ kind.OutOfMemory) × (new ≡ record old { yielded_count = old.yielded_count - 1; has_ended = true; is_at_code = false })
 
--- the kind is that of a pending token
-abbrev pub IsOfPendingToken : Advance → TokenView → Type 0
-IsOfPendingToken advance.Indent view = view ≡ Whole grammar.Indent
-IsOfPendingToken advance.Dedent view = view ≡ Whole grammar.Dedent
-IsOfPendingToken advance.FStringExprStart view = view ≡ Whole grammar.FStringExprStart
-IsOfPendingToken advance.FStringEnd view = view ≡ Whole grammar.FStringEnd
-IsOfPendingToken it view = ⊥
+abbrev pub IsTakenOf : LexerState → Passed → Result Token Kind → LexerState → Type 0
+IsTakenOf old passed taken new = IsTakenAs old passed.kind passed taken new
 
--- A plain lexeme that was passed is an item, or there was out of memory in its place, which ends the lexer.
-abbrev pub HasTaken : LexerState → PlainLexeme → Option (Result (ℕ × Token × ℕ) (OrMemory (Diagnosed ErrorKind))) → LexerState → Type 0
-HasTaken old plain (Some (Ok lexeme)) new = (lexeme_view lexeme ≡ plain_view old.reader.text.now plain) × (new ≡ old)
-HasTaken old plain (Some (Err Memory)) new = new ≡ record old { yielded_count = old.yielded_count - 1; has_ended = true; found = found.All }
-HasTaken old plain answer new = ⊥
+-- the item of what was taken
+abbrev pub item_of : Passed → Result Token Kind → Option (Result (ℕ × Token × ℕ) (OrMemory (Diagnosed ErrorKind)))
+item_of passed (Ok token) = Some (Ok (passed.begin, token, passed.end))
+item_of passed (Err kind.OutOfMemory) = Some (Err Memory)
+item_of passed (Err it) = None
 
--- An error that a lexer still has to say: out of memory in the place of an item.
-pub record HasRunOut (state : LexerState) : Type 0 where
-  pub ended : state.has_ended ≡ true
-  pub few : state.yielded_count ≤ length (outcome state.reader.text.now).lexemes
-  pub left : IsSomething (left_in state) (outcome state.reader.text.now).fault
+-- What a call answers is the item of what was taken.
+abbrev pub IsItemOf : LexerState → Passed → Option (Result (ℕ × Token × ℕ) (OrMemory (Diagnosed ErrorKind))) → LexerState → Type 0
+IsItemOf old passed answer new = (taken : Result Token Kind) × IsTakenOf old passed taken new × (answer ≡ item_of passed taken)
 
--- the lexer as its users see it, which hasn't ended until it has said so
-abbrev pub lexer_view : LexerState → SourceFile → (has_run_out : Bool) → LexerView
-lexer_view state file has_run_out = record { text = state.reader.text.now; code_map = file; yielded_count = state.yielded_count; has_ended = state.has_ended && not has_run_out; reads = state.reader.reads; cut = known_cut state }
+-- the lexer as its users see it
+abbrev pub lexer_view : LexerState → SourceFile → LexerView
+lexer_view state file = record { text = state.reader.text.now; code_map = file; yielded_count = state.yielded_count; has_ended = state.has_ended; reads = state.reader.reads; cut = known_cut state }

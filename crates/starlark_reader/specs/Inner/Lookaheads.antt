@@ -1,7 +1,6 @@
 -- What lookahead has found, and the reads that it took.
-use Rattle.std.specs.Prelude.{◌≡◌, ◌≢◌, ◌+◌, ◌-◌, ◌*◌, Bool, false, true, ℕ, List, None, drop, if◌then◌else◌}
+use Rattle.std.specs.Prelude.{◌≡◌, ◌≢◌, ◌+◌, ◌-◌, ◌*◌, Bool, false, true, ℕ, List, drop, if◌then◌else◌}
 use Rattle.starlark_grammar.specs.Depths.{InText, mode_after}
-use Rattle.starlark_grammar.specs.Front.{language_front}
 use Rattle.starlark_grammar.specs.Tokens.{Token}
 use Rattle.starlark_grammar.specs.Words.{Text}
 use Rattle.starlark_grammar.specs.declared.class.Class.{Class}
@@ -16,10 +15,8 @@ use Rattle.starlark_words.specs.Inner.Reads.{AreReads}
 use Rattle.starlark_words.specs.declared.scanner.word.Word.{Word}
 use Rattle.starlark_reader.specs.Inner.Nesting.{Represents}
 use Rattle.starlark_reader.specs.Inner.Pending.{IsIdle}
-use Rattle.starlark_reader.specs.Inner.Reader.{IsAtCode, IsWordHere}
-use Rattle.starlark_reader.specs.Inner.ReadBounds.{HasRead, HasReadAt}
-use Rattle.starlark_reader.specs.declared.lookahead.Lookahead.{Lookahead}
-use Rattle.starlark_reader.specs.declared.lookahead.Lookahead.TheVariants as found
+use Rattle.starlark_reader.specs.Inner.Reader.{IsWordHere}
+use Rattle.starlark_reader.specs.Inner.ReadBounds.{HasReadAt}
 use Rattle.starlark_reader.specs.declared.reader.Reader.{Reader}
 use Rattle.starlark_reader.specs.declared.reader.Stage.TheVariants as stage
 
@@ -40,7 +37,7 @@ pub record IsTextRun (text : Text) (count : ℕ) (reader : Reader) : Type 0 wher
   pub inside : (tokens : List Token) → Represents tokens reader.nesting → mode_after tokens ≡ InText (opening_view opening)
   pub run : IsRun (fstring_literal (opening_view opening)) (drop reader.at text) count
 
--- whether the fast path passes no word of a class
+-- whether a word of a class is neither a name, a symbol, a line end, what has no lexeme, nor the opener of a text literal
 abbrev pub is_slow : Class → Bool
 is_slow class.Identifier = false
 is_slow (class.Fixed terminal) = false
@@ -58,15 +55,6 @@ is_opener it = false
 abbrev pub most_peeked : Word → ℕ
 most_peeked word = if is_opener word.class then 5 * word.len - 2 else 5 * word.len + 3
 
--- what is found is at the reader's offset, and the reads that found it are few enough
-abbrev pub IsFound : Text → Reader → (word : Word) (run : ℕ) → Lookahead → Type 0
-IsFound text reader word run found.Nothing = IsAtCode text reader × HasRead text reader
-IsFound text reader word run found.Word = IsWordHere text reader word × (is_slow word.class ≡ true) × HasPeeked text word.len (most_peeked word) reader
-IsFound text reader word run found.Wordless = IsAtCode text reader × (language_front (drop reader.at text) ≡ None) × HasPeeked text 0 3 reader
-IsFound text reader word run found.Literal = IsWordHere text reader word × IsOpened word.class (drop word.len (drop reader.at text)) run × HasPeeked text (word.len + run) (5 * word.len + 8 * run + 3) reader
-IsFound text reader word run found.Text = IsTextRun text run reader × HasPeeked text run (8 * run + 4) reader
-IsFound text reader word run found.All = HasRead text reader
-
-abbrev pub is_nothing : Lookahead → Bool
-is_nothing found.Nothing = true
-is_nothing it = false
+-- the opener of a string or bytes literal is at the reader's offset, and a run without escapes after it was looked at
+abbrev pub IsLiteralHere : Text → Reader → (opener : Word) (run : ℕ) → Type 0
+IsLiteralHere text reader opener run = IsWordHere text reader opener × IsOpened opener.class (drop opener.len (drop reader.at text)) run × HasPeeked text (opener.len + run) (5 * opener.len + 8 * run + 3) reader

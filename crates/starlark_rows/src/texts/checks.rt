@@ -4,7 +4,7 @@ use crate::printed_items::{add_fault, add_lexeme, file_of};
 use starlark_syntax::codemap::{CodeMap, OrMemory};
 use starlark_syntax::dialect::Dialect;
 use starlark_syntax::eval_exception::EvalException;
-use starlark_syntax::lexer::{LexedText, Lexeme, Lexer, PlainKind, PlainLexeme, Token};
+use starlark_syntax::lexer::{Kind, LexedText, Lexeme, Lexer, Passed, Step, Token};
 use std::alloc::{AllocError, Global};
 
 /// Length in bytes of the longest text whose lines are all compared.
@@ -107,19 +107,20 @@ fn is_lexeme(next: &Option<Lexeme>, wanted: &(usize, Token, usize)) -> bool {
 }
 
 /// The name of a plain lexeme's kind, as its token has it.
-fn plain_kind(alloc: Global, kind: PlainKind) -> Result<String, AllocError> {
+fn plain_kind(alloc: Global, kind: Kind) -> Result<String, AllocError> {
     match kind {
-        PlainKind::Comment => String::from_str(alloc, "Comment"),
-        PlainKind::Identifier => String::from_str(alloc, "Identifier"),
-        PlainKind::String => String::from_str(alloc, "String"),
-        PlainKind::Word(terminal) => format!(in alloc; "{terminal:?}"),
-        PlainKind::FStringExprEnd => String::from_str(alloc, "FStringExprEnd"),
-        PlainKind::Newline => String::from_str(alloc, "Newline"),
-        PlainKind::Indent => String::from_str(alloc, "Indent"),
-        PlainKind::Dedent => String::from_str(alloc, "Dedent"),
-        PlainKind::FStringText => String::from_str(alloc, "FStringText"),
-        PlainKind::FStringExprStart => String::from_str(alloc, "FStringExprStart"),
-        PlainKind::FStringEnd => String::from_str(alloc, "FStringEnd"),
+        Kind::Comment => String::from_str(alloc, "Comment"),
+        Kind::Identifier => String::from_str(alloc, "Identifier"),
+        Kind::String => String::from_str(alloc, "String"),
+        Kind::Word(terminal) => format!(in alloc; "{terminal:?}"),
+        Kind::FStringExprEnd => String::from_str(alloc, "FStringExprEnd"),
+        Kind::Newline => String::from_str(alloc, "Newline"),
+        Kind::Indent => String::from_str(alloc, "Indent"),
+        Kind::Dedent => String::from_str(alloc, "Dedent"),
+        Kind::FStringText => String::from_str(alloc, "FStringText"),
+        Kind::FStringExprStart => String::from_str(alloc, "FStringExprStart"),
+        Kind::FStringEnd => String::from_str(alloc, "FStringEnd"),
+        _ => String::from_str(alloc, "not plain"),
     }
 }
 
@@ -138,7 +139,7 @@ fn plain_value(token: &Token) -> &str {
 fn is_plain_lexeme(
     alloc: Global,
     text: &str,
-    plain: PlainLexeme,
+    plain: Passed,
     wanted: &(usize, Token, usize),
 ) -> Result<bool, AllocError> {
     let (begin, token, end) = wanted;
@@ -151,21 +152,21 @@ fn is_plain_lexeme(
     Ok(plain_kind(alloc, plain.kind)?.as_str() == token.kind())
 }
 
-/// Whether the next item of a text's lexer is the wanted lexeme, by `next`, or by `next_plain` where
-/// that returns it.
+/// Whether the next item of a text's lexer is the wanted lexeme, by `next`, or by `step`.
 fn is_next(
     alloc: Global,
     lexer: &mut Lexer<'_>,
     text: &str,
     wanted: &(usize, Token, usize),
-    is_plain_first: bool,
+    by_steps: bool,
 ) -> Result<bool, AllocError> {
-    if is_plain_first {
-        if let Some(plain) = lexer.next_plain() {
-            return is_plain_lexeme(alloc, text, plain, wanted);
-        }
+    if !by_steps {
+        return Ok(is_lexeme(&lexer.next(), wanted));
     }
-    Ok(is_lexeme(&lexer.next(), wanted))
+    match lexer.step() {
+        Step::Plain(plain) => is_plain_lexeme(alloc, text, plain, wanted),
+        Step::Other(item) => Ok(is_lexeme(&item, wanted)),
+    }
 }
 
 /// A fault as it prints with a code map of an empty text: its span in bytes, or `1:1` if that is
@@ -197,19 +198,19 @@ fn is_fault(
     }
 }
 
-/// Whether the next items of a lexer are the lexemes of a text, after which none is plain.
+/// Whether the next items of a lexer are the lexemes of a text, by `next` or by `step`.
 fn are_next(
     alloc: Global,
     lexer: &mut Lexer<'_>,
     lexed: &LexedText<'_>,
-    is_plain_first: bool,
+    by_steps: bool,
 ) -> Result<bool, AllocError> {
     for lexeme in lexed.lexemes() {
-        if !is_next(alloc, lexer, lexed.text(), lexeme, is_plain_first)? {
+        if !is_next(alloc, lexer, lexed.text(), lexeme, by_steps)? {
             return Ok(false);
         }
     }
-    Ok(!is_plain_first || lexer.next_plain().is_none())
+    Ok(true)
 }
 
 /// Whether the next item of a lexer is a text's fault. True for a text without a fault.
@@ -234,9 +235,9 @@ fn yields_items(
     alloc: Global,
     lexer: &mut Lexer<'_>,
     lexed: &LexedText<'_>,
-    is_plain_first: bool,
+    by_steps: bool,
 ) -> Result<bool, AllocError> {
-    let has_all = are_next(alloc, lexer, lexed, is_plain_first)?;
+    let has_all = are_next(alloc, lexer, lexed, by_steps)?;
     Ok(has_all && is_fault_next(alloc, lexer, lexed)? && is_ended(lexer))
 }
 
@@ -248,15 +249,10 @@ fn lexer_of(alloc: Global, text: &str) -> Result<Lexer<'_>, AllocError> {
 
 /// Whether a lexer with a code map of an empty text yields the same lexemes and fault.
 ///
-/// After these it must yield `None`, twice. Where `is_plain_first`, `next_plain` is called before each
-/// call of `next`.
-fn is_yielded(
-    alloc: Global,
-    lexed: &LexedText<'_>,
-    is_plain_first: bool,
-) -> Result<bool, AllocError> {
+/// After these it must yield `None`, twice. Where `by_steps`, `step` yields the lexemes, else `next`.
+fn is_yielded(alloc: Global, lexed: &LexedText<'_>, by_steps: bool) -> Result<bool, AllocError> {
     let mut lexer = lexer_of(alloc, lexed.text())?;
-    yields_items(alloc, &mut lexer, lexed, is_plain_first)
+    yields_items(alloc, &mut lexer, lexed, by_steps)
 }
 
 /// What is wrong with the lexemes of a text, if anything is.

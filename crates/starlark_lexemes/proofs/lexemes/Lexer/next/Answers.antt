@@ -1,4 +1,4 @@
-use Rattle.std.proofs.Common.{◌≡◌, true, false, subst, ℕ, Some, Err, Result, rules}
+use Rattle.std.proofs.Common.{◌≡◌, ◌∙◌, ap, true, false, subst, ℕ, Some, Err, Result, rules}
 use Rattle.std.specs.Prelude.{Option}
 use Rattle.std.specs.Option.{is_some}
 use Rattle.starlark_base.specs.Diagnostics.{Diagnosed}
@@ -8,42 +8,42 @@ use Rattle.starlark_errors.specs.declared.error.kinds.ErrorKind.{ErrorKind}
 use Rattle.starlark_text.specs.declared.or_memory.OrMemory.{OrMemory}
 use Rattle.starlark_token.specs.declared.tokens.Token.{Token}
 use Rattle.starlark_lexemes.proofs.LexerCuts.{answers_cut}
-use Rattle.starlark_lexemes.proofs.LexerItems.{next_between, some_item}
+use Rattle.starlark_lexemes.proofs.LexerItems.{next_between}
 use Rattle.starlark_lexemes.proofs.LexerStates.{answers_item, answers_read, answers_within, ends_here, fault_going, moved_item, none_at_end, none_same, thrown_item, thrown_read, thrown_within}
-use Rattle.starlark_lexemes.proofs.PlainLexemes.{some_going, view_after, whole_going}
+use Rattle.starlark_lexemes.proofs.PlainLexemes.{some_going, view_after}
 use Rattle.starlark_lexemes.proofs.lexemes.Lexer.next.Goals as goal
 
 pub returns-then-is_some-clause-item : goal.returns-then-is_some-clause-item
 returns-then-is_some-clause-item c = λ on.
     let some : is_some c.next-item.result ≡ true = (let is = c.is_some.ensures in let yes = c.if-is_some.true in cc) in
     let going = some_going c.self.inside.state c.next-item.result c.next-item.new.self some c.next-item.ensures.ended in
-    rw (← c.self.view_is) (answers_item c.self.inside.code_map c.self.inside.state c.next-item.result c.next-item.new.self some (c.self.invariant.0.1 going).0 (c.next-item.ensures.answer going))
+    rw (← c.self.view_is) (answers_item c.self.inside.code_map c.self.inside.state c.next-item.result c.next-item.new.self some (c.self.invariant.1 going).0 (c.next-item.ensures.answer going))
 
 pub returns-then-is_some-clause-within : goal.returns-then-is_some-clause-within
 returns-then-is_some-clause-within c =
     let some : is_some c.next-item.result ≡ true = (let is = c.is_some.ensures in let yes = c.if-is_some.true in cc) in
     let going = some_going c.self.inside.state c.next-item.result c.next-item.new.self some c.next-item.ensures.ended in
-    rw (← c.self.view_is) (answers_within c.self.inside.state c.next-item.result c.next-item.new.self some c.self.invariant.0.0.fits (c.next-item.ensures.answer going))
+    rw (← c.self.view_is) (answers_within c.self.inside.state c.next-item.result c.next-item.new.self some c.self.invariant.0.fits (c.next-item.ensures.answer going))
 
 pub returns-then-is_some-clause-between : goal.returns-then-is_some-clause-between
 returns-then-is_some-clause-between c =
     let some : is_some c.next-item.result ≡ true = (let is = c.is_some.ensures in let yes = c.if-is_some.true in cc) in
     let going = some_going c.self.inside.state c.next-item.result c.next-item.new.self some c.next-item.ensures.ended in
     rw (← c.self.view_is)
-    (next_between c.self.inside.state.reader.text.now c.self.inside.code_map c.self.inside.state.yielded_count c.next-item.result c.self.invariant.0.0.utf8
-    (answers_item c.self.inside.code_map c.self.inside.state c.next-item.result c.next-item.new.self some (c.self.invariant.0.1 going).0 (c.next-item.ensures.answer going)))
+    (next_between c.self.inside.state.reader.text.now c.self.inside.code_map c.self.inside.state.yielded_count c.next-item.result c.self.invariant.0.utf8
+    (answers_item c.self.inside.code_map c.self.inside.state c.next-item.result c.next-item.new.self some (c.self.invariant.1 going).0 (c.next-item.ensures.answer going)))
 
 pub returns-then-is_some-clause-after : goal.returns-then-is_some-clause-after
 returns-then-is_some-clause-after c =
     let some : is_some c.next-item.result ≡ true = (let is = c.is_some.ensures in let yes = c.if-is_some.true in cc) in
     let going = some_going c.self.inside.state c.next-item.result c.next-item.new.self some c.next-item.ensures.ended in
-    rw (← c.self.view_is) (view_after c.self.inside.code_map c.self.inside.has_run_out c.self.inside.state c.next-item.result c.next-item.new.self c.self.invariant.1 going c.next-item.ensures.after)
+    rw (← c.self.view_is) (view_after c.self.inside.code_map c.self.inside.state _ _ c.next-item.new.self c.next-item.ensures.after)
 
 pub returns-then-is_some-clause-cut : goal.returns-then-is_some-clause-cut
 returns-then-is_some-clause-cut c =
     let some : is_some c.next-item.result ≡ true = (let is = c.is_some.ensures in let yes = c.if-is_some.true in cc) in
     let going = some_going c.self.inside.state c.next-item.result c.next-item.new.self some c.next-item.ensures.ended in
-    answers_cut c.self.inside.state c.next-item.result c.next-item.new.self c.self.invariant.0 going (c.next-item.ensures.answer going) c.next-item.ensures.after
+    answers_cut c.self.inside.state c.next-item.result c.next-item.new.self c.self.invariant going (c.next-item.ensures.answer going) c.next-item.ensures.after
 
 pub returns-then-is_some-clause-reads : goal.returns-then-is_some-clause-reads
 returns-then-is_some-clause-reads c = λ on.
@@ -51,18 +51,19 @@ returns-then-is_some-clause-reads c = λ on.
     let going = some_going c.self.inside.state c.next-item.result c.next-item.new.self some c.next-item.ensures.ended in
     rw (← c.self.view_is) (answers_read c.self.inside.state c.next-item.result c.next-item.new.self some going (c.next-item.ensures.answer going) c.next-item.ensures.lexing c.next-item.ensures.after)
 
-pub returns-then-self-clause-item : goal.returns-then-self-clause-item
-returns-then-self-clause-item c = search (rules, some_item)
-
 pub returns-then-not-has_fault-clause-item : goal.returns-then-not-has_fault-clause-item
 returns-then-not-has_fault-clause-item c = λ on.
     let none : is_some c.next-item.result ≡ false = (let is = c.is_some.ensures in let no = c.if-is_some.false in cc) in
-    let going = whole_going c.self.inside.state c.self.inside.code_map c.self.inside.has_run_out _ c.if-self.false c.self.view_is on in
+    let going : c.self.inside.state.has_ended ≡ false = ap (λ (v : LexerView). v.has_ended) c.self.view_is ∙ on in
     let faultless : has_fault c.next-item.new.self ≡ false = (let is = c.has_fault.ensures in let no = c.if-not-has_fault.true in cc) in
     rw (← c.self.view_is) (ends_here c.self.inside.code_map c.self.inside.state c.next-item.result c.next-item.new.self none c.next-item.ensures.lexing going (c.next-item.ensures.answer going) c.next-item.ensures.after faultless).0
 
 pub returns-then-not-has_fault-clause-reads : goal.returns-then-not-has_fault-clause-reads
-returns-then-not-has_fault-clause-reads c = search (rules, whole_going, ends_here)
+returns-then-not-has_fault-clause-reads c = λ on.
+    let none : is_some c.next-item.result ≡ false = (let is = c.is_some.ensures in let no = c.if-is_some.false in cc) in
+    let going : c.self.inside.state.has_ended ≡ false = ap (λ (v : LexerView). v.has_ended) c.self.view_is ∙ on in
+    let faultless : has_fault c.next-item.new.self ≡ false = (let is = c.has_fault.ensures in let no = c.if-not-has_fault.true in cc) in
+    rw (← c.self.view_is) (ends_here c.self.inside.code_map c.self.inside.state c.next-item.result c.next-item.new.self none c.next-item.ensures.lexing going (c.next-item.ensures.answer going) c.next-item.ensures.after faultless).1
 
 -- where a fault was reached, its exception is returned, or out of memory in its place
 
@@ -84,7 +85,7 @@ returns-clause-between c =
     let same = none_same c.self.inside.state c.next-item.result c.next-item.new.self (let is = c.is_some.ensures in let no = c.if-is_some.false in cc) c.next-item.ensures.after in
     let few = (c.next-item.ensures.lexing.1 (fault_going c.next-item.new.self (let is = c.has_fault.ensures in let yes = c.if-not-has_fault.false in cc))).0 in
     subst (λ (v : LexerView). AnswersBetween v.text (Some (Err c.take_exception.result))) c.self.view_is
-    (next_between c.self.inside.state.reader.text.now c.self.inside.code_map c.self.inside.state.yielded_count (Some (Err c.take_exception.result)) c.self.invariant.0.0.utf8
+    (next_between c.self.inside.state.reader.text.now c.self.inside.code_map c.self.inside.state.yielded_count (Some (Err c.take_exception.result)) c.self.invariant.0.utf8
     (moved_item {A = Option (Result (ℕ × Token × ℕ) (OrMemory (Diagnosed ErrorKind)))} (AnswersNext c.self.inside.code_map) c.self.inside.state c.next-item.new.self (Some (Err c.take_exception.result)) same.0
     (thrown_item c.self.inside.code_map c.next-item.new.self c.take_exception.result c.take_exception.new.self few c.take_exception.ensures.thrown)))
 

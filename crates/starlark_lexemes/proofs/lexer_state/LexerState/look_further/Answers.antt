@@ -1,18 +1,20 @@
 use Rattle.std.proofs.Common.{rules, ◌^◌, ◌∙◌, refl, ◌≤◌, ◌+◌, ◌*◌, ◌-◌, ap, arith, drop, map, subst, sym}
 use Rattle.starlark_grammar.specs.Reading.{outcome}
 use Rattle.starlark_grammar.specs.Words.{Text}
+use Rattle.starlark_reader.specs.Inner.Lookaheads.{HasPeeked, most_peeked}
 use Rattle.starlark_reader.specs.Inner.Pending.{comment_lexeme}
-use Rattle.starlark_reader.specs.Inner.Reader.{IsAhead, IsAheadPast, IsWordHere, left_to_read}
+use Rattle.starlark_reader.specs.Inner.Reader.{IsAhead, IsAheadPast, IsText, left_to_read}
 use Rattle.starlark_reader.specs.declared.reader.Reader.{Reader}
 use Rattle.starlark_reader.proofs.TakenPieces.WordsPassed.{comment_stepped, gap_passed, step_in_code, step_taken, word_inside_text}
 use Rattle.starlark_reader.proofs.TakenPieces.SameTexts.{keeps_passes}
 use Rattle.starlark_lexemes.specs.Inner.LexerStates.{left_in}
-use Rattle.starlark_lexemes.specs.declared.plain_lexeme.PlainKind.TheVariants as kind
-use Rattle.starlark_lexemes.proofs.PlainLexemes.{plain_inside, reader_boundary}
+use Rattle.starlark_lexemes.specs.declared.passed.Kind.TheVariants as kind
+use Rattle.starlark_lexemes.proofs.PlainLexemes.{next_advances, plain_inside, reader_boundary}
 use Rattle.starlark_token.specs.Lexemes.{shown_lexeme}
 use Rattle.starlark_words.specs.Inner.ScannedWords.{peeked_len}
-use Rattle.starlark_lexemes.proofs.FoundWords.{gone_from, left_on, one_more_fits, past_lexing, word_passed, word_stored}
-use Rattle.starlark_lexemes.proofs.LexerReads.{found_out, peeked_len_few, peeked_more, peeked_taken, slow_word, word_inside}
+use Rattle.starlark_lexemes.proofs.FoundWords.{gone_from, left_on, one_more_fits, past_lexing, word_passed}
+use Rattle.starlark_lexemes.proofs.LexerReads.{peeked_len_few, peeked_more, peeked_taken, slow_word, word_inside}
+use Rattle.starlark_lexemes.proofs.LexerStates.{next_same}
 use Rattle.starlark_lexemes.proofs.lexer_state.LexerState.look_further.Goals as goal
 
 pub returns-in-Skipped : goal.returns-in-Skipped
@@ -35,7 +37,7 @@ returns-in-Skipped c =
     let here = subst (λ (t : Text). IsAhead t mid mid.stage (drop old.yielded_count (map shown_lexeme (outcome t).lexemes)) (outcome t).fault) (sym (ap (λ t. t.now) same)) (c.unnamed_word.ensures.ahead _ _ at.ahead) in
     let inside = word_inside mid.text.now mid _ _ word.class word.len code.stage here (sym c.in-Some.ensures.stands.front) in
     gone_from old _ mid same left
-    (word_passed (record old { reader = mid }) new word.len (5 * word.len + 3) (ap (λ (reader : Reader). reader.text) stepped) (rw same at.text) at.going (rw same at.few) at.lookahead code.stage peeked (omega (arith, inside.0)) (gap_passed mid new word.len sound stands stepped _ _ here) (step_in_code mid new _ word.len _ stands stepped) (step_taken mid new word.len _ inside.0 stepped))
+    (word_passed (record old { reader = mid }) new word.len (5 * word.len + 3) (ap (λ (reader : Reader). reader.text) stepped) (rw same at.text) at.going (rw same at.few) code.stage peeked (omega (arith, inside.0)) (gap_passed mid new word.len sound stands stepped _ _ here) (step_in_code mid new _ word.len _ stands stepped) (step_taken mid new word.len _ inside.0 stepped))
 
 pub step_over-requires-clause-fits : goal.step_over-requires-clause-fits
 step_over-requires-clause-fits c = (word_inside_text c.unnamed_word.new.self c.in-Some.word c.unnamed_word.ensures.sound c.in-Some.ensures.stands).1
@@ -43,8 +45,8 @@ step_over-requires-clause-fits c = (word_inside_text c.unnamed_word.new.self c.i
 pub step_over-requires-in-Comment-clause-fits : goal.step_over-requires-in-Comment-clause-fits
 step_over-requires-in-Comment-clause-fits c = (word_inside_text c.unnamed_word.new.self c.in-Some.word c.unnamed_word.ensures.sound c.in-Some.ensures.stands).1
 
-pub count_passed-requires : goal.count_passed-requires
-count_passed-requires c =
+pub put_valued-requires : goal.put_valued-requires
+put_valued-requires c =
     let small : c.args.self.now.yielded_count + 1 ≤ 2 ^ 34 = one_more_fits c.args.self.now c.requires.text.fits c.requires.few in
     search (rules, small)
 
@@ -71,17 +73,17 @@ returns-in-Comment c =
     let first = reader_boundary text mid _ _ code.stage here in
     let last = reader_boundary text new _ _ taken.2 is.2 in
     let value = rw same at comment.1 in
-    rw c.count_passed.ensures.same (record {
+    rw (c.put_valued.ensures.0, c.put_valued.ensures.1) (record {
       passed = (
-        plain_inside text kind.Comment mid.at new.at (mid.at + 1) new.at at.text.fits (omega (arith, inside.0, taken.1.0)) (omega (arith, inside.0, taken.1.0)) first last value last,
+        plain_inside text kind.Comment mid.at new.at (mid.at + 1) new.at refl at.text.fits (omega (arith, inside.0, taken.1.0)) (omega (arith, inside.0, taken.1.0)) first last value last,
         subst (λ n. IsAheadPast text (comment_lexeme text mid.at n) new (left_in old) (outcome text).fault) (sym taken.1.0) is,
       );
-      lexing = past_lexing old _ _ old.word old.run c.count_passed.new.self.found (ap (λ (reader : Reader). reader.text) stepped ∙ same) at.text at.going is (found_out text new old.word old.run c.count_passed.new.self.found c.count_passed.ensures.found is.2.is_pending read);
+      lexing = past_lexing old _ new old.is_at_code mid.at new.at (mid.at + 1) new.at old.token (ap (λ (reader : Reader). reader.text) stepped ∙ same) at.text at.going is read (λ yes. rw same at (step_in_code mid new _ word.len _ stands stepped));
       after = rw (ap (λ (reader : Reader). reader.text) stepped, same, at.going) refl;
     })
 
-pub returns-in_default-class : goal.returns-in_default-class
-returns-in_default-class c =
+pub pass_word-requires-clause-here : goal.pass_word-requires-clause-here
+pass_word-requires-clause-here c =
     let old = c.args.self.now in
     let text = old.reader.text.now in
     let mid = c.unnamed_word.new.self in
@@ -91,4 +93,43 @@ returns-in_default-class c =
     let slow = slow_word word (c.in-Some.ensures.class at.marks) c.in_default-class.not-Skipped c.in_default-class.not-Comment in
     let len = peeked_len (drop old.reader.at text) in
     let peeked = peeked_more text len len (word.len - len) (5 * word.len + 3 - len) word.len (5 * word.len + 3) old.reader mid at.read c.in-Some.ensures.lookahead (omega arith) (omega (arith, peeked_len_few (drop old.reader.at text))) in
-    word_stored old mid word same at.text at.going at.few (c.unnamed_word.ensures.ahead _ _ at.ahead) (subst (λ (t : Text). IsWordHere t mid word) (ap (λ t. t.now) same) c.in-Some.ensures.stands) slow.0 (peeked.0, peeked.1, (peeked.2.0, omega (arith, peeked.2.1, slow.1)))
+    let now = sym (ap (λ t. t.now) same) in
+    record {
+      text = subst IsText now at.text;
+      going = at.going;
+      few = rw same at.few;
+      ahead = subst (λ (t : Text). IsAhead t mid mid.stage (drop old.yielded_count (map shown_lexeme (outcome t).lexemes)) (outcome t).fault) now (c.unnamed_word.ensures.ahead _ _ at.ahead);
+      stands = c.in-Some.ensures.stands;
+      code = at.at_code;
+      read = subst (λ (t : Text). HasPeeked t word.len (most_peeked word) mid) now (peeked.0, peeked.1, (peeked.2.0, omega (arith, peeked.2.1, slow.1)));
+    }
+
+pub pass_word-requires-clause-slow : goal.pass_word-requires-clause-slow
+pass_word-requires-clause-slow c = (slow_word c.in-Some.word (c.in-Some.ensures.class c.requires.marks) c.in_default-class.not-Skipped c.in_default-class.not-Comment).0
+
+pub pass_wordless-requires : goal.pass_wordless-requires
+pass_wordless-requires c =
+    let old = c.args.self.now in
+    let text = old.reader.text.now in
+    let mid = c.unnamed_word.new.self in
+    let at = c.requires in
+    let same = c.unnamed_word.ensures.text in
+    let len = peeked_len (drop old.reader.at text) in
+    let scanned = rw c.in_default.is at c.unnamed_word.ensures.lookahead in
+    let peeked = peeked_more text len len (0 - len) (5 * 0 + 3 - len) 0 3 old.reader mid at.read scanned (omega arith) (omega (arith, peeked_len_few (drop old.reader.at text))) in
+    let now = sym (ap (λ t. t.now) same) in
+    record {
+      text = subst IsText now at.text;
+      going = at.going;
+      few = rw same at.few;
+      ahead = subst (λ (t : Text). IsAhead t mid mid.stage (drop old.yielded_count (map shown_lexeme (outcome t).lexemes)) (outcome t).fault) now (c.unnamed_word.ensures.ahead _ _ at.ahead);
+      code = c.unnamed_word.ensures.code;
+      none = c.unnamed_word.ensures.none c.in_default.is;
+      read = subst (λ (t : Text). HasPeeked t 0 3 mid) now peeked;
+    }
+
+pub returns-in_default : goal.returns-in_default
+returns-in_default c = next_advances c.args.self.now c.pass_wordless.result c.pass_wordless.new.self (next_same c.args.self.now _ _ c.pass_wordless.new.self (ap (λ t. t.now) c.unnamed_word.ensures.text, refl) c.pass_wordless.ensures)
+
+pub returns-in_default-class : goal.returns-in_default-class
+returns-in_default-class c = next_advances c.args.self.now c.pass_word.result c.pass_word.new.self (next_same c.args.self.now _ _ c.pass_word.new.self (ap (λ t. t.now) c.unnamed_word.ensures.text, refl) c.pass_word.ensures)

@@ -1,20 +1,16 @@
-use Rattle.std.proofs.Common.{◌≡◌, ◌||◌, ap, arith, false, ◌∙◌}
+use Rattle.std.proofs.Common.{ap}
 use Rattle.starlark_lexemes.specs.Inner.LexerStates.{StateView}
-use Rattle.starlark_lexemes.proofs.LexerStates.{answered_same}
-use Rattle.starlark_lexemes.proofs.PlainLexemes.{taken_answer, taken_lexing}
+use Rattle.starlark_lexemes.proofs.PlainLexemes.{item_next, passed_counted, passed_within}
 use Rattle.starlark_lexemes.proofs.lexer_state.LexerState.next.Goals as goal
 
-pub returns-in-Ok-Some-clause-answer : goal.returns-in-Ok-Some-clause-answer
-returns-in-Ok-Some-clause-answer c = λ going.
-    taken_answer c.args.self.now c.next_plain.new.self c.in-Ok-Some.plain c.take.result c.take.new.self (rw c.in-Ok-Some.field-0-is at (c.in-Ok-Some.ensures.passed going)) (ap (λ (v : StateView). v.text) c.in-Ok-Some.ensures.after) c.take.ensures
+pub item-requires-clause-within : goal.item-requires-clause-within
+item-requires-clause-within c = passed_within c.args.self.now c.advance-passed.result c.advance-passed.new.self c.advance-passed.ensures.ended c.advance-passed.ensures.passed (ap (λ (v : StateView). v.text) c.advance-passed.ensures.after)
 
-pub returns-in-Ok-Some-clause-lexing : goal.returns-in-Ok-Some-clause-lexing
-returns-in-Ok-Some-clause-lexing c = taken_lexing c.next_plain.new.self c.in-Ok-Some.plain c.take.result c.take.new.self c.in-Ok-Some.ensures.lexing c.take.ensures
+pub item-requires-clause-counted : goal.item-requires-clause-counted
+item-requires-clause-counted c = passed_counted c.args.self.now c.advance-passed.result c.advance-passed.new.self c.advance-passed.ensures.after
 
-pub returns-in-Ok-None-clause-answer : goal.returns-in-Ok-None-clause-answer
-returns-in-Ok-None-clause-answer c = λ going.
-    let after = rw c.in-Ok-None.field-0-is at c.in-Ok-None.ensures.after in
-    let goes : c.next_plain.new.self.has_ended ≡ false = ap (λ (v : StateView). v.has_ended) after ∙ ap (λ b. b || false) going in
-    answered_same c.args.self.now c.next_plain.new.self c.next_slowly.result c.next_slowly.new.self
-    (ap (λ (v : StateView). v.text) after, omega (arith, ap (λ (v : StateView). v.yielded_count) after))
-    (c.next_slowly.ensures.answer goes)
+pub returns : goal.returns
+returns c =
+    let is = c.advance-passed.ensures in
+    let next = item_next c.args.self.now c.advance-passed.new.self c.advance-passed.result c.item.result c.item.new.self is.ended is.passed is.lexing is.after c.item.ensures in
+    record { ended = next.ended; answer = next.answer; lexing = next.lexing; after = next.after }

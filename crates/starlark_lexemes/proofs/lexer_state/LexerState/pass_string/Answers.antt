@@ -2,21 +2,22 @@ use Rattle.std.proofs.Common.{◌≡◌, ap, refl, subst, ◌∙◌, ◌*◌, �
 use Rattle.std.specs.Str.{IsCharBoundary}
 use Rattle.starlark_grammar.specs.Reading.{outcome}
 use Rattle.starlark_grammar.specs.Tokens.{Spanned}
-use Rattle.starlark_grammar.specs.declared.class.Class.TheVariants as class
 use Rattle.starlark_grammar.specs.declared.class.LiteralKind.TheVariants as literal
 use Rattle.starlark_token.specs.TokenViews.{TokenView}
 use Rattle.starlark_reader.specs.Inner.Reader.{IsAheadPast, text_lexeme}
-use Rattle.starlark_reader.specs.declared.lookahead.Lookahead.TheVariants as found
 use Rattle.starlark_reader.specs.declared.reader.Reader.{Reader}
 use Rattle.starlark_reader.proofs.TakenPieces.WordsPassed.{step_in_code, step_taken, string_inside, string_stepped, string_value}
 use Rattle.starlark_reader.proofs.TakenPieces.SameTexts.{keeps_passes}
 use Rattle.starlark_lexemes.specs.Inner.LexerStates.{left_in}
-use Rattle.starlark_lexemes.specs.declared.plain_lexeme.PlainKind.TheVariants as kind
+use Rattle.starlark_lexemes.specs.declared.passed.Kind.TheVariants as kind
 use Rattle.starlark_lexemes.proofs.PlainLexemes.{plain_inside, reader_boundary, string_shown}
-use Rattle.starlark_lexemes.proofs.LexerStates.{same_lexing}
-use Rattle.starlark_lexemes.proofs.FoundWords.{one_more_fits, past_lexing}
-use Rattle.starlark_lexemes.proofs.LexerReads.{nothing_kept, opened_found, peeked_more, peeked_taken}
+use Rattle.starlark_lexemes.proofs.LexerStates.{next_same}
+use Rattle.starlark_lexemes.proofs.FoundWords.{literal_here, one_more_fits, past_lexing, word_sound}
+use Rattle.starlark_lexemes.proofs.LexerReads.{peeked_more, peeked_taken}
 use Rattle.starlark_lexemes.proofs.lexer_state.LexerState.pass_string.Goals as goal
+
+pub plain_body_len-requires : goal.plain_body_len-requires
+plain_body_len-requires c = record { sound = word_sound c.args.self.now _ _ c.requires; stands = c.requires.stands }
 
 pub overflow_add-self : goal.overflow_add-self
 overflow_add-self c =
@@ -38,7 +39,8 @@ step_over-requires-clause-fits c =
 
 pub returns-in-Ok : goal.returns-in-Ok
 returns-in-Ok c =
-    let text = c.args.self.now.reader.text.now in
+    let old = c.args.self.now in
+    let text = old.reader.text.now in
     let at = c.requires in
     let body = c.in-Ok.body in
     let len = c.args.len in
@@ -48,39 +50,29 @@ returns-in-Ok c =
     let sound = c.plain_body_len.ensures.sound in
     let stands = c.plain_body_len.ensures.stands in
     let past = ap (λ (reader : Reader). reader.text) stepped in
-    let is = keeps_passes c.args.self.now.reader mid new c.plain_body_len.ensures.text c.plain_body_len.ensures.ahead (λ text. text_lexeme text mid.at len body) (string_stepped mid c.args.is_raw c.args.quote len body sound stands c.in-Ok.ensures.plain new stepped) _ _ at.ahead in
+    let is = keeps_passes old.reader mid new c.plain_body_len.ensures.text c.plain_body_len.ensures.ahead (λ text. text_lexeme text mid.at len body) (string_stepped mid c.args.is_raw c.args.quote len body sound stands c.in-Ok.ensures.plain new stepped) _ _ at.ahead in
     let taken = step_taken mid new (len + body + 1) _ (omega arith) stepped in
-    let peeked = peeked_more text len (5 * len - 2) (body + 1) (6 * body + 3) (len + body + 1) (5 * len + 6 * body + 3) c.args.self.now.reader mid at.read c.in-Ok.ensures.lookahead (omega arith) (omega arith) in
+    let peeked = peeked_more text len (5 * len - 2) (body + 1) (6 * body + 3) (len + body + 1) (5 * len + 6 * body + 3) old.reader mid at.read c.in-Ok.ensures.lookahead (omega arith) (omega arith) in
     let read = peeked_taken text (len + body + 1) (5 * len + 6 * body + 3) (len + body + 1) mid new peeked (omega arith) (omega arith) (taken.1, taken.2) in
-    let same : mid.at ≡ c.args.self.now.reader.at = c.in-Ok.ensures.lookahead.0 in
-    let first = reader_boundary text c.args.self.now.reader _ _ at.stands.stage at.ahead in
+    let same : mid.at ≡ old.reader.at = c.in-Ok.ensures.lookahead.0 in
+    let first = reader_boundary text old.reader _ _ at.stands.stage at.ahead in
     let last = reader_boundary text new _ _ taken.2 is.2 in
     let value = rw c.plain_body_len.ensures.text at (string_value mid c.args.is_raw c.args.quote len body sound stands c.in-Ok.ensures.plain) in
     let to : mid.at + len + body ≡ new.at - 1 = omega (arith, taken.1.0) in
     record {
       passed = (
-        plain_inside text kind.String c.args.self.now.reader.at new.at (c.args.self.now.reader.at + len) (new.at - 1) at.text.fits
+        plain_inside text kind.String old.reader.at new.at (old.reader.at + len) (new.at - 1) refl at.text.fits
             (omega (arith, same, taken.1.0)) (omega (arith, same, taken.1.0)) first last
             (subst (λ n. IsCharBoundary text (n + len)) same value.0) (subst (IsCharBoundary text) to value.1),
-        subst (λ (lexeme : Spanned TokenView). IsAheadPast text lexeme new (left_in c.args.self.now) (outcome text).fault)
-            (string_shown text c.args.self.now.reader.at mid.at len body new.at same taken.1.0) is,
+        subst (λ (lexeme : Spanned TokenView). IsAheadPast text lexeme new (left_in old) (outcome text).fault)
+            (string_shown text old.reader.at mid.at len body new.at same taken.1.0) is,
       );
-      lexing = past_lexing c.args.self.now _ _ c.args.self.now.word c.args.self.now.run c.args.self.now.found (past ∙ c.plain_body_len.ensures.text) at.text at.going is (nothing_kept text new c.args.self.now.word c.args.self.now.run c.args.self.now.found at.lookahead (rw c.plain_body_len.ensures.text at (step_in_code mid new _ (len + body + 1) _ stands stepped)) read);
+      lexing = past_lexing old _ new old.is_at_code old.begin old.end old.value_begin old.value_end old.token (past ∙ c.plain_body_len.ensures.text) at.text at.going is read (λ yes. rw c.plain_body_len.ensures.text at (step_in_code mid new _ (len + body + 1) _ stands stepped));
       after = rw (past, c.plain_body_len.ensures.text, at.going) refl;
     }
 
+pub pass_literal-kind-requires : goal.pass_literal-kind-requires
+pass_literal-kind-requires c = literal_here c.args.self.now c.plain_body_len.new.self literal.Text c.args.is_raw c.args.quote c.args.len c.in-Err.run' (λ e. cc) c.plain_body_len.ensures.text c.plain_body_len.ensures.ahead c.requires c.plain_body_len.ensures.stands c.in-Err.ensures.other
+
 pub returns-in-Err : goal.returns-in-Err
-returns-in-Err c =
-    let text = c.args.self.now.reader.text.now in
-    let at = c.requires in
-    let none : c.args.self.now.yielded_count + 0 ≡ c.args.self.now.yielded_count = omega (arith) in
-    record {
-      passed = record { some = λ e. cc; end = λ e. cc };
-      lexing = same_lexing text (record c.args.self.now { reader = c.plain_body_len.new.self; found = found.Literal; word = record { class = class.Opener literal.Text c.args.is_raw c.args.quote; len = c.args.len }; run = c.in-Err.run' }) (ap (λ t. t.now) c.plain_body_len.ensures.text) (
-        at.text,
-        (λ on. (at.few, c.plain_body_len.ensures.ahead _ _ at.ahead)),
-        at.going,
-        (λ on. opened_found c.args.self.now.reader c.plain_body_len.new.self literal.Text c.args.is_raw c.args.quote c.args.len c.in-Err.run' (λ e. cc) c.plain_body_len.ensures.text at.read c.plain_body_len.ensures.stands c.in-Err.ensures.other),
-      );
-      after = rw (c.plain_body_len.ensures.text, at.going, none) refl;
-    }
+returns-in-Err c = rw c.passed.ensures (next_same c.args.self.now _ _ c.pass_literal-kind.new.self (ap (λ t. t.now) c.plain_body_len.ensures.text, refl) c.pass_literal-kind.ensures)

@@ -7,16 +7,15 @@ use Rattle.starlark_reader.proofs.NextLines.{restart_inside}
 use Rattle.starlark_reader.specs.Searches.{search_reads}
 use Rattle.starlark_lexemes.specs.Inner.LexerStates.{left_in}
 use Rattle.starlark_lexemes.proofs.FoundWords.{one_more_fits}
-use Rattle.starlark_lexemes.proofs.LexerReads.{end_read}
 use Rattle.starlark_lexemes.proofs.LexerStates.{none_dropped, raw_place, same_lexing}
 use Rattle.starlark_reader.specs.Inner.ReadBounds.{LeavesRepair}
 use Rattle.starlark_lexemes.proofs.lexer_state.LexerState.take_fault.Goals as goal
 
 pub returns-in_err-fault-clause-last : goal.returns-in_err-fault-clause-last
-returns-in_err-fault-clause-last c = search (rules, end_read)
+returns-in_err-fault-clause-last c = search rules
 
 pub returns-in_err-fault-clause-lexing : goal.returns-in_err-fault-clause-lexing
-returns-in_err-fault-clause-lexing c = search (rules, same_lexing, end_read)
+returns-in_err-fault-clause-lexing c = search (rules, same_lexing)
 
 pub overflow_add-self : goal.overflow_add-self
 overflow_add-self c = search (rules, one_more_fits c.args.self.now c.requires.lexing.0.fits (c.requires.lexing.1 c.if-self.false).0)
@@ -26,7 +25,7 @@ returns-clause-last c = λ going.
     let text = c.args.self.now.reader.text.now in
     let inv = c.requires.lexing.1 going in
     let is = c.in_ok-fault.ensures.last text (left_in c.args.self.now) (outcome text).fault (c.requires.end going) inv.1 in
-    let read = c.in_ok-fault.ensures.reads text (c.requires.end going) (end_read text c.args.self.now.reader c.args.self.now.word c.args.self.now.run c.args.self.now.found (c.requires.end going) (c.requires.lexing.3 going)) in
+    let read = c.in_ok-fault.ensures.reads text (c.requires.end going) (c.requires.lexing.3 going) in
     let it : Spanned Fault = is.1.0 in
     let raw = is.1.2 in
     let few = read.1 it.node raw.1 in

@@ -1,6 +1,6 @@
 use Rattle.starlark_lexemes.specs.Inner.LexerStates.{left_to_pass}
 use Rattle.starlark_lexemes.proofs.LexerStates.{IsGoingOn}
-use Rattle.starlark_lexemes.proofs.lexer_state.LexerState.next_plain.Given as goal
+use Rattle.starlark_lexemes.proofs.lexer_state.LexerState.advance.Given as goal
 
 abbrev pub invariant-loop-self : goal.invariant-loop-self
 invariant-loop-self l = IsGoingOn l.initial.self l.self
