@@ -5,7 +5,7 @@
 
 It runs the program over texts with and without a fault and over bytes that are not UTF-8, with and
 without NAME, with too many arguments and with one that is not UTF-8, with a standard input that
-can't be read, and with a standard output that can't be written. It proves and builds the program
+can't be read, and with a standard output that can't be written or that nobody reads. It proves and builds the program
 first where that is missing, or older than a source. The exit status is 0 where every run ended as
 it has to, and 1 where one didn't.
 """
@@ -48,7 +48,7 @@ RUNS = [
     Run([], b"x !", 1, WORD + fault_line(b"<stdin>"), b""),
     Run(["BUILD"], b"x !", 1, WORD + fault_line(b"BUILD"), b""),
     Run(["a b/é.star"], b"x !", 1, WORD + fault_line("a b/é.star".encode()), b""),
-    Run(["--help"], b"x !", 1, WORD + fault_line(b"--help"), b""),
+    Run(["--helps"], b"x !", 1, WORD + fault_line(b"--helps"), b""),
     Run([""], b"x !", 1, WORD + fault_line(b""), b""),
     Run([], b"x\n\xff", 2, b"", b"input is not UTF-8\n"),
     Run(["BUILD"], b"a\xc3", 2, b"", b"input is not UTF-8\n"),
@@ -76,17 +76,36 @@ def unreadable(program):
         os.close(stdin)
 
 
-def unwritable(program):
+def unwritable(program, arguments):
     """The run whose standard output is full, and how it ends."""
-    run = Run([], b"x\n", 2, b"", b"cannot write the output\n")
+    run = Run(arguments, b"x\n", 2, b"", b"cannot write the output\n")
     with open(FULL, "wb") as stdout:
         return run, ended(program, run, stdout=stdout)
+
+
+def unread(program, arguments):
+    """The run whose standard output is a pipe that nobody reads, and how it ends."""
+    run = Run(arguments, b"x\n", 141, b"", b"")
+    reader, writer = os.pipe()
+    os.close(reader)
+    try:
+        return run, ended(program, run, stdout=writer)
+    finally:
+        os.close(writer)
+
+
+def helped(program):
+    """The run that prints the help, of which the first line is compared, and how it ends."""
+    run = Run(["--help"], b"x !", 0, USAGE, b"")
+    found = ended(program, run)
+    return run, found._replace(stdout=found.stdout[: len(USAGE)])
 
 
 def main():
     """Compares all runs."""
     program = sys.argv[1] if sys.argv[1:] else built("starlark_lex")
-    tried = [(run, ended(program, run)) for run in RUNS] + [unreadable(program), unwritable(program)]
+    tried = [(run, ended(program, run)) for run in RUNS] + [unreadable(program), helped(program)]
+    tried += [of(program, arguments) for of in (unwritable, unread) for arguments in ([], ["--help"], ["--version"])]
     wrong = [(run, found) for run, found in tried if found != run]
     for run, found in wrong:
         print(f"wanted: {run}\nfound:  {found}")
