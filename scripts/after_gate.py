@@ -65,6 +65,7 @@ JOBS = [
     Job("repaired", "oracles/repaired_texts.py --count 500"),
     Job("reports", "oracles/token_reports.py"),
     Job("pages", "checks/pages.py"),
+    Job("globs", "oracles/random_globs.py", may_lack_tools=True),
     Job("conformance", "../conformance/check.sh"),
     Job("status", "oracles/exit_status.py"),
     Job("stored", "oracles/stored_texts.py"),

@@ -34,6 +34,7 @@ from pathlib import Path
 from typing import NamedTuple
 
 sys.path.append(f"{sys.path[0]}/..")  # where shared/ lies
+from shared import plain_checks
 from shared.plain_lexer import line_and_column
 from shared.programs import TOP, built
 from shared.random_texts import random_texts
@@ -114,19 +115,53 @@ def json_value(lexeme):
     return value
 
 
+def of_fault(begin, end, message):
+    """A fault as (begin, end, kind, value for people, value)."""
+    return begin, end, "Fault", " " + quoted(message), message
+
+
 def items(text):
     """All lexemes and faults of a text, in order, as (begin, end, kind, value for people, value)."""
     for what, item in items_of(text):
         if what == "fault":
-            yield item.begin, item.end, "Fault", " " + quoted(item.message), item.message
+            yield of_fault(item.begin, item.end, item.message)
         else:
             yield item.begin, item.end, item.kind, readable(item), json_value(item)
+
+
+def problems(text):
+    """All faults of a text and what the checks find in it, in order, as items."""
+    for item, found in plain_checks.findings_between(text, items_of(text)):
+        if item and item[0] == "fault":
+            yield of_fault(item[1].begin, item[1].end, item[1].message)
+        if found:
+            yield of_fault(found[0], found[1], found[3])
 
 
 CODES = {
     "incorrect indentation": "SL001", "invalid input": "SL002", "tabs are not allowed": "SL003", "unfinished string literal": "SL004",
     "invalid string escape": "SL005", "missing string escape": "SL006", "cannot use reserved": "SL007",
     "integer cannot have leading": "SL008", "f-string expression": "SL009",
+    **{message: code for code, message in plain_checks.MESSAGES.items()},
+}
+
+
+HELPS = {
+    "SL001": "indent the line as the block that it belongs to",
+    "SL002": "remove it: only strings and comments may have it",
+    "SL003": "write spaces",
+    "SL004": "close the quotes, or use three for several lines",
+    "SL005": "write two backslashes, or r before the quotes",
+    "SL006": "write two backslashes, and close the quotes",
+    "SL007": "choose another name",
+    "SL008": "write 0o in front of an octal number, or leave the zeros out",
+    "SL009": "close the expression with `}`, or write `{{` for a brace that is text",
+    "SL101": "close it, or remove it",
+    "SL102": "remove it, or open one before it",
+    "SL103": "close the open bracket by one of its kind",
+    "SL104": "write a space after the number, or mend it",
+    "SL105": "keep one side of the merge, and remove its marker lines",
+    "SL106": "close the expression on its line, or use three quotes",
 }
 
 
@@ -156,7 +191,9 @@ def json_line(name, text, item):
         "file": name, "kind": kind, "begin": begin, "end": end, "line": line, "column": column, "end_line": end_line,
         "end_column": end_column, "utf16_column": len(front.encode("utf-16-le")) // 2 + 1, "value": value,
     }
-    return json_written({**fields, "code": code_of(value)} if kind == "Fault" else fields)
+    if kind == "Fault":
+        fields.update(value=reason(value), code=code_of(value), help=HELPS[code_of(value)])
+    return json_written(fields)
 
 
 def readable_line(prefix, text, item):
@@ -222,23 +259,31 @@ def fault_lines(name, text, item, columns=160):
     seen = "".join("\ufffd" if character != "\t" and is_hidden(character) else character for character in source)
     below = " " * len(before) + "".join("\t" if character == "\t" else " " * width(character) for character in front)
     first = f"{name_text(name)}:{line}:{column}: error: {said} [{code_of(message)}]"
-    return f"{first}\n{before}{seen}{after}\n{below}{'^' * max(marked, 1)}"
+    return f"{first}\n{before}{seen}{after}\n{below}{'^' * max(marked, 1)}\nhelp: {HELPS[code_of(message)]}"
+
+
+def shown_region(text, item):
+    """Where what is shown of a fault begins and ends, as lines and columns."""
+    begin = shown_at(text, item)
+    return *line_and_column(text, begin), *line_and_column(text, max(begin, item[1]))
 
 
 def github_line(name, text, item):
     """The annotation of a fault."""
-    line, column = line_and_column(text, shown_at(text, item))
+    line, column, end_line, end_column = shown_region(text, item)
     escaped = {"%": "%25", "\r": "%0D", "\n": "%0A"}
     file = "".join({**escaped, ":": "%3A", ",": "%2C"}.get(c, c) for c in name)
     said = "".join(escaped.get(c, c) for c in reason(item[4]))
-    return f"::error file={file},line={line},col={column},title={code_of(item[4])}::{said}"
+    place = f"line={line},col={column},endLine={end_line},endColumn={end_column}"
+    return f"::error file={file},{place},title={code_of(item[4])}::{said}"
 
 
 def sarif_result(name, text, item):
     """The result of a fault, as an object."""
-    line, column = line_and_column(text, shown_at(text, item))
+    line, column, end_line, end_column = shown_region(text, item)
     uri = ("file://" if name.startswith("/") else "") + urllib.parse.quote(name, safe="/-._~").replace("%", "%")
-    place = {"artifactLocation": {"uri": uri}, "region": {"startLine": line, "startColumn": column}}
+    region = {"startLine": line, "startColumn": column, "endLine": end_line, "endColumn": end_column}
+    place = {"artifactLocation": {"uri": uri}, "region": region}
     said = {"text": reason(item[4])}
     return {"ruleId": code_of(item[4]), "level": "error", "message": said, "locations": [{"physicalLocation": place}]}
 
@@ -246,12 +291,13 @@ def sarif_result(name, text, item):
 MOST_FAULTS = 100
 
 
-def report(form, name, text, most=None):
-    """The plain report of a text in a form, and how many faults it has; `most` of them are shown, and 100 of --check in text."""
-    found = list(items(text))
+def report(form, name, text, most=None, is_told=lambda item: True):
+    """The plain report of a text in a form, and how many faults it has; `most` of them are shown, and 100 of --check in text.
+    Where no tokens are printed, only faults that are told are among them."""
+    of_faults = {"check": fault_lines, "check json": json_line, "github": github_line}
+    found = [item for item in problems(text) if is_told(item)] if form in of_faults else list(items(text))
     faults = [item for item in found if item[2] == "Fault"]
     most = (MOST_FAULTS if form == "check" else len(faults)) if most is None else most or len(faults)
-    of_faults = {"check": fault_lines, "check json": json_line, "github": github_line}
     if form in of_faults:
         lines = [of_faults[form](name, text, item) for item in faults[:most]]
         if form == "check" and len(faults) > most:
@@ -375,6 +421,66 @@ def margin_runs(tester):
             tester.compare(f"{form} of {text!r}", tester.run(OPTIONS[form], text), ended(tester, form, [("<stdin>", text)]))
 
 
+# What the checks find: brackets, numbers, merge markers and f-strings; far from each other; beside characters of several bytes.
+CHECKED_TEXTS = [
+    b"f(1, [2, 3)\n", b"(]\n)\n", b"([)]\n", b"}", b"{(\n[", b"x = 0o8 + 0xg + 1e + 123abc + 1.5in + 1or\n", b"[x for x in 1if 2]\n", b"1 2 a\n",
+    b"<<<<<<< HEAD\nx\n=======\ny\n>>>>>>> main\n", b"<<<<<<<\r\n", b"=======", b" =======\n", b"======\n", b"========\n", b"x\n\n>>>>>>>\tz\n",
+    b'f"{a\n}"\n', b"f\"\"\"{a\n}\"\"\"\n", b'f"{f\'{a\n}\'}"\n', b'f"{(a}"\n', b'f"{a)}"\n', b'f"{a]}" ]\n', b'x = f"{name', b'f"{a}{b\n}{c}"\n',
+    b'f"{x:{y\n}}"\n', b"(\n!\n]\n", b"(\n01)\n]\n", b"('a\n]\n", b"!\n<<<<<<< x\n1a\n",
+    "(# 日本\n'é', 😀 ]\n".encode(), ("[ # " + "é" * 2000 + "\n" + "'日本' + (\n" * 500 + ")]" * 500 + "\n").encode(),
+    b"[" * 3000 + b")" * 2999 + b"\n", b"[\n" * 700 + "# é\n".encode() * 700 + b")\n" * 701, b'f"{1a\n}" ' * 300, ("'" + "😀" * 600 + "' 1a " + "0b2 " * 300).encode(),
+]
+
+
+def check_runs(tester):
+    """What the checks find in each form that has only faults."""
+    for text in CHECKED_TEXTS:
+        for form in FORMS:
+            for options in ([], ["--max-faults", "0"]) if form == "check" else ([],):
+                found = tester.run([*OPTIONS[form], *options], text)
+                lines, count = report(form, "<stdin>", text, 0 if options else None)
+                wanted = Ended(1 if count else 0, document(form, lines, [count], 0, tester.build), summary(form, [count], 0))
+                tester.compare(f"{form} {options} of {text[:60]!r}", found, wanted)
+        compare_sarif(tester, repr(text[:60]), tester.run(["--format", "sarif"], text), [("<stdin>", text)])
+
+
+# For each row of options: what the codes begin with that are told and that are left out, and words that are names.
+FILTERS = [
+    (["--select", "SL0"], ["SL0"], [], []),
+    (["--select=SL008,SL104"], ["SL008", "SL104"], [], []),
+    (["--select", "SL1", "--select", "SL007"], ["SL1", "SL007"], [], []),
+    (["--ignore", "SL007"], [], ["SL007"], []),
+    (["--ignore", "SL00,,SL105"], [], ["SL00", "SL105"], []),
+    (["--ignore", "S"], [], ["S"], []),
+    (["--ignore", ","], [], [], []),
+    (["--select", "SL0", "--ignore=SL007"], ["SL0"], ["SL007"], []),
+    (["--names", "assert,class"], [], [], ["assert", "class"]),
+    (["--names=assert", "--names=as", "--select", "SL007"], ["SL007"], [], ["assert", "as"]),
+]
+FILTERED_TEXT = b"x = 01\nclass = (1a)\nassert x\nif is $:\n as 'a\n<<<<<<< a\n" + b"1a\n" * 3
+
+
+def filtered_runs(tester):
+    """What is told with --select, --ignore and --names, in each form; tokens are printed as ever."""
+    for options, selected, ignored, names in FILTERS:
+
+        def is_told(item):
+            code, word = code_of(item[4]), reason(item[4]).split("`")[1:2]
+            is_name = code == "SL007" and word[0] in names
+            return (not selected or code.startswith(tuple(selected))) and not code.startswith(tuple(ignored)) and not is_name
+
+        for form in FORMS:
+            for most in (None, 2):
+                arguments = [*OPTIONS[form], *options, *([] if most is None else ["--max-faults", str(most)])]
+                if form == "tokens" and most:
+                    continue
+                lines, count = report(form, "<stdin>", FILTERED_TEXT, most, is_told)
+                if form == "json" and most:
+                    continue
+                wanted = Ended(1 if count else 0, document(form, lines, [count], 0, tester.build), summary(form, [count], 0))
+                tester.compare(f"{arguments}", tester.run(arguments, FILTERED_TEXT), wanted)
+
+
 def is_read_back(line, lexeme):
     """Whether Python reads the value of a line for people back."""
     shown_value = line.split(" ", 2)[2:]
@@ -438,6 +544,9 @@ def wrong_objects(printed):
     return [line for line, choices in zip(lines, resolved, strict=True) if sum(fits_schema(json.loads(line), s) for s in choices) != 1]
 
 
+RULE_TEXTS = {"shortDescription", "fullDescription", "help"}
+
+
 def wrong_sarif(printed, build):
     """What of a document isn't as SARIF 2.1.0 has it, in words of our own; the document may have no other properties."""
     document = json.loads(printed)
@@ -450,8 +559,9 @@ def wrong_sarif(printed, build):
         "its columns": run["columnKind"] in ("utf16CodeUnits", "unicodeCodePoints"),
         "the driver": set(driver) == {"name", "version", "rules", "properties"} and driver["properties"] == {"proved": build == "proved"},
         "its version": driver["version"] == (TOP / "VERSION").read_text().strip(),
-        "rules": rules == [f"SL{number:03}" for number in range(1, 10)],
-        "their words": all(set(rule) == {"id", "name", "shortDescription"} and set(rule["shortDescription"]) == {"text"} for rule in driver["rules"]),
+        "rules": rules == list(HELPS),
+        "their words": all(set(rule) == {"id", "name", *RULE_TEXTS} and all(set(rule[text]) == {"text"} for text in RULE_TEXTS) for rule in driver["rules"]),
+        "their help": {rule["id"]: rule["help"]["text"] for rule in driver["rules"]} == HELPS,
         "invocations": [set(one) for one in run["invocations"]] == [{"executionSuccessful"}],
     }
     for result in run["results"]:
@@ -461,14 +571,15 @@ def wrong_sarif(printed, build):
         facts[f"the result {result}"] = (
             set(result) == {"ruleId", "level", "message", "locations"} and result["ruleId"] in rules and set(result["message"]) == {"text"}
             and result["level"] in ("none", "note", "warning", "error") and set(physical) == {"artifactLocation", "region"}
-            and min(region["startLine"], region["startColumn"]) >= 1 and re.fullmatch(r"(file://)?([\w.~/-]|%[0-9a-fA-F]{2})*", uri, re.ASCII)
+            and set(region) == {"startLine", "startColumn", "endLine", "endColumn"} and min(region.values()) >= 1
+            and (region["startLine"], region["startColumn"]) <= (region["endLine"], region["endColumn"]) and re.fullmatch(r"(file://)?([\w.~/-]|%[0-9a-fA-F]{2})*", uri, re.ASCII)
         )
     return [what for what, is_right in facts.items() if not is_right]
 
 
 def compare_sarif(tester, what, found, named_texts, said="", unreadable=0):
     """Compares a run in SARIF with the plain results."""
-    wanted = [sarif_result(name, text, item) for name, text in named_texts for item in items(text) if item[2] == "Fault"]
+    wanted = [sarif_result(name, text, item) for name, text in named_texts for item in problems(text)]
     tester.compare(f"sarif of {what}", wrong_sarif(found.stdout, tester.build), [])
     [run] = json.loads(found.stdout)["runs"]
     urls = [result["locations"][0]["physicalLocation"]["artifactLocation"] for result in run["results"]]
@@ -500,11 +611,12 @@ def option_runs(tester):
     tester.compare("--version", tester.run(["--version"]), Ended(0, version, ""))
     x_line = "1:1-1:2 Identifier 'x'\n1:2-2:1 Newline\n2:1-2:1 Newline\n"
     fault = "1:1-1:2 Fault 'Parse error: invalid input `!`'\n1:2-1:2 Newline\n"
-    shown_fault = "%s:%d:1: error: invalid input `!` [SL002]\n!\n^\n"
+    shown_fault = f"%s:%d:1: error: invalid input `!` [SL002]\n!\n^\nhelp: {HELPS['SL002']}\n"
     of_stdin = shown_fault % ("<stdin>", 1)
     unknown = "starlark_tokens: %s: unknown option; --help lists them\n"
     no_value = "starlark_tokens: %s: needs a value; --help lists the options\n"
-    annotation = "::error file=<stdin>,line=1,col=1,title=SL002::invalid input `!`\n"
+    no_number = "starlark_tokens: --max-faults=%s: the value is a number in decimal digits\n"
+    annotation = "::error file=<stdin>,line=1,col=1,endLine=1,endColumn=2,title=SL002::invalid input `!`\n"
     rows = [
         ([], b"x\n", 0, x_line, ""),
         (["-"], b"x\n", 0, x_line, ""),
@@ -526,12 +638,14 @@ def option_runs(tester):
         (["--check", "-q", "--exclude", "--", "-"], b"!", 2, "", no_value % "--exclude"),
         (["--format", "github"], b"!", 1, annotation, ""),
         (["--format", "github", "--check"], b"!", 1, annotation, "1 fault in 1 of 1 file\n"),
-        (["--format", "xml"], b"x\n", 2, "", unknown % "--format=xml"),
+        (["--format", "xml"], b"x\n", 2, "", "starlark_tokens: --format=xml: the formats are text, json, github and sarif\n"),
+        (["--color", "red"], b"x\n", 2, "", "starlark_tokens: --color=red: the values are auto, always and never\n"),
+        (["--check", "-q", "--color", "always", "--color=never"], b"!", 1, of_stdin, ""),
         (["--format"], b"x\n", 2, "", no_value % "--format"),
         (["--chekc"], b"x\n", 2, "", unknown % "--chekc"),
-        (["--max-faults", "1x"], b"x\n", 2, "", unknown % "--max-faults=1x"),
-        (["--max-faults="], b"x\n", 2, "", unknown % "--max-faults="),
-        (["--max-faults", "-1"], b"x\n", 2, "", unknown % "--max-faults=-1"),
+        (["--max-faults", "1x"], b"x\n", 2, "", no_number % "1x"),
+        (["--max-faults="], b"x\n", 2, "", no_number % ""),
+        (["--max-faults", "-1"], b"x\n", 2, "", no_number % "-1"),
         (["-x", "--help"], b"x\n", 2, "", unknown % "-x"),
         (["--check", "--json="], b"x\n", 2, "", unknown % "--json="),
         (["--\n"], b"x\n", 2, "", unknown % "'--\\n'"),
@@ -539,8 +653,11 @@ def option_runs(tester):
         (["--version", "--help"], b"x\n", 0, usage.stdout, ""),
         (["-h"], b"x\n", 0, usage.stdout, ""),
         (["-V"], b"x\n", 0, version, ""),
-        (["--explain", "SL010"], b"", 2, "", "starlark_tokens: SL010: no fault has this code; they are SL001 to SL009\n"),
-        (["--explain", b"SL\xff"], b"", 2, "", "starlark_tokens: b'SL\\xff': no fault has this code; they are SL001 to SL009\n"),
+        (["-qV"], b"x\n", 0, version, ""),
+        (["-qq", "--check"], b"x\n", 0, "", ""),
+        (["-qx"], b"x\n", 2, "", unknown % "-qx"),
+        (["--explain", "SL010"], b"", 2, "", "starlark_tokens: SL010: no fault has this code; they are SL001 to SL009 and SL101 to SL106\n"),
+        (["--explain", b"SL\xff"], b"", 2, "", "starlark_tokens: b'SL\\xff': no fault has this code; they are SL001 to SL009 and SL101 to SL106\n"),
     ]
     for arguments, stdin, *wanted in rows:
         tester.compare(f"{arguments} over {stdin!r}", tester.run(arguments, stdin), Ended(*wanted))
@@ -570,7 +687,7 @@ def long_runs(tester, folder):
     for text in LONG:
         tester.compare(f"the long line {text!r}", tester.run(["--check"], text), ended(tester, "check", [("<stdin>", text)]))
         (folder / "long.star").write_bytes(text)
-        faults = [item for item in items(text) if item[2] == "Fault"][:MOST_FAULTS]
+        faults = list(problems(text))[:MOST_FAULTS]
         for columns in (20, 79, 80, 81):
             environment = {**os.environ, "NO_COLOR": "1", "COLUMNS": str(columns)}
             _, seen = at_terminal([tester.program, "--check", "-q", "long.star"], folder, environment)
@@ -589,6 +706,8 @@ def long_runs(tester, folder):
 
 # What is printed of n bytes with k faults is at most this many times n + k, also where all are shown.
 MOST_PRINTED = 400
+# Findings whose places were each counted from the text's start would take a minute.
+MOST_SECONDS = 10
 
 
 def bounded_runs(tester):
@@ -601,6 +720,12 @@ def bounded_runs(tester):
         print(f"300 KB of faults on one line, {arguments}: {len(found.stdout)} bytes, {taken:.2f} s")
         counted = "100000 faults in 1 of 1 file\n"
         tester.compare(f"300 KB of faults {arguments}", (found.status, found.stderr, len(found.stdout) <= most), (1, counted, True))
+    for text in (b"[" * 100_000 + b")" * 100_000, b'f"{1a\n}" ' * 50_000):
+        begun = time.monotonic()
+        found = tester.run(["--check", "--json"], text)
+        taken = time.monotonic() - begun
+        print(f"{len(text)} bytes like {text[-8:]}: {len(found.stdout)} bytes, {taken:.2f} s")
+        tester.compare(f"100,000 findings like {text[-8:]}", (found.stderr, taken < MOST_SECONDS), (counted, True))
 
 
 ODD_NAMES = ["a\nb.star", "it's \"a\" test.star", "--check", "a b.star", "é.star", "\u202e.star"]
@@ -651,10 +776,12 @@ def shell_runs(tester, folder):
 TREE = {
     "BUILD": b"x = 01\n", "BUILD.bazel": b"x\n", "WORKSPACE": b"!\n", "WORKSPACE.bzlmod": b"", "MODULE.bazel": b"x\n", "BUCK": b"x\n",
     "a.bzl": b"!", "a.star": b"!", "a.sky": b"!", "a.bxl": b"!", "build": b"!", "BUILD.txt": b"!", "a.bzl.orig": b"!", "notes.txt": b"!",
+    "TARGETS": b"!", "TARGETS.v2": b"!", "zlib.BUILD": b"!", "zlib.BUILD.bazel": b"!", "zlib.BUILD.txt": b"!", "zlibBUILD": b"!", "BUILDS": b"!",
+    "deps.MODULE.bazel": b"!", "MODULE.bazel.lock": b"!", "a.bazel": b"!",
     ".hidden/BUILD": b"!", ".hidden.bzl": b"!", "b/c/BUILD": b"!", "b/c.bzl": b"!", "b/d/e/BUCK": b"\tx\n", "b.bzl": b"x\n",
     "third_party/x/BUILD": b"!", "third_party/y.bzl": b"!", "it's/a,b:c%.bzl": b"!", "e\u0301/\u4e2d.bzl": b"!", "z/BUILD": b"x\n",
 }
-TAKEN = re.compile(r"(BUILD|BUILD\.bazel|WORKSPACE.*|MODULE\.bazel|BUCK|.*\.(bzl|star|sky|bxl))")
+TAKEN = re.compile(r"BUILD|BUCK|TARGETS|MODULE\.bazel|(BUILD\.|WORKSPACE).*|.*\.(BUILD|BUILD\.bazel|MODULE\.bazel|bzl|star|sky|bxl)")
 
 
 def walked(folder, prefix="", is_taken=TAKEN.fullmatch, is_left_out=lambda name, path: False):
@@ -702,13 +829,22 @@ def folder_runs(tester, folder):
         ("--exclude=*party/x/*",): lambda name, path: path.startswith("third_party/x/"),
         ("--exclude", "b/*", "--exclude=*.star"): lambda name, path: path.startswith("b/") or name.endswith(".star"),
         ("--exclude", "*"): lambda name, path: True,
-        ("--exclude", "*B*I*L*D*"): lambda name, path: re.search("B.*I.*L.*D", path, re.DOTALL),
-        ("--exclude", ""): lambda name, path: False,
-        ("--exclude", "ird_party"): lambda name, path: False,
+        ("--exclude", "*B*I*L*D*"): lambda name, path: re.search("B.*I.*L.*D", name, re.DOTALL),
+        ("--exclude", "folder.bzl/", "--exclude=c/"): lambda name, path: path in ("b/folder.bzl", "b/c"),
+        ("--exclude", "/b", "--exclude=./a.bzl"): lambda name, path: path in ("b", "a.bzl"),
+        ("--exclude=b/**/BUCK", "--exclude", "**/y.bzl"): lambda name, path: path == "b/d/e/BUCK" or name == "y.bzl",
+        ("--exclude", "[ab].s[k-y]?", "--exclude=[!ab].bzl", "--exclude=\\b.bzl"): lambda name, path: re.fullmatch(r"[ab]\.s[k-y].|[c-z]\.bzl|b\.bzl", name),
     }
     for options, is_left_out in globs.items():
         wanted = ended(tester, "check", walked(folder, is_left_out=is_left_out))
         tester.compare(f"{options} of a tree", tester.run(["--check", *options, "."], cwd=folder), wanted)
+    for glob in ("ird_party", "", "/", "..", "x/third_party", "BUILD/", "b/BUILD", "[", "a.bz?/"):
+        said = f"starlark_tokens: {glob}: no file or folder was left out by this --exclude\n"
+        tester.compare(f"--exclude {glob} of a tree", tester.run(["--check", "--exclude", glob, "."], cwd=folder), ended(tester, "check", everything, said))
+    said = "starlark_tokens: *.txt: no file was taken by this --include\n"
+    tester.compare("--include of nothing", tester.run(["--check", "--include=*.txt", "z"], cwd=folder), ended(tester, "check", [("z/BUILD", b"x\n")], said))
+    said = "starlark_tokens: z: no file or folder was left out by this --exclude\n"
+    tester.compare("--exclude of a name", tester.run(["--check", "--exclude=z", "z/BUILD"], cwd=folder), ended(tester, "check", [("z/BUILD", b"x\n")], said))
     included = walked(folder, is_taken=lambda name: TAKEN.fullmatch(name) or name == "build" or name.endswith(".txt"))
     found = tester.run(["--check", "--include", "*.txt", "--include=build", "."], cwd=folder)
     tester.compare("--include of a tree", found, ended(tester, "check", included))
@@ -716,6 +852,7 @@ def folder_runs(tester, folder):
         (["b"], [("b/" + name, text) for name, text in walked(folder / "b")]),
         (["b/"], [("b/" + name, text) for name, text in walked(folder / "b")]),
         (["./b"], [("./b/" + name, text) for name, text in walked(folder / "b")]),
+        (["./b", "--exclude", "b/d/"], [("./b/" + name, text) for name, text in walked(folder / "b", is_left_out=lambda name, path: path == "d")]),
         (["bazel-out"], [("bazel-out/" + name, text) for name, text in walked(folder / "third_party")]),
         ([".hidden", ".hidden.bzl", "notes.txt"], [(".hidden/BUILD", b"!"), (".hidden.bzl", b"!"), ("notes.txt", b"!")]),
         (["b", "a.bzl", "b"], [*[("b/" + n, t) for n, t in walked(folder / "b")], ("a.bzl", b"!"), *[("b/" + n, t) for n, t in walked(folder / "b")]]),
@@ -738,6 +875,10 @@ def list_runs(tester, folder):
     for separator in (b"\0", b"\n"):
         for list_text in (separator.join(texts), separator.join(texts) + separator, separator * 2 + separator.join(texts) + separator * 3):
             tester.compare(f"a list by {separator}", tester.run(["--check", "--files-from", "-"], list_text, cwd=folder), wanted)
+    globs = ["--exclude", "third_party", "--exclude=z/", "--exclude=/b/d", "--exclude", "a.s*"]
+    kept = [(name.decode(), text) for name, text in texts.items() if not re.match(rb"third_party/|z/|b/d/|a\.s", name)]
+    found = tester.run(["--check", *globs, "--files-from=-"], b"\0".join([*texts, b"./z"]), cwd=folder)
+    tester.compare("a list with globs", found, ended(tester, "check", kept))
     (folder / "list").write_bytes(b"BUILD\0z\0a\nb\0\xff\0")
     (folder / "a\nb").write_bytes(b"!")
     named = [("notes.txt", b"!"), ("BUILD", b"x = 01\n"), ("z/BUILD", b"x\n"), ("a\nb", b"!")]
@@ -749,6 +890,18 @@ def list_runs(tester, folder):
     tester.compare("no list", tester.run(["--json", "--files-from", "no"], cwd=folder), ended(tester, "json", [], said, 1))
     for name in ("list", "a\nb"):
         (folder / name).unlink()
+
+
+def too_long_runs(tester, folder):
+    """A file that is longer than a text may be is refused before it is read: here one whose bytes aren't stored."""
+    with open(folder / "long.bzl", "wb") as file:
+        file.truncate(2**32)
+    (folder / "x.bzl").write_bytes(b"!")
+    begun = time.monotonic()
+    found = tester.run(["--check", "."], cwd=folder)
+    said = "starlark_tokens: long.bzl: longer than 4294967295 bytes\n"
+    tester.compare("a file that is too long", found, ended(tester, "check", [("x.bzl", b"!")], said, 1))
+    tester.compare("a file that is too long is not read", time.monotonic() - begun < 2, True)
 
 
 def any_bytes_runs(tester, folder):
@@ -940,13 +1093,19 @@ PAINT = re.compile("\x1b\\[[0-9;]*m")
 
 
 def painted_runs(tester, folder):
-    """At a terminal the lines of faults are painted, unless NO_COLOR is set; without the paint they are as ever."""
+    """At a terminal the lines of faults are painted, unless NO_COLOR is set or TERM is dumb; --color decides before both. Without
+    the paint they are as ever."""
     (folder / "painted.star").write_bytes(b"x = 01\n")
-    environment = {name: value for name, value in os.environ.items() if name != "NO_COLOR"}
+    environment = {**{name: value for name, value in os.environ.items() if name != "NO_COLOR"}, "TERM": "xterm"}
     wanted = ended(tester, "check", [("painted.star", b"x = 01\n")])
-    for paint, is_painted in (({}, True), ({"NO_COLOR": ""}, True), ({"NO_COLOR": "1"}, False)):
-        _, seen = at_terminal([tester.program, "--check", "painted.star"], folder, {**environment, **paint})
-        tester.compare(f"paint with {paint}", (PAINT.sub("", seen), PAINT.sub("", seen) != seen), (wanted.stdout + wanted.stderr, is_painted))
+    paints = [({}, [], True), ({"NO_COLOR": ""}, [], True), ({"NO_COLOR": "1"}, [], False), ({"TERM": "dumb"}, [], False)]
+    paints += [({}, ["--color=never"], False), ({"NO_COLOR": "1", "TERM": "dumb"}, ["--color", "always"], True)]
+    for paint, option, is_painted in paints:
+        _, seen = at_terminal([tester.program, "--check", *option, "painted.star"], folder, {**environment, **paint})
+        shown = PAINT.sub("", seen)
+        tester.compare(f"paint with {paint} and {option}", (shown, shown != seen), (wanted.stdout + wanted.stderr, is_painted))
+    piped = tester.run(["--check", "--color", "always", "painted.star"], cwd=folder)
+    tester.compare("paint in a pipe", (PAINT.sub("", piped.stdout), "\x1b" in piped.stdout), (wanted.stdout, True))
     _, seen = at_terminal([tester.program, "painted.star"], folder, environment)
     tester.compare("paint of tokens", PAINT.sub("", seen), seen)
 
@@ -989,6 +1148,8 @@ def main():
     stored_runs(tester, options.write)
     option_runs(tester)
     margin_runs(tester)
+    check_runs(tester)
+    filtered_runs(tester)
     explained_faults(tester)
     bounded_runs(tester)
     python_runs(tester)
@@ -997,7 +1158,7 @@ def main():
     with tempfile.TemporaryDirectory() as top:
         top = Path(top)
         top.chmod(0o755)
-        for name in ("files", "tree", "bytes", "locked", "many", "git"):
+        for name in ("files", "tree", "bytes", "locked", "many", "git", "long"):
             (top / name).mkdir()
         file_runs(tester, top / "files")
         shell_runs(tester, top / "files")
@@ -1008,6 +1169,7 @@ def main():
         list_runs(tester, top / "tree")
         any_bytes_runs(tester, top / "bytes")
         locked_runs(tester, top / "locked")
+        too_long_runs(tester, top / "long")
         git_runs(tester, top / "git")
         many_runs(tester, top / "many")
         if tester.build == "proved":

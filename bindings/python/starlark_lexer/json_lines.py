@@ -21,6 +21,22 @@ _TOO_LARGE = 2**53
 _BASES = {"x": "#x", "o": "#o", "b": "#b"}
 
 
+# What to do about a fault of each code.
+_HELPS = {
+    "SL001": "indent the line as the block that it belongs to",
+    "SL002": "remove it: only strings and comments may have it",
+    "SL003": "write spaces",
+    "SL004": "close the quotes, or use three for several lines",
+    "SL005": "write two backslashes, or r before the quotes",
+    "SL006": "write two backslashes, and close the quotes",
+    "SL007": "choose another name",
+    "SL008": "write 0o in front of an octal number, or leave the zeros out",
+    "SL009": "close the expression with `}`, or write `{{` for a brace that is text",
+}
+
+_MESSAGE_BEGIN = "Parse error: "
+
+
 def _string(text: str) -> str:
     """A text as a string of JSON."""
     return f'"{text.translate(_ESCAPES)}"'
@@ -70,7 +86,9 @@ def lines(name: str, items: List[Union[Token, Fault]]) -> Iterator[str]:
         if isinstance(item, Token):
             yield _line(prefix, names[item.type], item, _value(item.value, item.string)) + "}\n"
         else:
-            yield _line(prefix, "Fault", item, _string(item.message)) + f',"code":"{item.code}"}}\n'
+            message = item.message[len(_MESSAGE_BEGIN) :] if item.message.startswith(_MESSAGE_BEGIN) else item.message
+            said = f',"code":"{item.code}","help":{_string(_HELPS[item.code])}}}\n'
+            yield _line(prefix, "Fault", item, _string(message)) + said
 
 
 def summary(files: int, faulty_files: int, faults: int, unreadable: int) -> str:

@@ -6,10 +6,11 @@ use Rattle.std.specs.Prelude.{Option, if◌then◌else◌, sum_by}
 use Rattle.starlark_base.specs.Places.{Text}
 use Rattle.starlark_tokens.specs.Reports.{fault_count}
 use Rattle.starlark_tokens.specs.Totals.{faults_in, in_64_bits, is_read, totals_of, with_source}
+use Rattle.starlark_tokens.specs.declared.form.Style.{Style}
 use Rattle.starlark_tokens.specs.declared.totals.Totals.{Totals}
 
-abbrev is_faulty : Option Text → Bool
-is_faulty source = nat_lt 0 (faults_in source)
+abbrev is_faulty : Style → Option Text → Bool
+is_faulty style source = nat_lt 0 (faults_in style source)
 
 abbrev is_lost : Option Text → Bool
 is_lost source = not (is_read source)
@@ -20,9 +21,9 @@ counted p sources source =
     let all = sum_by-append (λ x. cond (p x) 1 0) sources (source ∷ []) in
     omega (arith, all)
 
-summed : (sources : List (Option Text)) (source : Option Text) → in_64_bits (in_64_bits (sum_by faults_in sources) + in_64_bits (faults_in source)) ≡ in_64_bits (sum_by faults_in (sources ++ source ∷ []))
-summed sources source =
-    let all = sum_by-append faults_in sources (source ∷ []) in
+summed : (style : Style) (sources : List (Option Text)) (source : Option Text) → in_64_bits (in_64_bits (sum_by (faults_in style) sources) + in_64_bits (faults_in style source)) ≡ in_64_bits (sum_by (faults_in style) (sources ++ source ∷ []))
+summed style sources source =
+    let all = sum_by-append (faults_in style) sources (source ∷ []) in
     omega (arith, all)
 
 -- whether there are faults isn't lost where their count stops
@@ -51,14 +52,14 @@ kept : (n : ℕ) → in_64_bits n ≡ in_64_bits (in_64_bits n + 0)
 kept n = omega arith
 
 -- totals with one source more are those of all of them
-pub with_next : (lost : ℕ) (sources : List (Option Text)) (source : Option Text) → with_source (totals_of lost sources) source ≡ totals_of lost (sources ++ source ∷ [])
-with_next lost sources (Some text) =
-    let c = count_by is_faulty sources in
-    let faulty = ap (λ b. if b then in_64_bits (in_64_bits c + 1) else in_64_bits c) (still_some (fault_count text)) ∙ faulty_by (nat_lt 0 (fault_count text)) c ∙ counted is_faulty sources (Some text) in
+pub with_next : (style : Style) (lost : ℕ) (sources : List (Option Text)) (source : Option Text) → with_source style (totals_of style lost sources) source ≡ totals_of style lost (sources ++ source ∷ [])
+with_next style lost sources (Some text) =
+    let c = count_by (is_faulty style) sources in
+    let faulty = ap (λ b. if b then in_64_bits (in_64_bits c + 1) else in_64_bits c) (still_some (fault_count style text)) ∙ faulty_by (nat_lt 0 (fault_count style text)) c ∙ counted (is_faulty style) sources (Some text) in
     let unreadable = kept (lost + count_by is_lost sources) ∙ lost_counted lost sources (Some text) in
-    same_totals _ _ _ _ _ _ _ _ (counted is_read sources (Some text)) faulty (summed sources (Some text)) unreadable
-with_next lost sources None =
+    same_totals _ _ _ _ _ _ _ _ (counted is_read sources (Some text)) faulty (summed style sources (Some text)) unreadable
+with_next style lost sources None =
     let read = kept (count_by is_read sources) ∙ counted is_read sources None in
-    let faulty = kept (count_by is_faulty sources) ∙ counted is_faulty sources None in
-    let faults = kept (sum_by faults_in sources) ∙ summed sources None in
+    let faulty = kept (count_by (is_faulty style) sources) ∙ counted (is_faulty style) sources None in
+    let faults = kept (sum_by (faults_in style) sources) ∙ summed style sources None in
     same_totals _ _ _ _ _ _ _ _ read faulty faults (lost_counted lost sources None)

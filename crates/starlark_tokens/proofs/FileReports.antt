@@ -5,7 +5,7 @@ use Rattle.std.proofs.lemmas.Grind.{flat_map-append}
 use Rattle.std.proofs.lemmas.List.{length-map, map-append}
 use Rattle.std.specs.List.{AllByRecursion}
 use Rattle.std.specs.Io.KnownBytes.{Keeps}
-use Rattle.std.specs.Prelude.{Option, Result, drop, false, if◌then◌else◌, true}
+use Rattle.std.specs.Prelude.{IfOk, Option, Result, drop, false, if◌then◌else◌, true}
 use Rattle.std.specs.declared.io.Error.{Error}
 use Rattle.starlark_tokens.specs.ReportDocuments.{closing, document, is_collected, opening}
 use Rattle.starlark_base.specs.Places.{Text}
@@ -43,7 +43,7 @@ pub record SoFar {W : Type 0} (gives : Giving) (calls : WriterCalls W) (style : 
   pub reads : List ReadSource
   pub each : sources_of reads ≡ sources
   pub given : AllByRecursion (λ read. gives read.source read.text) reads
-  pub counted : totals ≡ totals_of lost (texts_of reads)
+  pub counted : totals ≡ totals_of style lost (texts_of reads)
   pub written : Took calls Going before after (reports style reads)
 
 -- what was reported of a source, by another name of it
@@ -53,7 +53,7 @@ same_source gives calls style source other old new before after result is report
 
 module _ {W : Type 0} (gives : Giving) (calls : WriterCalls W) (style : Style) where
   -- before the first source
-  pub none_yet : (lost : ℕ) (before : W) → SoFar gives calls style lost [] before before (totals_of lost [])
+  pub none_yet : (lost : ℕ) (before : W) → SoFar gives calls style lost [] before before (totals_of style lost [])
   none_yet lost before = record {
     reads = [];
     each = refl;
@@ -64,19 +64,19 @@ module _ {W : Type 0} (gives : Giving) (calls : WriterCalls W) (style : Style) w
 
   -- one source more
   one_more : (lost : ℕ) (sources : List Source) (source : Source) (text : Option Text) (before middle after : W) (old new : Totals)
-      → SoFar gives calls style lost sources before middle old → gives source text → Took calls Going middle after (report_if_read style (name_of source) text) → new ≡ with_source old text
+      → SoFar gives calls style lost sources before middle old → gives source text → Took calls Going middle after (report_if_read style (name_of source) text) → new ≡ with_source style old text
       → SoFar gives calls style lost (sources ++ source ∷ []) before after new
   one_more lost sources source text before middle after old new so_far given written counted =
       let reads = so_far.reads in
       let last : ReadSource = record { source = source; text = text } in
       let sources_added = map-append (λ (r : ReadSource). r.source) reads (last ∷ []) in
       let texts_added = map-append (λ (r : ReadSource). r.text) reads (last ∷ []) in
-      let all = counted ∙ ap (λ totals. with_source totals text) so_far.counted ∙ with_next lost (texts_of reads) text in
+      let all = counted ∙ ap (λ totals. with_source style totals text) so_far.counted ∙ with_next style lost (texts_of reads) text in
       record {
         reads = with_read reads source text;
         each = sources_added ∙ ap (λ front. front ++ source ∷ []) so_far.each;
         given = all_append (λ (r : ReadSource). gives r.source r.text) reads (last ∷ []) so_far.given (given, tt);
-        counted = all ∙ ap (totals_of lost) (sym texts_added);
+        counted = all ∙ ap (totals_of style lost) (sym texts_added);
         written = subst (Took calls Going before after) (sym (reports_with style reads source text)) (took_then calls Going before middle after _ _ so_far.written written);
       }
 
@@ -88,7 +88,7 @@ module _ {W : Type 0} (gives : Giving) (calls : WriterCalls W) (style : Style) w
   -- one source more, which is the next of all
   pub next_source : (lost : ℕ) (sources seen : List Source) (done : ℕ) (other : Source) (text : Option Text) (before middle after : W) (old new : Totals)
       → seen ≡ sources → done < length seen
-      → SoFar gives calls style lost (take done sources) before middle old → gives (get_or seen done other) text → Took calls Going middle after (report_if_read style (name_of (get_or seen done other)) text) → new ≡ with_source old text
+      → SoFar gives calls style lost (take done sources) before middle old → gives (get_or seen done other) text → Took calls Going middle after (report_if_read style (name_of (get_or seen done other)) text) → new ≡ with_source style old text
       → SoFar gives calls style lost (take (done + 1) sources) before after new
   next_source lost sources seen done other text before middle after old new same less so_far given written counted =
       let more = one_more lost (take done sources) (get_or seen done other) text before middle after old new so_far given written counted in
@@ -129,7 +129,7 @@ module _ {W : Type 0} (gives : Giving) (calls : WriterCalls W) (style : Style) w
 
   -- writing that stopped before the first report, …
   pub stopped_before : (around : Totals → Text → Text) (ending : Ending) (sources : Sources) (a b : W) (error : Error)
-      → StopsWithin calls a b error (around (totals_of sources.lost []) []) → AreReported around gives calls ending style sources a b (Err error)
+      → StopsWithin calls a b error (around (totals_of style sources.lost []) []) → AreReported around gives calls ending style sources a b (Err error)
   stopped_before around ending sources a b error stopped = record {
     reads = [];
     unread = sources.all.items;
@@ -145,7 +145,7 @@ module _ {W : Type 0} (gives : Giving) (calls : WriterCalls W) (style : Style) w
       → ((totals : Totals) (all : Text) → first ++ (all ++ rest totals) ≡ around totals all)
       → Took calls Going a b first → AreReportedAlone gives calls style sources b c (Err error) → AreReported around gives calls ending style sources a c (Err error)
   stopped_among around ending sources a b c error first rest is took stopped =
-      let totals = totals_of sources.lost (texts_of stopped.reads) in
+      let totals = totals_of style sources.lost (texts_of stopped.reads) in
       let all = reports style stopped.reads in
       record {
         reads = stopped.reads;
@@ -159,7 +159,7 @@ module _ {W : Type 0} (gives : Giving) (calls : WriterCalls W) (style : Style) w
 
   -- … or after them
   pub ends_after : (around : Totals → Text → Text) (ending : Ending) (sources : Sources) (a b : W) (reads : List ReadSource) (totals : Totals) (result : Result Totals Error)
-      → sources_of reads ≡ sources.all.items → AllByRecursion (λ (read : ReadSource). gives read.source read.text) reads → totals ≡ totals_of sources.lost (texts_of reads)
+      → sources_of reads ≡ sources.all.items → AllByRecursion (λ (read : ReadSource). gives read.source read.text) reads → totals ≡ totals_of style sources.lost (texts_of reads)
       → ((found : Totals) → result ≡ Ok found → found ≡ totals)
       → Takes calls ending a b (around totals (reports style reads)) result → AreReported around gives calls ending style sources a b result
   ends_after around ending sources a b reads totals (Ok found) each given counted same written = record {
@@ -177,7 +177,7 @@ module _ {W : Type 0} (gives : Giving) (calls : WriterCalls W) (style : Style) w
 
   -- the text before the reports, the reports of all sources, and then the text after them
   pub closed : (part : Text → Text) (sources : Sources) (a b c d : W) (reads : List ReadSource) (totals : Totals) (result : Result Totals Error)
-      → sources_of reads ≡ sources.all.items → AllByRecursion (λ (read : ReadSource). gives read.source read.text) reads → totals ≡ totals_of sources.lost (texts_of reads)
+      → sources_of reads ≡ sources.all.items → AllByRecursion (λ (read : ReadSource). gives read.source read.text) reads → totals ≡ totals_of style sources.lost (texts_of reads)
       → ((found : Totals) → result ≡ Ok found → found ≡ totals)
       → Took calls Going a b (opening style.form) → Took calls Going b c (part (reports style reads)) → Takes calls Going c d (closing style.form totals) result
       → AreReported (λ totals reports. opening style.form ++ (part reports ++ closing style.form totals)) gives calls Going style sources a d result
@@ -188,7 +188,7 @@ module _ {W : Type 0} (gives : Giving) (calls : WriterCalls W) (style : Style) w
 
   -- writing that stopped within the reports, which all were collected
   pub stopped_body : (part : Text → Text) (sources : Sources) (a b c : W) (reads : List ReadSource) (totals : Totals) (error : Error)
-      → sources_of reads ≡ sources.all.items → AllByRecursion (λ (read : ReadSource). gives read.source read.text) reads → totals ≡ totals_of sources.lost (texts_of reads)
+      → sources_of reads ≡ sources.all.items → AllByRecursion (λ (read : ReadSource). gives read.source read.text) reads → totals ≡ totals_of style sources.lost (texts_of reads)
       → Took calls Going a b (opening style.form) → StopsWithin calls b c error (part (reports style reads))
       → AreReported (λ totals reports. opening style.form ++ (part reports ++ closing style.form totals)) gives calls Going style sources a c (Err error)
   stopped_body part sources a b c reads totals error each given counted first stopped =
@@ -202,7 +202,7 @@ module _ {W : Type 0} (gives : Giving) (calls : WriterCalls W) (style : Style) w
   pub in_other_words : (around other : Totals → Text → Text) (ending : Ending) (sources : Sources) (a b : W) (result : Result Totals Error)
       → ((totals : Totals) (all : Text) → around totals all ≡ other totals all) → AreReported around gives calls ending style sources a b result → AreReported other gives calls ending style sources a b result
   in_other_words around other ending sources a b result is reported =
-      let same = is (totals_of sources.lost (texts_of reported.reads)) (reports style reported.reads) in
+      let same = is (totals_of style sources.lost (texts_of reported.reads)) (reports style reported.reads) in
       record {
         reads = reported.reads;
         unread = reported.unread;
@@ -242,7 +242,7 @@ module _ {W : Type 0} (gives : Giving) (calls : WriterCalls W) (style : Style) w
   pub document_unflushed : (sources : Sources) (a b c : W) (totals : Totals) (error : Error) → IsDocument gives calls Going style sources a b (Ok totals) → Keeps (calls.contents b) (calls.contents c) → calls.flush b false c
       → IsDocument gives calls Done style sources a c (Err error)
   document_unflushed sources a b c totals error whole keeps flush =
-      let all = document style.form (totals_of sources.lost (texts_of whole.reads)) (reports style whole.reads) in
+      let all = document style.form (totals_of style sources.lost (texts_of whole.reads)) (reports style whole.reads) in
       let stopped = stops_later calls a b c error all [] whole.written (stops_first calls b c error [] (unflushed calls b c keeps flush)) in
       record {
         reads = whole.reads;
@@ -268,9 +268,17 @@ module _ {W : Type 0} (gives : Giving) (calls : WriterCalls W) (style : Style) w
 
   -- totals of all sources are totals of as many texts
   pub totals_alone : (around : Totals → Text → Text) (ending : Ending) (sources : Sources) (a b : W) (totals : Totals)
-      → AreReported around gives calls ending style sources a b (Ok totals) → AreTotalsOf sources totals
+      → AreReported around gives calls ending style sources a b (Ok totals) → AreTotalsOf style sources totals
   totals_alone around ending sources a b totals reported = record {
     texts = texts_of reported.reads;
     each = length-map reported.reads (λ (r : ReadSource). r.text) ∙ sym (length-map reported.reads (λ (r : ReadSource). r.source)) ∙ ap length (each_reported around ending sources a b totals reported);
     found = reported.counted;
   }
+
+-- totals of all sources in some style
+pub styled_totals : {W : Type 0} (gives : Giving) (calls : WriterCalls W) (Is : Style → Type 0) (ending : Ending) (sources : Sources) (a b : W) (result : Result Totals Error)
+    → ((style : Style) × Is style × IsDocument gives calls ending style sources a b result) → IfOk result (λ totals. (style : Style) × Is style × AreTotalsOf style sources totals)
+styled_totals gives calls Is ending sources a b (Ok totals) reported =
+    let style = reported.0 in
+    (style, reported.1, totals_alone gives calls style (document style.form) ending sources a b totals reported.2)
+styled_totals gives calls Is ending sources a b (Err error) reported = tt

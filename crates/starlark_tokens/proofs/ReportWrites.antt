@@ -96,6 +96,11 @@ module _ {W : Type 0} (calls : WriterCalls W) where
     whole = append_assoc x stopped.taken stopped.left ∙ ap (λ t. x ++ t) stopped.whole;
   }
 
+  -- a text, and then writing another, which may have stopped
+  pub takes_later : (T : Type 0) (ending : Ending) (a b c : W) (x y : Text) (result : Result T Error) → Took calls Going a b x → Takes calls ending b c y result → Takes calls ending a c (x ++ y) result
+  takes_later T ending a b c x y (Ok value) took takes = took_then ending a b c x y took takes
+  takes_later T ending a b c x y (Err error) took stopped = stops_later a b c error x y took stopped
+
   -- a text that was written by single writes
   pub written_all : (T : Type 0) (a b : W) (text : Text) (result : Result T Error) → WritesText calls a b text result → Takes calls Going a b text result
   unfolding WritesText

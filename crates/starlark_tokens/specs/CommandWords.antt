@@ -20,7 +20,8 @@ is_any texts word = list_any (λ text. is_same word text) texts
 -- an option that has a value, without it
 abbrev pub takes_value : Text → Bool
 takes_value =
-    is_any (codes "--format" ∷ codes "--exclude" ∷ codes "--include" ∷ codes "--files-from" ∷ codes "--stdin-filename" ∷ codes "--explain" ∷ codes "--max-faults" ∷ [])
+    is_any (codes "--format" ∷ codes "--exclude" ∷ codes "--include" ∷ codes "--files-from" ∷ codes "--stdin-filename" ∷ codes "--explain" ∷ codes "--max-faults" ∷ codes "--color"
+    ∷ codes "--select" ∷ codes "--ignore" ∷ codes "--names" ∷ [])
 
 -- how many words are before the first `--`
 abbrev pub leading_count : List Text → ℕ

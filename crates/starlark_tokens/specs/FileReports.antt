@@ -42,7 +42,7 @@ pub record IsReported {W T : Type 0} (gives : Giving) (calls : WriterCalls W) (s
   pub text : Option Text
   pub given : gives source text
   pub written : Takes calls Going before after (report_if_read style (name_of source) text) result
-  pub counted : OnOk result (new ≡ with_source old text)
+  pub counted : OnOk result (new ≡ with_source style old text)
 
 -- Sources were reported, each with the text that reading it gave, in order: what `around` makes of their totals and reports
 -- was written, by calls of the output. Where this succeeded they are all sources, and the result is their totals; else they
@@ -52,9 +52,9 @@ pub record AreReported {W : Type 0} (around : Totals → Text → Text) (gives :
   pub unread : List Source
   pub each : map (λ read. read.source) reads ++ unread ≡ sources.all.items
   pub given : AllByRecursion (λ read. gives read.source read.text) reads
-  pub written : Takes calls ending before after (around (totals_of sources.lost (map (λ read. read.text) reads)) (reports style reads)) result
+  pub written : Takes calls ending before after (around (totals_of style sources.lost (map (λ read. read.text) reads)) (reports style reads)) result
   pub all : OnOk result (unread ≡ [])
-  pub counted : IfOk result (λ totals. totals ≡ totals_of sources.lost (map (λ read. read.text) reads))
+  pub counted : IfOk result (λ totals. totals ≡ totals_of style sources.lost (map (λ read. read.text) reads))
 
 -- the reports of sources alone
 abbrev pub AreReportedAlone : {W : Type 0} → Giving → WriterCalls W → Style → Sources → (before after : W) → Result Totals Error → Type 0

@@ -28,7 +28,11 @@ message text = flat_map github_char (chars text)
 unfoldable pub title : (code said : Text) → Text
 title code said = codes ",title=" ++ (code ++ (codes "::" ++ (message (reason said) ++ codes "\n")))
 
--- the annotation of a fault; the prefix is its begin up to the line
-unfoldable pub github_line : (prefix : Text) → ResolvedPos → (code said : Text) → Text
-github_line prefix place code said =
-    (prefix ++ decimal (place.line + 1)) ++ ((codes ",col=" ++ decimal (place.column + 1)) ++ title code said)
+-- where an annotation ends, after its column
+unfoldable pub github_end : ResolvedPos → Text
+github_end end = (codes ",endLine=" ++ decimal (end.line + 1)) ++ (codes ",endColumn=" ++ decimal (end.column + 1))
+
+-- the annotation of a fault between two places; the prefix is its begin up to the line
+unfoldable pub github_line : (prefix : Text) → (begin end : ResolvedPos) → (code said : Text) → Text
+github_line prefix begin end code said =
+    (prefix ++ decimal (begin.line + 1)) ++ ((codes ",col=" ++ decimal (begin.column + 1)) ++ (github_end end ++ title code said))

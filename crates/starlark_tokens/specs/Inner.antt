@@ -2,3 +2,6 @@
 pub mod Reporters
 pub mod ShownKinds
 pub mod CollectedReports
+pub mod KnownPositions
+pub mod GlobAnswers
+pub mod NotedGlobs

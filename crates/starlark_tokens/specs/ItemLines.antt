@@ -38,11 +38,6 @@ json_head prefix begin end kind =
 abbrev pub json_line : (prefix : Text) → (begin end : Position) → (kind value : Text) → Text
 json_line prefix begin end kind value = json_head prefix begin end kind ++ (value ++ codes "}\n")
 
--- the line of an object of JSON of a fault
-unfoldable pub json_fault : (prefix : Text) → (begin end : Position) → (code message : Text) → Text
-json_fault prefix begin end code message =
-    json_head prefix begin end (codes "Fault") ++ (json_string message ++ (codes ",\"code\":\"" ++ (code ++ codes "\"}\n")))
-
 -- the bytes of a line before an offset
 abbrev pub line_front : Text → ℕ → Text
 line_front text at = after_last is_lf (take at text)
@@ -83,6 +78,16 @@ below c = if c == 9 then codes "\t" else replicate (shown_width c) 32
 -- a message without the words that all messages begin with
 abbrev pub reason : (message : Text) → Text
 reason message = if starts_with nat_eq message (codes "Parse error: ") then drop 13 message else message
+
+-- the line of an object of JSON of a fault
+unfoldable pub json_fault : (prefix : Text) → (begin end : Position) → (code message help : Text) → Text
+json_fault prefix begin end code message help =
+    json_head prefix begin end (codes "Fault") ++ (json_string (reason message)
+    ++ (codes ",\"code\":\"" ++ (code ++ (codes "\",\"help\":" ++ (json_string help ++ codes "}\n")))))
+
+-- the line that says what to do about a fault
+unfoldable pub help_line : (help : Text) → Text
+help_line help = codes "help: " ++ (help ++ codes "\n")
 
 -- what begins bold text on a terminal, what begins red text, and what ends both; nothing where it isn't painted
 abbrev pub bold : (is_painted : Bool) → Text

@@ -3,11 +3,13 @@ pub mod PythonLiterals
 pub mod JsonStrings
 pub mod Values
 pub mod CharacterWidths
+pub mod FaultHelps
 pub mod ItemLines
 pub mod SourceLines
 pub mod GithubLines
 pub mod SarifResults
 pub mod ShownPlaces
+pub mod Problems
 pub mod Reports
 pub mod Totals
 pub mod Counts
@@ -16,6 +18,8 @@ pub mod ReportStatus
 pub mod CommandWords
 pub mod Requests
 pub mod Globs
+pub mod UsedGlobs
+pub mod GlobLaws
 pub mod FileNames
 pub mod NameLists
 pub mod FolderPaths
@@ -23,4 +27,5 @@ pub mod ShownNames
 pub mod SourceNames
 pub mod ReportWrites
 pub mod FileReports
+pub mod Filters
 pub mod Progress

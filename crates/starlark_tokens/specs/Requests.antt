@@ -1,16 +1,20 @@
 -- What the words of a command line ask for.
 use Rattle.std.specs.Prelude.{◌≡◌, ℕ, ◌-◌, ◌*◌, ◌+◌, ◌^◌, ◌==◌, nat_lt, Bool, true, false, fold, map, ◌++◌, ◌&&◌, ◌||◌, not, length, codes, drop, List, [], ◌∷◌, Option, Some, None, if◌then◌else◌}
 use Rattle.std.specs.Char.{is_ascii_digit}
-use Rattle.std.specs.List.{list_all, list_any}
+use Rattle.std.specs.List.{flat_map, list_all, list_any}
 use Rattle.std.specs.Option.{option_map, unwrap_or}
 use Rattle.starlark_base.specs.Places.{Text}
 use Rattle.starlark_tokens.specs.CommandWords.{begins_with, is_any, is_same}
+use Rattle.starlark_tokens.specs.declared.filters.Filter.{Filter}
 use Rattle.starlark_tokens.specs.declared.form.Form.{Form}
 use Rattle.starlark_tokens.specs.declared.form.Form.TheVariants as shown
 use Rattle.starlark_tokens.specs.declared.form.Style.{Style}
 use Rattle.starlark_tokens.specs.declared.form.Terminal.{Terminal}
+use Rattle.starlark_tokens.specs.NameLists.{names_between}
 use Rattle.starlark_tokens.specs.Reports.{shows_faults}
 use Rattle.starlark_tokens.specs.Totals.{in_64_bits}
+use Rattle.starlark_tokens.specs.declared.requests.Colour.{Colour}
+use Rattle.starlark_tokens.specs.declared.requests.Colour.TheVariants.{Auto, Always, Never}
 use Rattle.starlark_tokens.specs.declared.requests.Format.{Format}
 use Rattle.starlark_tokens.specs.declared.requests.Format.TheVariants.{Text as AsText, Json, Github, Sarif}
 use Rattle.starlark_tokens.specs.declared.requests.Reports.{Reports as ReportsRecord}
@@ -22,20 +26,39 @@ use Rattle.starlark_tokens.specs.declared.command_words.Words.{Words as WordsRec
 abbrev pub is_option : Text → Bool
 is_option word = begins_with (codes "-") word && not (is_same word (codes "-"))
 
--- an option without a value
+-- a long option without a value
 abbrev pub is_flag : Text → Bool
-is_flag =
-    is_any (codes "--check" ∷ codes "--json" ∷ codes "--quiet" ∷ codes "-q" ∷ codes "--version" ∷ codes "-V" ∷ codes "--help" ∷ codes "-h" ∷ [])
+is_flag = is_any (codes "--check" ∷ codes "--json" ∷ codes "--quiet" ∷ codes "--version" ∷ codes "--help" ∷ [])
+
+-- a letter of a short option: `q`, `V` or `h`
+abbrev pub is_short_letter : ℕ → Bool
+is_short_letter byte = byte == 113 || (byte == 86 || byte == 104)
+
+-- a short option, or several in one word: letters after one `-`
+abbrev pub is_short : Text → Bool
+is_short word = begins_with (codes "-") word && (nat_lt 1 (length word) && list_all is_short_letter (drop 1 word))
+
+-- the short option of a letter is among words, alone or joined with others
+abbrev pub has_short : (letter : ℕ) → List Text → Bool
+has_short letter words = list_any (λ word. is_short word && list_any (λ byte. byte == letter) word) words
 
 -- an option that names a format
 abbrev pub is_format : Text → Bool
 is_format = is_any (codes "--format=text" ∷ codes "--format=json" ∷ codes "--format=github" ∷ codes "--format=sarif" ∷ [])
 
+-- an option that says when lines for people have colours
+abbrev pub is_colour : Text → Bool
+is_colour = is_any (codes "--color=auto" ∷ codes "--color=always" ∷ codes "--color=never" ∷ [])
+
+-- an option that says which faults are told
+abbrev pub is_filter : Text → Bool
+is_filter word = begins_with (codes "--select=") word || (begins_with (codes "--ignore=") word || begins_with (codes "--names=") word)
+
 -- an option with a value, which may be any
 abbrev pub is_valued : Text → Bool
 is_valued word =
     begins_with (codes "--exclude=") word || begins_with (codes "--include=") word || begins_with (codes "--files-from=") word
-    || begins_with (codes "--stdin-filename=") word || begins_with (codes "--explain=") word
+    || begins_with (codes "--stdin-filename=") word || begins_with (codes "--explain=") word || is_filter word
 
 -- a number in decimal digits
 abbrev pub is_number : Text → Bool
@@ -56,9 +79,13 @@ has_number option word = begins_with option word && is_number (drop (length opti
 abbrev pub is_numbered : Text → Bool
 is_numbered = has_number (codes "--max-faults=")
 
+-- an option with a value that the program has for it
+abbrev pub is_chosen : Text → Bool
+is_chosen word = is_format word || (is_colour word || is_numbered word)
+
 -- an option that the program doesn't have
 abbrev pub is_unknown : Text → Bool
-is_unknown word = is_option word && not (is_flag word || is_format word || is_valued word || is_numbered word)
+is_unknown word = is_option word && not (is_flag word || (is_short word || (is_chosen word || is_valued word)))
 
 -- the word is among others
 abbrev pub is_among : Text → List Text → Bool
@@ -99,20 +126,43 @@ format_of words =
     else (if is_among (codes "--format=github") words then Github
     else (if is_among (codes "--format=json") words || is_among (codes "--json") words then Json else AsText))
 
+-- when lines for people have colours, by words: `never` goes before `always`
+abbrev pub colour_of : List Text → Colour
+colour_of words =
+    if is_among (codes "--color=never") words then Never else (if is_among (codes "--color=always") words then Always else Auto)
+
+-- lines for people have colours, by when they have, and by whether the output is a terminal that shows colours
+abbrev pub is_painted : Colour → Bool → Bool
+is_painted Auto shows_colours = shows_colours
+is_painted Always shows_colours = true
+is_painted Never shows_colours = false
+
 -- no count of faults is asked for
 abbrev pub is_quiet : List Text → Bool
-is_quiet words = is_among (codes "--quiet") words || is_among (codes "-q") words
+is_quiet words = is_among (codes "--quiet") words || has_short 113 words
 
 -- how many faults of a file are shown, if words ask for it; 0 is all
 abbrev pub max_faults : List Text → Option ℕ
 max_faults words = option_map number (first_value (codes "--max-faults=") words)
 
+-- what the values of an option list, which ends with `=`, separated by commas
+abbrev pub listed_by : (option : Text) → List Text → List Text
+listed_by option words = flat_map (names_between 44) (values option words)
+
+-- which faults are told, by words
+pub record IsFilterOf (words : List Text) (filter : Filter) : Type 0 where
+  pub selected : map (λ word. word.items) filter.selected.items ≡ listed_by (codes "--select=") words
+  pub ignored : map (λ word. word.items) filter.ignored.items ≡ listed_by (codes "--ignore=") words
+  pub names : map (λ word. word.items) filter.names.items ≡ listed_by (codes "--names=") words
+
 -- the reports that words ask for
 pub record Wants (words : WordsRecord) (reports : ReportsRecord) : Type 0 where
   pub check : reports.check ≡ is_among (codes "--check") (leading words)
   pub format : reports.format ≡ format_of (leading words)
+  pub colour : reports.colour ≡ colour_of (leading words)
   pub quiet : reports.quiet ≡ is_quiet (leading words)
   pub max_faults : reports.max_faults ≡ max_faults (leading words)
+  pub filter : IsFilterOf (leading words) reports.filter
   pub excluded : map (λ glob. glob.now) reports.excluded.items ≡ values (codes "--exclude=") (leading words)
   pub included : map (λ glob. glob.now) reports.included.items ≡ values (codes "--include=") (leading words)
   pub lists : map (λ name. name.now) reports.lists.items ≡ values (codes "--files-from=") (leading words)
@@ -147,21 +197,20 @@ most shown.Tokens asked = 2 ^ 64 - 1
 most shown.NamedTokens asked = 2 ^ 64 - 1
 most form asked = limit (unwrap_or asked (first_most form))
 
--- the style of the reports that are asked for, in a form
-abbrev pub style_in : Form → (asked : Option ℕ) → Terminal → Style
-style_in form asked terminal = record { form = form; side = terminal.side; most = most form asked }
-
 -- the style of the reports that are asked for
-abbrev pub style_of : ReportsRecord → (are_named : Bool) → Terminal → Style
-style_of reports are_named terminal = style_in (form_of reports are_named terminal.is_painted) reports.max_faults terminal
+pub record IsStyleOf (reports : ReportsRecord) (are_named : Bool) (terminal : Terminal) (style : Style) : Type 0 where
+  pub form : style.form ≡ form_of reports are_named terminal.is_painted
+  pub side : style.side ≡ terminal.side
+  pub most : style.most ≡ most style.form reports.max_faults
+  pub filter : style.filter.now ≡ reports.filter
 
 -- help is asked for
 abbrev pub asks_help : List Text → Bool
-asks_help words = is_among (codes "--help") words || is_among (codes "-h") words
+asks_help words = is_among (codes "--help") words || has_short 104 words
 
 -- the version is asked for
 abbrev pub asks_version : List Text → Bool
-asks_version words = is_among (codes "--version") words || is_among (codes "-V") words
+asks_version words = is_among (codes "--version") words || has_short 86 words
 
 -- what words ask for: an unknown option comes before all else, then help, the version, and the first code to explain
 abbrev pub Asks : (words : WordsRecord) → Request → Type 0

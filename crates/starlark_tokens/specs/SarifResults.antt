@@ -33,11 +33,15 @@ unfoldable pub sarif_words : (code said : Text) → Text
 sarif_words code said =
     codes ",\n{\"ruleId\":\"" ++ (code ++ (codes "\",\"level\":\"error\",\"message\":{\"text\":" ++ json_string (reason said)))
 
--- the place of a result, after what is between its message and its line
-unfoldable pub sarif_place : (prefix : Text) → ResolvedPos → Text
-sarif_place prefix place =
-    prefix ++ (decimal (place.line + 1) ++ (codes ",\"startColumn\":" ++ (decimal (place.column + 1) ++ codes "}}}]}")))
+-- where a result begins, after what is between its message and its line
+unfoldable pub sarif_begin : (prefix : Text) → ResolvedPos → Text
+sarif_begin prefix begin = (prefix ++ decimal (begin.line + 1)) ++ (codes ",\"startColumn\":" ++ decimal (begin.column + 1))
 
--- a fault as a result, after a comma
-unfoldable pub sarif_result : (prefix : Text) → ResolvedPos → (code said : Text) → Text
-sarif_result prefix place code said = sarif_words code said ++ sarif_place prefix place
+-- where it ends, and its end
+unfoldable pub sarif_end : ResolvedPos → Text
+sarif_end end =
+    (codes ",\"endLine\":" ++ decimal (end.line + 1)) ++ ((codes ",\"endColumn\":" ++ decimal (end.column + 1)) ++ codes "}}}]}")
+
+-- a fault between two places as a result, after a comma
+unfoldable pub sarif_result : (prefix : Text) → (begin end : ResolvedPos) → (code said : Text) → Text
+sarif_result prefix begin end code said = sarif_words code said ++ (sarif_begin prefix begin ++ sarif_end end)

@@ -1,10 +1,11 @@
 -- Where a fault is shown: on the line that has to be changed. Only two faults begin before it.
-use Rattle.std.specs.Prelude.{ℕ, ◌+◌, ◌-◌, not, ◌==◌, if◌then◌else◌, nat_eq, length, drop, codes}
+use Rattle.std.specs.Prelude.{ℕ, ◌+◌, ◌-◌, not, ◌==◌, nat_lt, if◌then◌else◌, nat_eq, length, drop, codes}
 use Rattle.std.specs.List.{prefix_len, starts_with}
 use Rattle.starlark_base.specs.Places.{Text}
 use Rattle.starlark_grammar.specs.Tokens.{Fault, Indentation, InvalidTab}
 use Rattle.starlark_grammar.specs.Recovery.{line_end_len, margin_line}
 use Rattle.starlark_tokens.specs.ItemLines.{line_front}
+use Rattle.starlark_base.specs.declared.position.Position.{Position}
 use Rattle.starlark_tokens.specs.declared.shown_places.Shown.{Shown}
 use Rattle.starlark_tokens.specs.declared.shown_places.Shown.TheVariants.{Begin, Tab, LastLine}
 
@@ -27,6 +28,10 @@ unfoldable pub shown_at : Text → Shown → (begin end : ℕ) → ℕ
 shown_at text Begin begin end = begin
 shown_at text Tab begin end = tab_of text begin
 shown_at text LastLine begin end = line_start text end
+
+-- where what is shown of a fault ends: a fault may end before the place where it is shown
+abbrev pub shown_end : (shown end : Position) → Position
+shown_end shown end = if nat_lt end.at shown.at then shown else end
 
 -- which of these it is: the fault of an indentation is shown on its last line, that of a tab at the tab
 abbrev pub shown_of : Fault → Shown

@@ -54,6 +54,10 @@ pub fn takes_value(word: &[u8]) -> bool
             "--stdin-filename",
             "--explain",
             "--max-faults",
+            "--color",
+            "--select",
+            "--ignore",
+            "--names",
         ],
     )
 }

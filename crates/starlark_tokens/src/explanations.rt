@@ -17,6 +17,12 @@ pub fn explanation(code: &str) -> Option<&'static str>
         "SL007" => Some(RESERVED_KEYWORD),
         "SL008" => Some(STARTS_ZERO),
         "SL009" => Some(UNFINISHED_FSTRING_EXPRESSION),
+        "SL101" => Some(NEVER_CLOSED),
+        "SL102" => Some(CLOSES_NOTHING),
+        "SL103" => Some(CLOSES_ANOTHER),
+        "SL104" => Some(NUMBER_BEFORE_WORD),
+        "SL105" => Some(MERGE_MARKER),
+        "SL106" => Some(FSTRING_LINE_END),
         _ => None,
     }
 }
@@ -103,4 +109,60 @@ SL009: f-string expression is missing closing `}`
 
 A `{` in an f-string is not closed, and the quotes after it begin a string in its expression. Close the
 expression, or write `{{` and `}}` for braces that are text.
+";
+
+const NEVER_CLOSED: &str = "\
+SL101: bracket is never closed
+
+    deps = [
+        \"//base\",
+        \"//names\",
+
+The file ends, and the bracket is still open: all lines after it belong to it. Close it. After a fault of
+the lexer brackets aren't checked.
+";
+
+const CLOSES_NOTHING: &str = "\
+SL102: bracket closes nothing
+
+    print(len(names)))
+
+No bracket is open, or only the expression of an f-string is. Remove the bracket, or open one before it.
+";
+
+const CLOSES_ANOTHER: &str = "\
+SL103: bracket closes one of another kind
+
+    sizes = [len(name], 2]
+
+The innermost open bracket, whose place the message has, is of another kind. Close each bracket by one of
+its kind: `[len(name), 2]`.
+";
+
+const NUMBER_BEFORE_WORD: &str = "\
+SL104: number right before a name, keyword or number
+
+    mode = 0o8
+
+The number ends where no digit of its base, or no exponent, follows, and a name, keyword or number begins
+there. Write the digits that are meant, or a space between the two.
+";
+
+const MERGE_MARKER: &str = "\
+SL105: line of an unresolved merge
+
+    <<<<<<< HEAD
+
+The line is one that git writes where two branches changed the same lines. Keep the lines that are meant,
+and remove those that begin with `<<<<<<<`, `=======` or `>>>>>>>`.
+";
+
+const FSTRING_LINE_END: &str = "\
+SL106: f-string with one quote has a line end in an expression
+
+    label = f\"//lib:{name
+    }\"
+
+The expression that a `{` begins goes on after the end of its line. Close it on its line, or use three
+quotes.
 ";

@@ -1,11 +1,11 @@
 //! Which files of a folder are read.
 
-ghost use Rattle.std.specs.Prelude.{◌≡◌, map};
+ghost use Rattle.std.specs.Prelude.{◌≡◌, IfOk};
 ghost use Rattle.starlark_tokens.specs.FileNames as spec;
 
 use crate::command_words::{begins_with, is_any};
-use crate::globs::fits;
-use crate::requests::Reports;
+use crate::used_globs::{UsedGlob, some_stands};
+use std::alloc::{AllocError, Global};
 
 /// Whether a name ends with a text.
 pub fn ends_with(name: &[u8], text: &str) -> bool
@@ -14,12 +14,21 @@ pub fn ends_with(name: &[u8], text: &str) -> bool
     name.ends_with(text.as_bytes())
 }
 
+/// Whether a name ends as one of a build tool's files may.
+fn has_build_ending(name: &[u8]) -> bool
+    ensures { result ≡ spec.has_build_ending name.now }
+{
+    ends_with(name, ".BUILD") || ends_with(name, ".BUILD.bazel") || ends_with(name, ".MODULE.bazel")
+}
+
 /// Whether a file of this name is one of a build tool's.
 fn is_build_file(name: &[u8]) -> bool
     ensures { result ≡ spec.is_build_file name.now }
 {
-    is_any(name, &["BUILD", "BUILD.bazel", "MODULE.bazel", "BUCK"])
+    is_any(name, &["BUILD", "MODULE.bazel", "BUCK", "TARGETS"])
+        || begins_with(name, "BUILD.")
         || begins_with(name, "WORKSPACE")
+        || has_build_ending(name)
 }
 
 /// Whether a file of this name is a module.
@@ -32,31 +41,29 @@ fn is_module(name: &[u8]) -> bool
         || ends_with(name, ".bxl")
 }
 
-/// Whether some glob stands for a name.
-fn some_fits(globs: &[&[u8]], name: &[u8]) -> bool
-    ensures { result ≡ spec.some_fits (map (λ glob. glob.now) globs.now) name.now }
+/// Whether a file is read where its folder is: by its name, or since a glob stands for its path.
+pub fn is_read(
+    alloc: Global,
+    included: &mut [UsedGlob<'_>],
+    name: &[u8],
+    path: &[u8],
+) -> Result<bool, AllocError>
+    ensures { IfOk result (λ read. read ≡ spec.is_read included.old name.now path.now) }
 {
-    for glob in globs {
-        if fits(glob, name) {
-            return true;
-        }
-    }
-    false
+    let is_included = some_stands(alloc, included, false, path)?;
+    Ok(is_build_file(name) || is_module(name) || is_included)
 }
 
-/// Whether a file of this name is read where its folder is.
-pub fn is_read(wanted: &Reports<'_>, name: &[u8]) -> bool
-    ensures { result ≡ spec.is_read wanted.now name.now }
+/// Whether a file or folder of a folder is left out: it is hidden, or a glob stands for its path.
+pub fn is_left_out(
+    alloc: Global,
+    excluded: &mut [UsedGlob<'_>],
+    is_folder: bool,
+    name: &[u8],
+    path: &[u8],
+) -> Result<bool, AllocError>
+    ensures { IfOk result (λ out. out ≡ spec.is_left_out excluded.old is_folder name.now path.now) }
 {
-    is_build_file(name) || is_module(name) || some_fits(wanted.included.as_slice(), name)
-}
-
-/// Whether a file or folder of a folder is left out: it is hidden, or a glob stands for its name or
-/// for its path.
-pub fn is_left_out(wanted: &Reports<'_>, name: &[u8], path: &[u8]) -> bool
-    ensures { result ≡ spec.is_left_out wanted.now name.now path.now }
-{
-    begins_with(name, ".")
-        || some_fits(wanted.excluded.as_slice(), name)
-        || some_fits(wanted.excluded.as_slice(), path)
+    let is_excluded = some_stands(alloc, excluded, is_folder, path)?;
+    Ok(begins_with(name, ".") || is_excluded)
 }

@@ -11,6 +11,7 @@ ghost use Rattle.starlark_tokens.specs.Inner.CollectedReports.{AreCollected};
 ghost use Rattle.starlark_tokens.specs.ReportWrites.{Takes};
 ghost use Rattle.starlark_tokens.specs.Requests as requests;
 ghost use Rattle.starlark_tokens.specs.Totals.{AreTotalsOf};
+ghost use Rattle.starlark_tokens.specs.declared.form.Style.{Style};
 
 use crate::counts::count_line;
 use crate::form::{Form, Style, Terminal};
@@ -54,13 +55,13 @@ pub fn unwritable(rt: &HostRuntime, error: &io::Error) -> u8
 /// Reports one source, and counts it. Only a failure of the output, or of memory for it, is returned.
 fn report_source<S: Texts, W: WriteDevice>(
     rt: &HostRuntime,
-    style: Style,
+    style: Style<'_>,
     texts: &S,
     source: &Source,
     totals: &mut Totals,
     output: &mut W,
 ) -> io::Result<()>
-    ensures { IsReported (S.gives texts.now) W.calls style source.now totals.old totals.new output.old output.new result }
+    ensures { IsReported (S.gives texts.now) W.calls style.entry source.now totals.old totals.new output.old output.new result }
 {
     match texts.text(source) {
         Ok(text) => {
@@ -88,12 +89,12 @@ fn show_done<W, T: WriteDevice>(rt: &HostRuntime, screen: &mut Screen<W, T>, don
 /// Reports all sources one after another.
 fn report_each<S: Texts, W: WriteDevice, T: WriteDevice>(
     rt: &HostRuntime,
-    style: Style,
+    style: Style<'_>,
     texts: &S,
     sources: &Sources,
     screen: &mut Screen<W, T>,
 ) -> io::Result<Totals>
-    ensures { AreReportedAlone (S.gives texts.now) W.calls style sources.now screen.old.output screen.new.output result }
+    ensures { AreReportedAlone (S.gives texts.now) W.calls style.entry sources.now screen.old.output screen.new.output result }
 {
     let mut totals = Totals::of_unreadable(sources.lost);
     for (done, source) in sources.all.iter().enumerate() {
@@ -138,13 +139,13 @@ fn put_closing<W: WriteDevice, T: WriteDevice>(
 /// Writes an opening, the reports of all sources, and a closing.
 fn report_streamed<S: Texts, W: WriteDevice, T: WriteDevice>(
     rt: &HostRuntime,
-    style: Style,
+    style: Style<'_>,
     texts: &S,
     sources: &Sources,
     screen: &mut Screen<W, T>,
 ) -> io::Result<Totals>
-    ensures { AreReported (λ totals reports. documents.opening style.form ++ (reports ++ documents.closing style.form totals))
-        (S.gives texts.now) W.calls Going style sources.now screen.old.output screen.new.output result }
+    ensures { AreReported (λ totals reports. documents.opening style.entry.form ++ (reports ++ documents.closing style.entry.form totals))
+        (S.gives texts.now) W.calls Going style.entry sources.now screen.old.output screen.new.output result }
 {
     put_opening(rt.alloc(), style.form, screen)?;
     let totals = report_each(rt, style, texts, sources, screen)?;
@@ -162,11 +163,11 @@ fn without_first(bytes: &[u8]) -> &[u8]
 /// The reports of all sources, and what was found in them, in memory.
 fn collected<S: Texts>(
     rt: &HostRuntime,
-    style: Style,
+    style: Style<'_>,
     texts: &S,
     sources: &Sources,
 ) -> Result<(Totals, Vec<u8>), AllocError>
-    ensures { IfOk result (λ found. AreCollected (S.gives texts.now) style sources.now found.0 found.1.items) }
+    ensures { IfOk result (λ found. AreCollected (S.gives texts.now) style.entry sources.now found.0 found.1.items) }
 {
     let progress = Progress::begun(rt, sources.all.len());
     let mut results = Screen::new(rt.alloc(), Vec::new(rt.alloc()), rt.stderr(), progress);
@@ -179,13 +180,13 @@ fn collected<S: Texts>(
 /// sources are read.
 fn report_collected<S: Texts, W: WriteDevice, T: WriteDevice>(
     rt: &HostRuntime,
-    style: Style,
+    style: Style<'_>,
     texts: &S,
     sources: &Sources,
     screen: &mut Screen<W, T>,
 ) -> io::Result<Totals>
-    ensures { AreReported (λ totals reports. documents.opening style.form ++ (drop 1 reports ++ documents.closing style.form totals))
-        (S.gives texts.now) W.calls Going style sources.now screen.old.output screen.new.output result }
+    ensures { AreReported (λ totals reports. documents.opening style.entry.form ++ (drop 1 reports ++ documents.closing style.entry.form totals))
+        (S.gives texts.now) W.calls Going style.entry sources.now screen.old.output screen.new.output result }
 {
     let (totals, reports) = collected(rt, style, texts, sources)?;
     put_opening(rt.alloc(), style.form, screen)?;
@@ -197,12 +198,12 @@ fn report_collected<S: Texts, W: WriteDevice, T: WriteDevice>(
 /// Writes the document of all sources.
 fn report_document<S: Texts, W: WriteDevice, T: WriteDevice>(
     rt: &HostRuntime,
-    style: Style,
+    style: Style<'_>,
     texts: &S,
     sources: &Sources,
     screen: &mut Screen<W, T>,
 ) -> io::Result<Totals>
-    ensures { IsDocument (S.gives texts.now) W.calls Going style sources.now screen.old.output screen.new.output result }
+    ensures { IsDocument (S.gives texts.now) W.calls Going style.entry sources.now screen.old.output screen.new.output result }
 {
     if style.form.is_collected() {
         return report_collected(rt, style, texts, sources, screen);
@@ -216,12 +217,12 @@ fn report_document<S: Texts, W: WriteDevice, T: WriteDevice>(
 /// the totals alone.
 fn report_to<S: Texts, W: WriteDevice, T: WriteDevice>(
     rt: &HostRuntime,
-    style: Style,
+    style: Style<'_>,
     texts: &S,
     sources: &Sources,
     screen: &mut Screen<W, T>,
 ) -> io::Result<Totals>
-    ensures { IsDocument (S.gives texts.now) W.calls Done style sources.now screen.old.output screen.new.output result }
+    ensures { IsDocument (S.gives texts.now) W.calls Done style.entry sources.now screen.old.output screen.new.output result }
 {
     let found = report_document(rt, style, texts, sources, screen);
     screen.clear();
@@ -247,8 +248,8 @@ fn report_wanted<S: Texts, W: WriteDevice, T: WriteDevice>(
     sources: &Sources,
     screen: &mut Screen<W, T>,
 ) -> io::Result<Totals>
-    ensures { IsDocument (S.gives texts.now) W.calls Done (requests.style_of wanted.now (spec.are_named sources.now) terminal)
-        sources.now screen.old.output screen.new.output result }
+    ensures { (style : Style) × requests.IsStyleOf wanted.now (spec.are_named sources.now) terminal style
+        × IsDocument (S.gives texts.now) W.calls Done style sources.now screen.old.output screen.new.output result }
 {
     let style = style_of(wanted, are_named(sources), terminal);
     report_to(rt, style, texts, sources, screen)
@@ -261,7 +262,7 @@ pub fn report_sources(
     sources: &Sources,
     terminal: Terminal,
 ) -> io::Result<Totals>
-    ensures { IfOk result (AreTotalsOf sources.now) }
+    ensures { IfOk result (λ totals. (style : Style) × requests.IsStyleOf wanted.now (spec.are_named sources.now) terminal style × AreTotalsOf style sources.now totals) }
 {
     let output = BufWriter::with_capacity(rt.alloc(), BUFFER_LEN, rt.stdout())?;
     let progress = Progress::begun(rt, sources.all.len());

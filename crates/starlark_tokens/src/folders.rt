@@ -4,12 +4,13 @@ ghost use Rattle.std.specs.Prelude.{◌≡◌, IfOk, string_bytes};
 ghost use Rattle.starlark_tokens.specs.FolderPaths as spec;
 ghost use Rattle.starlark_tokens.specs.Totals.{with_lost};
 
-use crate::command_words::is_same;
+use crate::command_words::{is_any, is_same};
 use crate::file_names::{ends_with, is_left_out, is_read};
 use crate::messages::say;
 use crate::name_lists::{folder_names, listed_names};
 use crate::requests::Reports;
 use crate::sources::{STDIN, Source, Sources};
+use crate::used_globs::{UsedGlob, some_holds, some_stands, unused};
 use std::alloc::AllocError;
 use std::fs::{Files, Metadata};
 use std::io::Read;
@@ -26,6 +27,10 @@ const STDIN_SHOWN: &str = "<stdin>";
 struct Search<'a> {
     rt: &'a HostRuntime,
     wanted: &'a Reports<'a>,
+    /// Globs of files and folders that are left out.
+    excluded: Vec<UsedGlob<'a>>,
+    /// Globs of files that are read besides those that are read anyway.
+    included: Vec<UsedGlob<'a>>,
     sources: Sources,
     /// The paths that are still to be visited, in reversed order.
     pending: Vec<String>,
@@ -90,6 +95,14 @@ fn is_file(rt: &HostRuntime, path: &str, metadata: &Metadata) -> bool {
     }
 }
 
+/// Whether a name is that of a folder.
+fn is_folder(rt: &HostRuntime, name: &[u8]) -> bool {
+    match str::from_utf8(name) {
+        Ok(path) => fs::metadata(rt, path).is_ok_and(|metadata| metadata.is_dir()),
+        Err(_) => false,
+    }
+}
+
 impl Search<'_> {
     /// Counts a name that can't be read, and says why.
     fn lose<D: std::fmt::Display>(&mut self, name: &[u8], why: &D)
@@ -101,9 +114,13 @@ impl Search<'_> {
 
     /// Adds a path of a folder to those that are to be visited, unless it is left out.
     fn add_path(&mut self, prefix: &str, name: &[u8]) -> Result<(), AllocError> {
+        if is_any(name, &[".", ".."]) {
+            return Ok(());
+        }
         let mut path = Vec::from_slice(self.rt.alloc(), prefix.as_bytes())?;
         path.extend_from_slice(name)?;
-        if is_left_out(self.wanted, name, path.as_slice()) {
+        let excluded = self.excluded.as_mut_slice();
+        if is_left_out(self.rt.alloc(), excluded, false, name, path.as_slice())? {
             return Ok(());
         }
         match String::from_utf8(path) {
@@ -127,17 +144,32 @@ impl Search<'_> {
         Ok(())
     }
 
+    /// Adds the paths of a folder that is found in another one, unless it is left out.
+    fn add_found_folder(&mut self, path: &str) -> Result<(), AllocError> {
+        let excluded = self.excluded.as_mut_slice();
+        if some_stands(self.rt.alloc(), excluded, true, path.as_bytes())? {
+            return Ok(());
+        }
+        self.add_paths(path)
+    }
+
+    /// Adds a file that is found in a folder, if it is read.
+    fn add_found_file(&mut self, path: String, metadata: &Metadata) -> Result<(), AllocError> {
+        let included = self.included.as_mut_slice();
+        let name = last_name(path.as_str()).as_bytes();
+        if is_read(self.rt.alloc(), included, name, path.as_bytes())?
+            && is_file(self.rt, path.as_str(), metadata)
+        {
+            self.sources.all.push(Source::File(path))?;
+        }
+        Ok(())
+    }
+
     /// Goes into a folder, or adds a file that is read. Links to folders aren't followed.
     fn visit(&mut self, path: String) -> Result<(), AllocError> {
         match fs::symlink_metadata(self.rt, path.as_str()) {
-            Ok(metadata) if metadata.is_dir() => return self.add_paths(path.as_str()),
-            Ok(metadata) => {
-                if is_read(self.wanted, last_name(path.as_str()).as_bytes())
-                    && is_file(self.rt, path.as_str(), &metadata)
-                {
-                    self.sources.all.push(Source::File(path))?;
-                }
-            }
+            Ok(metadata) if metadata.is_dir() => return self.add_found_folder(path.as_str()),
+            Ok(metadata) => return self.add_found_file(path, &metadata),
             Err(error) => self.lose(path.as_bytes(), &error),
         }
         Ok(())
@@ -166,6 +198,20 @@ impl Search<'_> {
         }
     }
 
+    /// Says which globs stood for nothing.
+    fn say_unused(&self) {
+        say_unused(
+            self.rt,
+            self.excluded.as_slice(),
+            &"no file or folder was left out by this --exclude",
+        );
+        say_unused(
+            self.rt,
+            self.included.as_slice(),
+            &"no file was taken by this --include",
+        );
+    }
+
     /// Adds standard input.
     fn add_stdin(&mut self) -> Result<(), AllocError> {
         let name = self.stdin_name()?;
@@ -192,17 +238,36 @@ impl Search<'_> {
         Ok(())
     }
 
+    /// Adds what a name in a list names, unless a glob leaves it out.
+    fn add_listed(&mut self, name: &[u8]) -> Result<(), AllocError> {
+        let excluded = self.excluded.as_mut_slice();
+        let is_folder = is_folder(self.rt, name);
+        if some_holds(self.rt.alloc(), excluded, is_folder, name)? {
+            return Ok(());
+        }
+        self.add_name(name)
+    }
+
     /// Adds what the names in a list name.
     fn add_list(&mut self, name: &[u8]) -> Result<(), AllocError> {
         match list_of(self.rt, name) {
             Ok(names) => {
                 for name in &names {
-                    self.add_name(name.as_slice())?;
+                    self.add_listed(name.as_slice())?;
                 }
             }
             Err(error) => self.lose(name, &error),
         }
         Ok(())
+    }
+}
+
+/// Says something of each glob that stood for nothing.
+fn say_unused<D: std::fmt::Display>(rt: &HostRuntime, globs: &[UsedGlob<'_>], what: &D) {
+    for glob in globs {
+        if !glob.is_used {
+            say(rt, glob.text, what);
+        }
     }
 }
 
@@ -223,12 +288,15 @@ fn list_of(rt: &HostRuntime, name: &[u8]) -> io::Result<Vec<Vec<u8>>> {
 /// Finds the sources that are asked for: by names, and by lists of names. Without any it is standard
 /// input.
 ///
-/// What can't be read is said on standard error, and counted. The files of a folder come in the order
+/// What can't be read is said on standard error, and counted, and each glob that stood for nothing is
+/// said there. The files of a folder come in the order
 /// of their names' bytes, those of a folder in it where that stands.
 pub fn sources_of(rt: &HostRuntime, wanted: &Reports<'_>) -> Result<Sources, AllocError> {
     let mut search = Search {
         rt,
         wanted,
+        excluded: unused(rt.alloc(), wanted.excluded.as_slice())?,
+        included: unused(rt.alloc(), wanted.included.as_slice())?,
         sources: Sources {
             all: Vec::new(rt.alloc()),
             lost: 0,
@@ -245,5 +313,6 @@ pub fn sources_of(rt: &HostRuntime, wanted: &Reports<'_>) -> Result<Sources, All
     for name in wanted.lists.iter() {
         search.add_list(name)?;
     }
+    search.say_unused();
     Ok(search.sources)
 }

@@ -2,8 +2,9 @@
 
 ghost use Rattle.std.specs.Prelude.{◌≡◌};
 ghost use Rattle.starlark_tokens.specs.ReportDocuments.{is_collected};
-ghost use Rattle.starlark_tokens.specs.Inner.Reporters.{has_only_faults};
-ghost use Rattle.starlark_tokens.specs.Reports.{shows_faults};
+ghost use Rattle.starlark_tokens.specs.Reports.{has_only_faults, shows_faults};
+
+use crate::filters::Filter;
 
 /// The form of a report.
 #[derive(Clone, Copy)]
@@ -37,12 +38,14 @@ pub struct Terminal {
 
 /// How files are reported.
 #[derive(Clone, Copy)]
-pub struct Style {
+pub struct Style<'a> {
     pub form: Form,
     /// Bytes of a line of the source that have room on each side of a fault's begin.
     pub side: u16,
     /// Number of faults of a file that are shown.
     pub most: usize,
+    /// Which faults are told where no tokens are printed.
+    pub filter: &'a Filter,
 }
 
 impl Form {

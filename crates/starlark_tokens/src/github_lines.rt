@@ -65,18 +65,29 @@ fn push_title(line: &mut String, code: &str, message: &str) -> Result<(), AllocE
     line.push_str("\n")
 }
 
-/// Appends the annotation of a fault.
+/// Appends where an annotation ends.
+#[tactic(auto, unfolding(crate::specs::GithubLines::github_end))]
+fn push_github_end(line: &mut String, end: Position) -> Result<(), AllocError>
+    ensures { OnOk result (string_bytes line.new ≡ string_bytes line.old ++ spec.github_end end.place) }
+{
+    push_field(line, ",endLine=", end.place.line)?;
+    push_field(line, ",endColumn=", end.place.column)
+}
+
+/// Appends the annotation of a fault between two positions.
 #[tactic(auto, unfolding(crate::specs::GithubLines::github_line))]
 pub fn push_github_fault(
     line: &mut String,
     prefix: &str,
-    shown: Position,
+    begin: Position,
+    end: Position,
     code: &str,
     message: &str,
 ) -> Result<(), AllocError>
-    ensures { OnOk result (string_bytes line.new ≡ string_bytes line.old ++ spec.github_line prefix.now shown.place code.now message.now) }
+    ensures { OnOk result (string_bytes line.new ≡ string_bytes line.old ++ spec.github_line prefix.now begin.place end.place code.now message.now) }
 {
-    push_field(line, prefix, shown.place.line)?;
-    push_field(line, ",col=", shown.place.column)?;
+    push_field(line, prefix, begin.place.line)?;
+    push_field(line, ",col=", begin.place.column)?;
+    push_github_end(line, end)?;
     push_title(line, code, message)
 }

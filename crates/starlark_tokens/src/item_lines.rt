@@ -2,19 +2,20 @@
 
 ghost use Rattle.std.specs.Prelude.{◌≡◌, ◌++◌, ◌∷◌, OnOk, codes, string_bytes};
 ghost use Rattle.std.specs.Str.{IsCharBoundary};
-ghost use Rattle.starlark_tokens.specs.ItemLines.{json_fault, json_line, readable_line};
+ghost use Rattle.starlark_tokens.specs.ItemLines.{help_line, json_fault, json_line, readable_line};
 ghost use Rattle.starlark_tokens.specs.PythonLiterals.{quoted};
 ghost use Rattle.starlark_tokens.specs.Reports.{fault_report, source_fault, token_report};
 ghost use Rattle.starlark_tokens.specs.Values.{json_of, readable};
 ghost use Rattle.starlark_token.specs.TokenTexts.{kind_of};
 ghost use Rattle.starlark_token.specs.TokenViews.{token_view};
 
-use crate::fault_lines::{ShownFault, push_fault_lines};
+use crate::fault_lines::{ShownFault, push_fault_lines, reason};
 use crate::form::Form;
 use crate::github_lines::push_github_fault;
 use crate::json_strings::push_json_string;
 use crate::python_literals::push_quoted;
 use crate::sarif_results::push_sarif_fault;
+use crate::shown_places::shown_end;
 use crate::token_lines::{push_json_head, push_readable_head};
 use crate::token_values::{push_json_value, push_readable};
 use starlark_base::position::Position;
@@ -93,21 +94,27 @@ fn push_readable_fault(
 
 /// Appends the object of JSON of a fault.
 #[tactic(auto, unfolding(crate::specs::ItemLines::json_fault))]
-fn push_json_fault(
-    lines: &mut String,
-    prefix: &str,
-    begin: Position,
-    end: Position,
-    code: &str,
-    message: &str,
-) -> Result<(), AllocError>
-    ensures { OnOk result (string_bytes lines.new ≡ string_bytes lines.old ++ json_fault prefix.now begin end code.now message.now) }
+fn push_json_fault(lines: &mut String, prefix: &str, fault: Fault<'_>) -> Result<(), AllocError>
+    ensures { OnOk result (string_bytes lines.new ≡ string_bytes lines.old
+        ++ json_fault prefix.now fault.entry.begin fault.entry.end fault.entry.code.now fault.entry.message.now fault.entry.help.now) }
 {
-    push_json_head(lines, prefix, begin, end, "Fault")?;
-    push_json_string(lines, message)?;
+    push_json_head(lines, prefix, fault.begin, fault.end, "Fault")?;
+    push_json_string(lines, reason(fault.message))?;
     lines.push_str(",\"code\":\"")?;
-    lines.push_str(code)?;
-    lines.push_str("\"}\n")
+    lines.push_str(fault.code)?;
+    lines.push_str("\",\"help\":")?;
+    push_json_string(lines, fault.help)?;
+    lines.push_str("}\n")
+}
+
+/// Appends the line that says what to do about a fault.
+#[tactic(auto, unfolding(crate::specs::ItemLines::help_line))]
+fn push_help(lines: &mut String, help: &str) -> Result<(), AllocError>
+    ensures { OnOk result (string_bytes lines.new ≡ string_bytes lines.old ++ help_line help.now) }
+{
+    lines.push_str("help: ")?;
+    lines.push_str(help)?;
+    lines.push_str("\n")
 }
 
 /// Appends the lines of a fault with its source, in colours or without.
@@ -121,13 +128,15 @@ fn push_source_fault(
 ) -> Result<(), AllocError>
     requires { IsCharBoundary text.now fault.shown.at }
     ensures { OnOk result (string_bytes lines.new ≡ string_bytes lines.old
-        ++ source_fault is_painted side prefix.now text.now fault.entry.shown fault.entry.end.at fault.entry.code.now fault.entry.message.now) }
+        ++ (source_fault is_painted side prefix.now text.now fault.entry.shown fault.entry.end.at fault.entry.code.now fault.entry.message.now
+        ++ help_line fault.entry.help.now)) }
 {
     let Fault {
         end,
         shown,
         code,
         message,
+        help,
         ..
     } = fault;
     let shown = ShownFault {
@@ -136,7 +145,8 @@ fn push_source_fault(
         code,
         message,
     };
-    push_fault_lines(lines, prefix, text, side, shown, end.at)
+    push_fault_lines(lines, prefix, text, side, shown, end.at)?;
+    push_help(lines, help)
 }
 
 /// A fault of a text.
@@ -152,6 +162,8 @@ pub struct Fault<'a> {
     pub code: &'a str,
     /// Its message.
     pub message: &'a str,
+    /// What to do about it.
+    pub help: &'a str,
 }
 
 /// Appends what is printed of a fault of a text.
@@ -166,7 +178,7 @@ pub fn push_fault(
 ) -> Result<(), AllocError>
     requires { IsCharBoundary text.now fault.shown.at }
     ensures { OnOk result (string_bytes lines.new ≡ string_bytes lines.old
-        ++ fault_report form side prefix.now text.now fault.entry.shown fault.entry.begin fault.entry.end fault.entry.code.now fault.entry.message.now) }
+        ++ fault_report form side prefix.now text.now fault.entry.shown fault.entry.begin fault.entry.end fault.entry.code.now fault.entry.message.now fault.entry.help.now) }
 {
     let Fault {
         begin,
@@ -174,15 +186,17 @@ pub fn push_fault(
         shown,
         code,
         message,
+        ..
     } = fault;
+    let shown_end = shown_end(shown, end);
     match form {
         Form::Tokens => push_readable_fault(lines, prefix, begin, end, message),
         Form::NamedTokens => push_readable_fault(lines, prefix, begin, end, message),
-        Form::Json => push_json_fault(lines, prefix, begin, end, code, message),
+        Form::Json => push_json_fault(lines, prefix, fault),
         Form::Faults => push_source_fault(lines, false, side, prefix, text, fault),
         Form::PaintedFaults => push_source_fault(lines, true, side, prefix, text, fault),
-        Form::JsonFaults => push_json_fault(lines, prefix, begin, end, code, message),
-        Form::Github => push_github_fault(lines, prefix, shown, code, message),
-        Form::Sarif => push_sarif_fault(lines, prefix, shown, code, message),
+        Form::JsonFaults => push_json_fault(lines, prefix, fault),
+        Form::Github => push_github_fault(lines, prefix, shown, shown_end, code, message),
+        Form::Sarif => push_sarif_fault(lines, prefix, shown, shown_end, code, message),
     }
 }

@@ -5,6 +5,7 @@
 #![tactic(auto)]
 
 ghost use Rattle.std.specs.Prelude.{◌≡◌, ◌⊎◌, IfOk};
+ghost use Rattle.starlark_tokens.specs.Requests as requests;
 ghost use Rattle.starlark_tokens.specs.ReportStatus.{IsPrintStatus, IsRunStatus, IsStatusOf, status_of_print};
 
 mod arguments;
@@ -16,15 +17,19 @@ mod explanations;
 mod fault_lines;
 mod file_names;
 mod file_runs;
+mod filters;
 mod folders;
 mod form;
 mod github_lines;
 mod globs;
+mod helps;
 mod item_lines;
 mod json_strings;
+mod known_positions;
 mod laws;
 mod messages;
 mod name_lists;
+mod problems;
 mod python_literals;
 mod report;
 mod report_documents;
@@ -40,16 +45,17 @@ mod styles;
 mod token_lines;
 mod token_values;
 mod totals;
+mod used_globs;
 
 use crate::arguments::arguments;
 use crate::build::BUILD;
-use crate::command_words::{takes_value, words_of};
+use crate::command_words::{begins_with, takes_value, words_of};
 use crate::explanations::explanation;
 use crate::file_runs::{end_run, report_sources, unwritable};
 use crate::folders::sources_of;
 use crate::form::Terminal;
 use crate::messages::say;
-use crate::requests::{Reports, Request, asked};
+use crate::requests::{Colour, Reports, Request, asked};
 use starlark_run::TROUBLE;
 use std::alloc::AllocError;
 use std::io::IsTerminal;
@@ -60,17 +66,22 @@ use std::{env, io};
 const HELP: &str = "\
 usage: starlark_tokens [OPTIONS] [FILE or FOLDER]..
 
-Prints the tokens and lexical faults of Starlark files. Of a folder it takes BUILD, BUILD.bazel,
-WORKSPACE*, MODULE.bazel, BUCK, *.bzl, *.star, *.sky and *.bxl, in all its folders that aren't
-hidden. Without a name, or for `-`, it reads standard input.
+Prints the tokens and lexical faults of Starlark files. Of a folder it takes BUILD, BUILD.*,
+*.BUILD, *.BUILD.bazel, WORKSPACE*, MODULE.bazel, *.MODULE.bazel, BUCK, TARGETS, *.bzl, *.star,
+*.sky and *.bxl, in all its folders that aren't hidden. Without a name, or for `-`, it reads
+standard input.
 
   --check                print no tokens: each fault with the line of the source
   --format FORMAT        text, json, github or sarif; the last two print no tokens
   --json                 the same as --format json
-  --include GLOB         take such files of folders too; `*` stands for any characters
-  --exclude GLOB         leave out such files and folders of folders
+  --include GLOB         take such files of folders too; globs are as in .gitignore
+  --exclude GLOB         leave out such files and folders of folders and lists
   --files-from FILE      take the names in FILE, each ended by a zero byte or else an LF
   --max-faults N         show N faults of a file, 0 for all; --check shows 100 in text
+  --select CODES         tell only these faults: codes, or what they begin with, by commas
+  --ignore CODES         leave these faults out
+  --names WORDS          take these reserved words as names, by commas
+  --color WHEN           auto, always or never: whether lines of faults have colours
   --stdin-filename NAME  report standard input by this name
   --explain CODE         say what the code of a fault means, and how to mend it
   -q, --quiet            print no count of faults
@@ -119,15 +130,26 @@ fn print_version(rt: &HostRuntime) -> u8
     printed_status(rt, &println!(rt; "starlark_tokens {VERSION} ({BUILD})"))
 }
 
+/// What is said of an option that the program doesn't have.
+fn refusal(option: &[u8]) -> &'static str {
+    if begins_with(option, "--format=") {
+        "the formats are text, json, github and sarif"
+    } else if begins_with(option, "--color=") {
+        "the values are auto, always and never"
+    } else if begins_with(option, "--max-faults=") {
+        "the value is a number in decimal digits"
+    } else if takes_value(option) {
+        "needs a value; --help lists the options"
+    } else {
+        "unknown option; --help lists them"
+    }
+}
+
 /// Says that an option isn't one.
 fn refuse_option(rt: &HostRuntime, option: &[u8]) -> u8
     ensures { result ≡ 2 }
 {
-    if takes_value(option) {
-        say(rt, option, &"needs a value; --help lists the options");
-    } else {
-        say(rt, option, &"unknown option; --help lists them");
-    }
+    say(rt, option, &refusal(option));
     TROUBLE
 }
 
@@ -138,7 +160,11 @@ fn explain(rt: &HostRuntime, code: &[u8]) -> u8
     match str::from_utf8(code).ok().and_then(explanation) {
         Some(text) => print_text(rt, text),
         None => {
-            say(rt, code, &"no fault has this code; they are SL001 to SL009");
+            say(
+                rt,
+                code,
+                &"no fault has this code; they are SL001 to SL009 and SL101 to SL106",
+            );
             TROUBLE
         }
     }
@@ -152,9 +178,28 @@ fn is_set(rt: &HostRuntime, name: &str) -> bool {
     }
 }
 
-/// Whether lines for people have colours: standard output is a terminal, and `NO_COLOR` isn't set.
-fn is_painted(rt: &HostRuntime) -> bool {
-    rt.stdout().is_terminal() && !is_set(rt, "NO_COLOR")
+/// Whether the terminal says that it is one without colours.
+fn is_dumb(rt: &HostRuntime) -> bool {
+    match env::var(rt, "TERM") {
+        Ok(name) => name.as_str() == "dumb",
+        Err(_) => false,
+    }
+}
+
+/// Whether standard output is a terminal that shows colours, and `NO_COLOR` isn't set.
+fn shows_colours(rt: &HostRuntime) -> bool {
+    rt.stdout().is_terminal() && !is_set(rt, "NO_COLOR") && !is_dumb(rt)
+}
+
+/// Whether lines for people have colours.
+fn is_painted(colour: Colour, shows_colours: bool) -> bool
+    ensures { result ≡ requests.is_painted colour shows_colours }
+{
+    match colour {
+        Colour::Auto => shows_colours,
+        Colour::Always => true,
+        Colour::Never => false,
+    }
 }
 
 /// Columns of a terminal: those that `COLUMNS` says, or else as many as in a pipe.
@@ -176,9 +221,9 @@ fn side(columns: u16) -> u16 {
 }
 
 /// What the output is.
-fn terminal(rt: &HostRuntime) -> Terminal {
+fn terminal(rt: &HostRuntime, colour: Colour) -> Terminal {
     Terminal {
-        is_painted: is_painted(rt),
+        is_painted: is_painted(colour, shows_colours(rt)),
         side: side(columns(rt)),
     }
 }
@@ -188,7 +233,7 @@ fn report_all(rt: &HostRuntime, wanted: &Reports<'_>) -> Result<u8, AllocError>
     ensures { IfOk result IsRunStatus }
 {
     let sources = sources_of(rt, wanted)?;
-    let run = report_sources(rt, wanted, &sources, terminal(rt));
+    let run = report_sources(rt, wanted, &sources, terminal(rt, wanted.colour));
     Ok(end_run(rt, wanted, &run))
 }
 

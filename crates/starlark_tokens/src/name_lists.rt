@@ -48,7 +48,7 @@ fn take_byte(
 
 /// The names of a list that a byte ends or separates. Empty ones are left out.
 #[tactic(auto, unfolding(crate::specs::NameLists::names_after))]
-fn names_between(alloc: Global, list: &[u8], separator: u8) -> Result<Vec<Vec<u8>>, AllocError>
+pub fn names_between(alloc: Global, list: &[u8], separator: u8) -> Result<Vec<Vec<u8>>, AllocError>
     ensures { IfOk result (λ names. map (λ name. name.items) names.items ≡ spec.names_between separator list.now) }
 {
     let mut names = Vec::new(alloc);

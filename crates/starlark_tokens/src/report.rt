@@ -5,12 +5,13 @@ ghost use Rattle.starlark_devices.specs.Calls.{Going};
 ghost use Rattle.starlark_base.specs.Sources.{SourceFile};
 ghost use Rattle.starlark_recovery.specs.RecoveringLexer.{all_items, left_after};
 ghost use Rattle.starlark_tokens.specs.Inner.Reporters.{IsReady, Keeps};
-ghost use Rattle.starlark_tokens.specs.Reports.{fault_count, is_fault, items_report, report, rest_report, shown_report};
+ghost use Rattle.starlark_tokens.specs.Reports.{fault_count, is_fault, items_report, report, rest_report, shown_part, shown_report};
 ghost use Rattle.starlark_tokens.specs.ReportWrites.{Takes};
 ghost use Rattle.starlark_lexemes.specs.Lexer.{Answers, AnswersBetween, AnswersWithin};
 ghost use Rattle.starlark_token.specs.TextItems.{LexerItem};
 
 use crate::form::Style;
+use crate::problems::report_problems;
 use crate::reporter::Reporter;
 use starlark_base::codemap::{CodeMap, CodeMapId, OrMemory};
 use starlark_devices::{WriteDevice, write_all};
@@ -22,7 +23,7 @@ use std::io;
 
 /// Makes the lines of an item, but none of a fault that isn't shown, and returns how many faults it
 /// is: 0 or 1.
-fn report_item(
+pub fn report_item(
     reporter: &mut Reporter<'_>,
     item: Lexeme,
     is_shown: bool,
@@ -95,6 +96,30 @@ fn report_left<W: WriteDevice>(
     Ok(faults)
 }
 
+/// Writes the lines of a text up to the faults which aren't shown, and returns how many faults it
+/// has. Forms that have only faults have what the checks find, too.
+fn report_shown<W: WriteDevice>(
+    alloc: Global,
+    reporter: &mut Reporter<'_>,
+    style: Style<'_>,
+    text: &str,
+    writer: &mut W,
+) -> io::Result<usize>
+    requires fits { length text.now < 2 ^ 32 }
+    requires ready { IsReady reporter.old }
+    requires text { text.now ≡ reporter.old.text.now }
+    requires style { reporter.old.style ≡ style }
+    ensures written { Takes W.calls Going writer.old writer.new (shown_part style.entry (string_bytes reporter.old.prefix) text.now) result }
+    ensures kept { OnOk result (Keeps reporter.old reporter.new) }
+    ensures counted { IfOk result (λ faults. faults ≡ min (fault_count style.entry text.now) (2 ^ 64 - 1)) }
+{
+    let mut lexer = lexer_of(alloc, text)?;
+    if style.form.has_only_faults() {
+        return report_problems(alloc, reporter, &mut lexer, style.most, writer);
+    }
+    report_left(reporter, &mut lexer, style.most, writer)
+}
+
 /// Writes the line that counts the faults which aren't shown, if there are some.
 fn report_rest<W: WriteDevice>(
     reporter: &mut Reporter<'_>,
@@ -113,18 +138,17 @@ fn report_rest<W: WriteDevice>(
 /// again, and with `OutOfMemory` where memory runs out. Then a beginning of the report is written.
 pub fn report_text<W: WriteDevice>(
     alloc: Global,
-    style: Style,
+    style: Style<'_>,
     name: &str,
     text: &str,
     writer: &mut W,
 ) -> io::Result<usize>
     requires fits { length text.now < 2 ^ 32 }
-    ensures written { Takes W.calls Going writer.old writer.new (report style name.now text.now) result }
-    ensures counted { IfOk result (λ faults. faults ≡ min (fault_count text.now) (2 ^ 64 - 1)) }
+    ensures written { Takes W.calls Going writer.old writer.new (report style.entry name.now text.now) result }
+    ensures counted { IfOk result (λ faults. faults ≡ min (fault_count style.entry text.now) (2 ^ 64 - 1)) }
 {
     let mut reporter = Reporter::new(alloc, style, name, text)?;
-    let mut lexer = lexer_of(alloc, text)?;
-    let faults = report_left(&mut reporter, &mut lexer, style.most, writer)?;
+    let faults = report_shown(alloc, &mut reporter, style, text, writer)?;
     report_rest(&mut reporter, faults.saturating_sub(style.most), writer)?;
     Ok(faults)
 }

@@ -7,22 +7,26 @@ ghost use Rattle.starlark_tokens.specs.SarifResults as sarif;
 ghost use Rattle.starlark_tokens.specs.PythonLiterals.{shown_name};
 ghost use Rattle.std.specs.Str.{IsCharBoundary};
 ghost use Rattle.starlark_tokens.specs.Inner.Reporters.{IsReady, Keeps};
-ghost use Rattle.starlark_tokens.specs.Inner.ShownKinds.{code_of_kind, shown_of_kind};
+ghost use Rattle.starlark_tokens.specs.Inner.ShownKinds.{code_of_kind, help_of_kind, shown_of_kind};
 ghost use Rattle.starlark_base.specs.Positions.{IsPosition, position_at};
-ghost use Rattle.starlark_tokens.specs.Reports.{fault_report, prefix_of, rest_report, token_report};
+ghost use Rattle.starlark_tokens.specs.Reports.{fault_report, finding_message, finding_report, position_from, prefix_of, rest_report, token_report};
 ghost use Rattle.starlark_tokens.specs.ShownPlaces.{shown_at};
 ghost use Rattle.starlark_errors.specs.Errors.{kind_text};
 ghost use Rattle.starlark_token.specs.TokenViews.{token_view};
 
 use crate::form::{Form, Style};
 use crate::github_lines::push_property;
+use crate::helps::{help_of, help_of_check};
 use crate::item_lines::{Fault, push_fault, push_token};
 use crate::json_strings::push_json_string;
+use crate::known_positions::KnownPositions;
 use crate::python_literals::push_name;
 use crate::sarif_results::push_uri;
 use crate::shown_places::shown_position;
+use crate::source_lines::boundary_from;
 use starlark_base::codemap::Span;
 use starlark_base::position::Position;
+use starlark_checks::check::Finding;
 use starlark_syntax::error::{ErrorKind, ParserMessage};
 use starlark_token::tokens::Token;
 use std::alloc::{AllocError, Global};
@@ -30,14 +34,18 @@ use std::alloc::{AllocError, Global};
 /// A maker of the lines of one text: what each line begins with, and the lines in the making.
 #[derive(Drop)]
 pub struct Reporter<'t> {
-    style: Style,
-    text: &'t str,
+    /// The style.
+    pub style: Style<'t>,
+    /// The text.
+    pub text: &'t str,
     prefix: String,
     /// The lines of the last token or fault.
     pub lines: String,
     message: String,
     here: Position,
     last_fault: Position,
+    /// Positions that are known, for what begins before `here`.
+    known_positions: KnownPositions<'t>,
 }
 
 /// A name before each line, for people.
@@ -110,20 +118,37 @@ fn code_of(kind: &ErrorKind) -> &'static str
     }
 }
 
+/// Appends the message of what a check found; where it is about an open bracket, with its place.
+#[tactic(auto, unfolding(crate::specs::Reports::finding_message))]
+fn push_finding_message(
+    message: &mut String,
+    finding: Finding,
+    opening: Position,
+) -> Result<(), AllocError>
+    ensures { OnOk result (string_bytes message.new ≡ string_bytes message.old ++ finding_message finding opening.place) }
+{
+    message.push_str(finding.check.message())?;
+    if finding.opening == finding.begin {
+        return Ok(());
+    }
+    write!(message, "; the open bracket is at {}", opening.place)
+}
+
 impl<'t> Reporter<'t> {
     /// A maker of lines for a text of a name, in a style.
     pub fn new(
         alloc: Global,
-        style: Style,
+        style: Style<'t>,
         name: &str,
         text: &'t str,
     ) -> Result<Reporter<'t>, AllocError>
         ensures ready { IfOk result IsReady }
-        ensures style { IfOk result (λ reporter. reporter.style ≡ style) }
+        ensures style { IfOk result (λ reporter. reporter.style ≡ style.entry) }
         ensures text { IfOk result (λ reporter. reporter.text.now ≡ text.now) }
-        ensures prefix { IfOk result (λ reporter. string_bytes reporter.prefix ≡ prefix_of style.form name.now) }
+        ensures prefix { IfOk result (λ reporter. string_bytes reporter.prefix ≡ prefix_of style.entry.form name.now) }
     {
         let prefix = prefix(alloc, style.form, name)?;
+        let known_positions = KnownPositions::new(alloc, text);
         Ok(Reporter {
             style,
             text,
@@ -132,6 +157,7 @@ impl<'t> Reporter<'t> {
             message: String::new(alloc),
             here: Position::START,
             last_fault: Position::START,
+            known_positions,
         })
     }
 
@@ -172,7 +198,7 @@ impl<'t> Reporter<'t> {
         ensures kept { OnOk result (Keeps self.old self.new) }
         ensures lines { OnOk result (string_bytes self.new.lines ≡ fault_report self.old.style.form self.old.style.side (string_bytes self.old.prefix) self.old.text.now
             (position_at self.old.text.now (shown_at self.old.text.now (shown_of_kind kind.now) span.begin span.end))
-            (position_at self.old.text.now span.begin) (position_at self.old.text.now span.end) (code_of_kind kind.now) (kind_text kind.now)) }
+            (position_at self.old.text.now span.begin) (position_at self.old.text.now span.end) (code_of_kind kind.now) (kind_text kind.now) (help_of_kind kind.now)) }
     {
         let begin = span.begin().get() as usize;
         let begin = Position::nearest(self.here, self.last_fault, self.text, begin);
@@ -195,9 +221,58 @@ impl<'t> Reporter<'t> {
                 shown,
                 code: code_of(kind),
                 message: self.message.as_str(),
+                help: help_of(kind),
             },
         )
     }
+
+    /// The position at a byte, or at the first one after it where a character begins.
+    fn position_from(&mut self, at: usize) -> Result<Position, AllocError>
+        requires ready { IsReady self.old }
+        ensures ready { OnOk result (IsReady self.new) }
+        ensures kept { OnOk result (Keeps self.old self.new) }
+        ensures value { IfOk result (λ position. position ≡ position_from self.old.text.now at) }
+        ensures position { IfOk result (λ position. IsPosition self.old.text.now position) }
+    {
+        let begin = boundary_from(self.text, at);
+        if begin < self.here.at {
+            return self.known_positions.position_from(at);
+        }
+        Ok(self.here.moved(self.text, begin))
+    }
+
+    /// Makes the lines of what a check found.
+    #[tactic(auto, unfolding(crate::specs::Reports::finding_report))]
+    pub fn finding(&mut self, finding: Finding) -> Result<(), AllocError>
+        requires ready { IsReady self.old }
+        ensures ready { OnOk result (IsReady self.new) }
+        ensures kept { OnOk result (Keeps self.old self.new) }
+        ensures lines { OnOk result (string_bytes self.new.lines ≡ finding_report self.old.style (string_bytes self.old.prefix) self.old.text.now finding) }
+    {
+        let begin = self.position_from(finding.begin)?;
+        let end = self.position_from(finding.end)?;
+        let opening = self.position_from(finding.opening)?;
+        self.here = end;
+        self.message.clear();
+        push_finding_message(&mut self.message, finding, opening)?;
+        self.lines.clear();
+        push_fault(
+            &mut self.lines,
+            self.style.form,
+            self.style.side,
+            self.prefix.as_str(),
+            self.text,
+            Fault {
+                begin,
+                end,
+                shown: begin,
+                code: finding.check.code(),
+                message: self.message.as_str(),
+                help: help_of_check(finding.check),
+            },
+        )
+    }
+
     /// Makes no line for a fault that isn't shown.
     pub fn hide(&mut self)
         requires ready { IsReady self.old }

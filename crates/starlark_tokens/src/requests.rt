@@ -1,13 +1,14 @@
 //! What the arguments of `starlark_tokens` ask for.
 
-ghost use Rattle.std.specs.Prelude.{◌≡◌, ◌≤◌, IfOk, length, map};
+ghost use Rattle.std.specs.Prelude.{◌≡◌, ◌≤◌, ◌==◌, IfOk, length, map};
 ghost use Rattle.std.specs.Char.{is_ascii_digit};
-ghost use Rattle.std.specs.List.{list_all};
+ghost use Rattle.std.specs.List.{list_all, list_any};
 ghost use Rattle.std.specs.Option.{option_map};
 ghost use Rattle.starlark_tokens.specs.Requests as spec;
-ghost use Rattle.starlark_tokens.specs.Requests.{Asks, Wants};
+ghost use Rattle.starlark_tokens.specs.Requests.{Asks, IsFilterOf, Wants};
 
 use crate::command_words::{Words, begins_with, is_any, is_same};
+use crate::filters::{Filter, listed};
 use std::alloc::{AllocError, Global};
 
 /// What the option with a number of faults begins with.
@@ -41,16 +42,28 @@ pub enum Format {
     Sarif,
 }
 
+/// When lines for people have colours.
+#[derive(Clone, Copy)]
+pub enum Colour {
+    /// Where the output is a terminal that shows colours.
+    Auto,
+    Always,
+    Never,
+}
+
 /// Which reports are asked for.
 #[derive(Drop)]
 pub struct Reports<'a> {
     /// Whether faults alone are reported.
     pub check: bool,
     pub format: Format,
+    pub colour: Colour,
     /// Whether no count of faults is printed.
     pub quiet: bool,
     /// Number of faults of a file that are shown, if it is asked for; 0 is all.
     pub max_faults: Option<usize>,
+    /// Which faults are told.
+    pub filter: Filter,
     /// Globs of files and folders that are left out.
     pub excluded: Vec<&'a [u8]>,
     /// Globs of files that are read besides those that are read anyway.
@@ -70,23 +83,64 @@ fn is_option(word: &[u8]) -> bool
     begins_with(word, "-") && !is_same(word, "-")
 }
 
-/// Whether the program has an option that has no value.
+/// Whether the program has a long option that has no value.
 fn is_flag(word: &[u8]) -> bool
     ensures { result ≡ spec.is_flag word.now }
 {
     is_any(
         word,
-        &[
-            "--check",
-            "--json",
-            "--quiet",
-            "-q",
-            "--version",
-            "-V",
-            "--help",
-            "-h",
-        ],
+        &["--check", "--json", "--quiet", "--version", "--help"],
     )
+}
+
+/// Whether a byte is the letter of a short option.
+fn is_short_letter(byte: u8) -> bool
+    ensures { result ≡ spec.is_short_letter byte }
+{
+    byte == b'q' || byte == b'V' || byte == b'h'
+}
+
+/// Whether all bytes are letters of short options.
+fn are_short_letters(letters: &[u8]) -> bool
+    ensures { result ≡ list_all spec.is_short_letter letters.now }
+{
+    for byte in letters {
+        if !is_short_letter(*byte) {
+            return false;
+        }
+    }
+    true
+}
+
+/// Whether a word is a short option, or several in one word: letters after one `-`.
+fn is_short(word: &[u8]) -> bool
+    ensures { result ≡ spec.is_short word.now }
+{
+    begins_with(word, "-") && word.len() > 1 && are_short_letters(&word[1..])
+}
+
+/// Whether a byte is among others.
+fn has_byte(bytes: &[u8], wanted: u8) -> bool
+    ensures { result ≡ list_any (λ byte. byte == wanted) bytes.now }
+{
+    for byte in bytes {
+        if *byte == wanted {
+            return true;
+        }
+    }
+    false
+}
+
+/// Whether the short option of a letter is among words, alone or joined with others.
+fn has_short(words: &[Vec<u8>], letter: u8) -> bool
+    ensures { result ≡ spec.has_short letter (map (λ word. word.items) words.now) }
+{
+    for word in words {
+        if is_short(word.as_slice()) && has_byte(word.as_slice(), letter) {
+            return true;
+        }
+    }
+    false
 }
 
 /// Whether a word is a format that the program has.
@@ -104,6 +158,13 @@ fn is_format(word: &[u8]) -> bool
     )
 }
 
+/// Whether a word says when lines for people have colours.
+fn is_colour(word: &[u8]) -> bool
+    ensures { result ≡ spec.is_colour word.now }
+{
+    is_any(word, &["--color=auto", "--color=always", "--color=never"])
+}
+
 /// Whether a word is an option with its value that may be any.
 fn is_valued(word: &[u8]) -> bool
     ensures { result ≡ spec.is_valued word.now }
@@ -113,6 +174,16 @@ fn is_valued(word: &[u8]) -> bool
         || begins_with(word, "--files-from=")
         || begins_with(word, "--stdin-filename=")
         || begins_with(word, "--explain=")
+        || is_filter(word)
+}
+
+/// Whether a word is an option that says which faults are told.
+fn is_filter(word: &[u8]) -> bool
+    ensures { result ≡ spec.is_filter word.now }
+{
+    begins_with(word, "--select=")
+        || begins_with(word, "--ignore=")
+        || begins_with(word, "--names=")
 }
 
 /// Whether all bytes are decimal digits.
@@ -168,11 +239,18 @@ fn max_faults(words: &[Vec<u8>]) -> Option<usize>
     first_value(words, MAX_FAULTS).map(|digits| number(digits))
 }
 
+/// Whether a word is an option with a value that the program has for it.
+fn is_chosen(word: &[u8]) -> bool
+    ensures { result ≡ spec.is_chosen word.now }
+{
+    is_format(word) || is_colour(word) || is_numbered(word)
+}
+
 /// Whether a word is an option that the program doesn't have.
 fn is_unknown(word: &[u8]) -> bool
     ensures { result ≡ spec.is_unknown word.now }
 {
-    is_option(word) && !(is_flag(word) || is_format(word) || is_valued(word) || is_numbered(word))
+    is_option(word) && !(is_flag(word) || is_short(word) || is_chosen(word) || is_valued(word))
 }
 
 /// Whether an option is among words.
@@ -261,25 +339,57 @@ fn format_of(words: &[Vec<u8>]) -> Format
     }
 }
 
+/// When lines for people have colours, by words.
+fn colour_of(words: &[Vec<u8>]) -> Colour
+    ensures { result ≡ spec.colour_of (map (λ word. word.items) words.now) }
+{
+    if has(words, "--color=never") {
+        Colour::Never
+    } else if has(words, "--color=always") {
+        Colour::Always
+    } else {
+        Colour::Auto
+    }
+}
+
 /// Whether words ask for no count of faults.
 fn is_quiet(words: &[Vec<u8>]) -> bool
     ensures { result ≡ spec.is_quiet (map (λ word. word.items) words.now) }
 {
-    has(words, "--quiet") || has(words, "-q")
+    has(words, "--quiet") || has_short(words, b'q')
 }
 
 /// Whether words ask for help.
 fn asks_help(words: &[Vec<u8>]) -> bool
     ensures { result ≡ spec.asks_help (map (λ word. word.items) words.now) }
 {
-    has(words, "--help") || has(words, "-h")
+    has(words, "--help") || has_short(words, b'h')
 }
 
 /// Whether words ask for the version.
 fn asks_version(words: &[Vec<u8>]) -> bool
     ensures { result ≡ spec.asks_version (map (λ word. word.items) words.now) }
 {
-    has(words, "--version") || has(words, "-V")
+    has(words, "--version") || has_short(words, b'V')
+}
+
+/// What the values of an option list, which ends with `=`.
+fn listed_by(alloc: Global, words: &[Vec<u8>], option: &str) -> Result<Vec<Vec<u8>>, AllocError>
+    ensures { IfOk result (λ listed. map (λ word. word.items) listed.items ≡ spec.listed_by option.now (map (λ word. word.items) words.now)) }
+{
+    let values = values(alloc, words, option)?;
+    listed(alloc, values.as_slice())
+}
+
+/// Which faults are told, by words.
+fn filter_of(alloc: Global, words: &[Vec<u8>]) -> Result<Filter, AllocError>
+    ensures { IfOk result (IsFilterOf (map (λ word. word.items) words.now)) }
+{
+    Ok(Filter {
+        selected: listed_by(alloc, words, "--select=")?,
+        ignored: listed_by(alloc, words, "--ignore=")?,
+        names: listed_by(alloc, words, "--names=")?,
+    })
 }
 
 /// Which reports words ask for.
@@ -290,8 +400,10 @@ fn wanted<'a>(alloc: Global, words: &'a Words) -> Result<Reports<'a>, AllocError
     Ok(Reports {
         check: has(leading, "--check"),
         format: format_of(leading),
+        colour: colour_of(leading),
         quiet: is_quiet(leading),
         max_faults: max_faults(leading),
+        filter: filter_of(alloc, leading)?,
         excluded: values(alloc, leading, "--exclude=")?,
         included: values(alloc, leading, "--include=")?,
         lists: values(alloc, leading, "--files-from=")?,

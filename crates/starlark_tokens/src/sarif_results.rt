@@ -62,28 +62,39 @@ fn push_sarif_words(line: &mut String, code: &str, message: &str) -> Result<(), 
     Ok(())
 }
 
-/// Appends the place of a result.
-#[tactic(auto, unfolding(crate::specs::SarifResults::sarif_place))]
-fn push_sarif_place(line: &mut String, prefix: &str, shown: Position) -> Result<(), AllocError>
-    ensures { OnOk result (string_bytes line.new ≡ string_bytes line.old ++ spec.sarif_place prefix.now shown.place) }
+/// Appends where a result begins.
+#[tactic(auto, unfolding(crate::specs::SarifResults::sarif_begin))]
+fn push_sarif_begin(line: &mut String, prefix: &str, begin: Position) -> Result<(), AllocError>
+    ensures { OnOk result (string_bytes line.new ≡ string_bytes line.old ++ spec.sarif_begin prefix.now begin.place) }
 {
-    push_field(line, prefix, shown.place.line)?;
-    push_field(line, ",\"startColumn\":", shown.place.column)?;
+    push_field(line, prefix, begin.place.line)?;
+    push_field(line, ",\"startColumn\":", begin.place.column)
+}
+
+/// Appends where a result ends, and its end.
+#[tactic(auto, unfolding(crate::specs::SarifResults::sarif_end))]
+fn push_sarif_end(line: &mut String, end: Position) -> Result<(), AllocError>
+    ensures { OnOk result (string_bytes line.new ≡ string_bytes line.old ++ spec.sarif_end end.place) }
+{
+    push_field(line, ",\"endLine\":", end.place.line)?;
+    push_field(line, ",\"endColumn\":", end.place.column)?;
     line.push_str("}}}]}")?;
     Ok(())
 }
 
-/// Appends a fault as a result, after a comma.
+/// Appends a fault between two positions as a result, after a comma.
 #[tactic(auto, unfolding(crate::specs::SarifResults::sarif_result))]
 pub fn push_sarif_fault(
     line: &mut String,
     prefix: &str,
-    shown: Position,
+    begin: Position,
+    end: Position,
     code: &str,
     message: &str,
 ) -> Result<(), AllocError>
-    ensures { OnOk result (string_bytes line.new ≡ string_bytes line.old ++ spec.sarif_result prefix.now shown.place code.now message.now) }
+    ensures { OnOk result (string_bytes line.new ≡ string_bytes line.old ++ spec.sarif_result prefix.now begin.place end.place code.now message.now) }
 {
     push_sarif_words(line, code, message)?;
-    push_sarif_place(line, prefix, shown)
+    push_sarif_begin(line, prefix, begin)?;
+    push_sarif_end(line, end)
 }

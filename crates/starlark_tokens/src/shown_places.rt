@@ -39,6 +39,13 @@ impl Shown {
     }
 }
 
+/// Where what is shown of a fault ends: a fault may end before the place where it is shown.
+pub fn shown_end(shown: Position, end: Position) -> Position
+    ensures { result ≡ spec.shown_end shown end }
+{
+    if end.at < shown.at { shown } else { end }
+}
+
 /// The start of the line that byte `at` is on.
 fn line_start(text: &str, at: usize) -> usize
     requires { IsCharBoundary text.now at }

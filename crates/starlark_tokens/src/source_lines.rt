@@ -20,7 +20,7 @@ pub struct ShownLine<'a> {
 }
 
 /// The first character boundary of a text that isn't before byte `at`, or else the text's end.
-fn boundary_from(text: &str, at: usize) -> usize
+pub fn boundary_from(text: &str, at: usize) -> usize
     ensures value { result ≡ spec.boundary_from text.now at }
     ensures boundary { IsCharBoundary text.now result }
     ensures first { (other : ℕ) → at ≤ other → IsCharBoundary text.now other → result ≤ other }

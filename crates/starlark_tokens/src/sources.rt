@@ -10,6 +10,7 @@ use starlark_base::codemap::ResolvedPos;
 use starlark_base::position::Position;
 use starlark_run::GREATEST_LEN;
 use std::alloc::{AllocError, Global};
+use std::fs::File;
 use std::io::Read;
 use std::{fs, io};
 use thiserror::Error;
@@ -149,6 +150,15 @@ pub trait Texts {
         ensures given { gives self.now source.now (text_in result) };
 }
 
+/// Opens a file, unless it is longer than a text may be: then nothing of it is read.
+fn opened(rt: &HostRuntime, name: &str) -> Result<File, SourceFault> {
+    let file = fs::open(rt, name)?;
+    if file.metadata()?.len() > GREATEST_LEN as u64 {
+        return Err(SourceFault::TooLong);
+    }
+    Ok(file)
+}
+
 /// The files of the system and its standard input. No contract says what they have.
 impl Texts for HostRuntime {
     ghost gives = { λ _ _ _. ⊤ };
@@ -156,7 +166,7 @@ impl Texts for HostRuntime {
     fn text(&self, source: &Source) -> Result<String, SourceFault> {
         match source {
             Source::Input(_) => read_text(self.alloc(), self.stdin()),
-            Source::File(name) => read_text(self.alloc(), fs::open(self, name.as_str())?),
+            Source::File(name) => read_text(self.alloc(), opened(self, name.as_str())?),
         }
     }
 }

@@ -50,13 +50,14 @@ fn most_of(wanted: &Reports<'_>, form: Form) -> usize
 }
 
 /// The style of the reports, by whether lines of tokens have names, and what the output is.
-pub fn style_of(wanted: &Reports<'_>, are_named: bool, terminal: Terminal) -> Style
-    ensures { result ≡ requests.style_of wanted.now are_named terminal }
+pub fn style_of<'a>(wanted: &'a Reports<'_>, are_named: bool, terminal: Terminal) -> Style<'a>
+    ensures { requests.IsStyleOf wanted.now are_named terminal result }
 {
     let form = form_of(wanted, are_named, terminal.is_painted);
     Style {
         form,
         side: terminal.side,
         most: most_of(wanted, form),
+        filter: &wanted.filter,
     }
 }

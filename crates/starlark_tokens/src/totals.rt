@@ -2,6 +2,7 @@
 
 ghost use Rattle.std.specs.Prelude.{◌≡◌, [], None};
 ghost use Rattle.starlark_tokens.specs.ReportStatus.{status_of};
+ghost use Rattle.starlark_tokens.specs.declared.form.Style.{Style};
 ghost use Rattle.starlark_tokens.specs.Totals.{totals_of, with_file, with_source};
 
 use starlark_run::TROUBLE;
@@ -25,7 +26,7 @@ pub struct Totals {
 impl Totals {
     /// No file, but for those that can't be read.
     pub fn of_unreadable(unreadable: usize) -> Totals
-        ensures { result ≡ totals_of unreadable [] }
+        ensures { (style : Style) → result ≡ totals_of style unreadable [] }
     {
         Totals {
             files: 0,
@@ -48,7 +49,7 @@ impl Totals {
 
     /// Counts a file that couldn't be read.
     pub fn add_failure(&mut self)
-        ensures { self.new ≡ with_source self.old None }
+        ensures { (style : Style) → self.new ≡ with_source style self.old None }
     {
         self.unreadable = self.unreadable.saturating_add(1);
     }

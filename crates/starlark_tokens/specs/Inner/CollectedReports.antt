@@ -13,5 +13,5 @@ pub record AreCollected (gives : Giving) (style : Style) (sources : Sources) (to
   pub reads : List ReadSource
   pub each : map (λ read. read.source) reads ≡ sources.all.items
   pub given : AllByRecursion (λ read. gives read.source read.text) reads
-  pub counted : totals ≡ totals_of sources.lost (map (λ read. read.text) reads)
+  pub counted : totals ≡ totals_of style sources.lost (map (λ read. read.text) reads)
   pub written : collected ≡ reports style reads

@@ -1,13 +1,19 @@
--- Where the fault of an error is shown, and its code.
-use Rattle.std.specs.Prelude.{Option, Some, None, []}
+-- Where the fault of an error is shown, its code, and what to do about it.
+use Rattle.std.specs.Prelude.{Option, Some, None, [], Bool, true, false, ◌&&◌, not, string_bytes}
 use Rattle.starlark_base.specs.Places.{Text}
+use Rattle.std.specs.Option.{option_map}
 use Rattle.starlark_token.specs.FaultCodes.{error_code}
+use Rattle.starlark_token.specs.Lexemes.{fault_view}
+use Rattle.starlark_tokens.specs.FaultHelps.{fault_help}
 use Rattle.starlark_tokens.specs.declared.shown_places.Shown.{Shown}
 use Rattle.starlark_tokens.specs.declared.shown_places.Shown.TheVariants.{Begin, Tab, LastLine}
 use Rattle.starlark_errors.specs.declared.error.kinds.ErrorKind.{ErrorKind}
 use Rattle.starlark_errors.specs.declared.error.kinds.ErrorKind.TheVariants.{Parser}
 use Rattle.starlark_errors.specs.declared.error.kinds.ParserMessage.TheVariants.{Lexeme}
-use Rattle.starlark_token.specs.declared.lexeme_error.LexemeError.TheVariants.{Indentation, InvalidTab}
+use Rattle.starlark_token.specs.declared.lexeme_error.LexemeError.{LexemeError}
+use Rattle.starlark_token.specs.declared.lexeme_error.LexemeError.TheVariants.{Indentation, InvalidTab, ReservedKeyword}
+use Rattle.starlark_tokens.specs.Filters.{is_name, tells}
+use Rattle.starlark_tokens.specs.declared.filters.Filter.{Filter}
 
 -- the fault of an indentation is shown on its last line, that of a tab at the tab
 abbrev pub shown_of_kind : ErrorKind → Shown
@@ -15,7 +21,7 @@ shown_of_kind (Parser (Lexeme Indentation)) = LastLine
 shown_of_kind (Parser (Lexeme InvalidTab)) = Tab
 shown_of_kind kind = Begin
 
-abbrev or_empty : Option Text → Text
+abbrev pub or_empty : Option Text → Text
 or_empty None = []
 or_empty (Some code) = code
 
@@ -23,3 +29,24 @@ or_empty (Some code) = code
 abbrev pub code_of_kind : ErrorKind → Text
 code_of_kind (Parser (Lexeme error)) = or_empty (error_code error)
 code_of_kind kind = []
+
+-- an error is of a reserved word that is a name
+abbrev pub is_error_of_name : Filter → LexemeError → Bool
+is_error_of_name which (ReservedKeyword word) = is_name which (string_bytes word)
+is_error_of_name which error = false
+
+-- the fault of an error is told
+abbrev pub tells_error : Filter → LexemeError → Bool
+tells_error which error = tells which (or_empty (error_code error)) && not (is_error_of_name which error)
+
+abbrev pub tells_kind : Filter → ErrorKind → Bool
+tells_kind which (Parser (Lexeme error)) = tells_error which error
+tells_kind which kind = true
+
+-- what to do about a fault; empty for an error that is none
+abbrev pub help_of_error : LexemeError → Text
+help_of_error error = or_empty (option_map fault_help (fault_view error))
+
+abbrev pub help_of_kind : ErrorKind → Text
+help_of_kind (Parser (Lexeme error)) = help_of_error error
+help_of_kind kind = []

@@ -10,7 +10,7 @@ loop-done-init g c =
     let calls = g.W.WriteDevice.calls in
     let lost = c.args.sources.now.lost in
     let output = c.args.screen.now.output in
-    subst (SoFar gives calls c.args.style lost [] output output) (sym c.of_unreadable-totals.ensures) (none_yet gives calls c.args.style lost output)
+    subst (SoFar gives calls c.args.style lost [] output output) (sym (c.of_unreadable-totals.ensures c.args.style)) (none_yet gives calls c.args.style lost output)
 
 pub loop-done-preserved : goal.loop-done-preserved
 loop-done-preserved g c =

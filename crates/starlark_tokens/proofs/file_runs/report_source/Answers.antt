@@ -21,5 +21,5 @@ returns-in_ok-flush_once-in-Err g c =
       text = None;
       given = rw c.in-Err.is at c.text.ensures.given;
       written = flushed_among g.W.WriteDevice.calls _ _ flush.bytes flush.call;
-      counted = c.add_failure.ensures;
+      counted = c.add_failure.ensures c.args.style;
     }

@@ -1,4 +1,3 @@
-use Rattle.std.proofs.Common.{string_bytes}
 use Rattle.std.proofs.lemmas.Result.{err_from_is_err_and}
 use Rattle.starlark_tokens.proofs.ReportWrites.{no_memory, written_all}
 use Rattle.starlark_tokens.proofs.report.report_rest.Goals as goal

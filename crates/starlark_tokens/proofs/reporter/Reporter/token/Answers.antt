@@ -1,8 +1,7 @@
 use Rattle.std.proofs.Common.{◌≡◌, ◌∙◌, true, [], refl, sym}
 use Rattle.starlark_base.specs.Places.{Text}
 use Rattle.starlark_token.specs.TokenViews.{TokenView}
-use Rattle.starlark_tokens.specs.Inner.Reporters.{has_only_faults}
-use Rattle.starlark_tokens.specs.Reports.{token_report}
+use Rattle.starlark_tokens.specs.Reports.{has_only_faults, token_report}
 use Rattle.starlark_tokens.specs.declared.form.Form.{Form}
 use Rattle.starlark_tokens.specs.declared.form.Form.TheVariants.{Tokens, NamedTokens, Json, Faults, PaintedFaults, JsonFaults, Github, Sarif}
 use Rattle.starlark_base.specs.declared.position.Position.{Position}

@@ -1,0 +1,59 @@
+//! What to do about each fault, and about what a check finds, in a line.
+
+ghost use Rattle.std.specs.Prelude.{◌≡◌};
+ghost use Rattle.starlark_tokens.specs.FaultHelps.{check_help};
+ghost use Rattle.starlark_tokens.specs.Inner.ShownKinds.{help_of_error, help_of_kind};
+
+use starlark_checks::check::Check;
+use starlark_syntax::error::{ErrorKind, ParserMessage};
+use starlark_syntax::lexer::LexemeError;
+
+/// What to do about an error of the lexer; empty for one that is no fault of a text.
+#[tactic(auto, unfolding(crate::specs::FaultHelps::fault_help))]
+fn help_of_error(error: &LexemeError) -> &'static str
+    ensures { result.now ≡ help_of_error error.now }
+{
+    match error {
+        LexemeError::Indentation => "indent the line as the block that it belongs to",
+        LexemeError::InvalidInput(_) => "remove it: only strings and comments may have it",
+        LexemeError::InvalidTab => "write spaces",
+        LexemeError::UnfinishedStringLiteral => "close the quotes, or use three for several lines",
+        LexemeError::InvalidEscapeSequence(_) => "write two backslashes, or r before the quotes",
+        LexemeError::EmptyEscapeSequence => "write two backslashes, and close the quotes",
+        LexemeError::ReservedKeyword(_) => "choose another name",
+        LexemeError::StartsZero(_) => {
+            "write 0o in front of an octal number, or leave the zeros out"
+        }
+        LexemeError::UnfinishedFStringExpression => {
+            "close the expression with `}`, or write `{{` for a brace that is text"
+        }
+        LexemeError::IntParse(_) => "",
+        LexemeError::CommentSpanComputedIncorrectly => "",
+        LexemeError::CannotParse(_, _) => "",
+    }
+}
+
+/// What to do about a fault; empty for an error that is none.
+pub fn help_of(kind: &ErrorKind) -> &'static str
+    ensures { result.now ≡ help_of_kind kind.now }
+{
+    match kind {
+        ErrorKind::Parser(ParserMessage::Lexeme(error)) => help_of_error(error),
+        _ => "",
+    }
+}
+
+/// What to do about what a check finds.
+#[tactic(auto, unfolding(crate::specs::FaultHelps::check_help))]
+pub fn help_of_check(check: Check) -> &'static str
+    ensures { result.now ≡ check_help check }
+{
+    match check {
+        Check::NeverClosed => "close it, or remove it",
+        Check::ClosesNothing => "remove it, or open one before it",
+        Check::ClosesAnother => "close the open bracket by one of its kind",
+        Check::NumberBeforeWord => "write a space after the number, or mend it",
+        Check::MergeMarker => "keep one side of the merge, and remove its marker lines",
+        Check::FStringLineEnd => "close the expression on its line, or use three quotes",
+    }
+}
