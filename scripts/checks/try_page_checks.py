@@ -1,5 +1,5 @@
 #!/usr/bin/env python3
-"""Plants wrong sentences in pages, one after the other, and fails where page_names.py or page_claims.py finds nothing new.
+"""Plants wrong sentences in pages, one after the other, and fails where the check of such sentences finds nothing new.
 
     scripts/checks/try_page_checks.py
 """
@@ -7,13 +7,16 @@
 import sys
 from typing import NamedTuple
 
+import believed
 import page_claims
 import page_names
 sys.path.append(f"{sys.path[0]}/..")  # where shared/ lies
 from shared.page_text import text_of
 from shared.programs import TOP
 
-CONTRIBUTING, DECISIONS, EXPERIMENTS = (TOP / "docs" / f"{name}.md" for name in ("CONTRIBUTING", "DECISIONS", "EXPERIMENTS"))
+ARCHITECTURE, CONTRIBUTING, DECISIONS, EXPERIMENTS = (
+    TOP / "docs" / f"{name}.md" for name in ("ARCHITECTURE", "CONTRIBUTING", "DECISIONS", "EXPERIMENTS")
+)
 SEARCH = "git grep -lie tilde -e '<<='"
 
 
@@ -66,6 +69,11 @@ CLAIMS = [
         "names in vain crates/starlark_words/src/scanner/marks.rt",
     ),
 ]
+BELIEVED = [
+    Plant(ARCHITECTURE, "; `Searches` of `starlark_reader`", "", "`Lexer::next`: starlark_reader.specs.Searches is missing"),
+    Plant(ARCHITECTURE, "; `Lexer` of", "; `Lexer`, `LexerIterator` of", "`Lexer::next`: starlark_lexemes.specs.LexerIterator is not cited"),
+    Plant(ARCHITECTURE, "| `Document` |", "| documents |", "there is no row of `Document`"),
+]
 
 
 def is_found(check, plant):
@@ -77,7 +85,7 @@ def is_found(check, plant):
 
 
 def main():
-    plants = [*((page_names, plant) for plant in NAMES), *((page_claims, plant) for plant in CLAIMS)]
+    plants = [*((page_names, plant) for plant in NAMES), *((page_claims, plant) for plant in CLAIMS), *((believed, plant) for plant in BELIEVED)]
     missed = [f"{check.__name__}.py doesn't find: {plant.new}" for check, plant in plants if not is_found(check, plant)]
     print("\n".join(missed or [f"checks of pages: each of {len(plants)} wrong sentences is found"]))
     return 1 if missed else 0
