@@ -165,6 +165,24 @@ HELPS = {
 }
 
 
+# What to do about characters that begin no token, in place of what is to be done about all others.
+INPUT_HELPS = {
+    **dict.fromkeys("“”„", 'write " in place of a typographic quote'),
+    **dict.fromkeys("‘’‚", "write ' in place of a typographic quote"),
+    **dict.fromkeys("–—−", "write - in place of a dash"),
+    "\xa0": "write a space: this is U+00A0 NO-BREAK SPACE",
+    "\ufeff": "remove it: this is U+FEFF BYTE ORDER MARK",
+    "`": "write quotes: Starlark has no backticks",
+}
+
+
+def help_of(message):
+    """What to do about a fault with this message."""
+    code = code_of(message)
+    named = reason(message).removeprefix("invalid input `").removesuffix("`")
+    return INPUT_HELPS.get(named, HELPS[code]) if code == "SL002" else HELPS[code]
+
+
 def reason(message):
     """A message without the words that all begin with."""
     return message.removeprefix("Parse error: ")
@@ -192,7 +210,7 @@ def json_line(name, text, item):
         "end_column": end_column, "utf16_column": len(front.encode("utf-16-le")) // 2 + 1, "value": value,
     }
     if kind == "Fault":
-        fields.update(value=reason(value), code=code_of(value), help=HELPS[code_of(value)])
+        fields.update(value=reason(value), code=code_of(value), help=help_of(value))
     return json_written(fields)
 
 
@@ -259,7 +277,7 @@ def fault_lines(name, text, item, columns=160):
     seen = "".join("\ufffd" if character != "\t" and is_hidden(character) else character for character in source)
     below = " " * len(before) + "".join("\t" if character == "\t" else " " * width(character) for character in front)
     first = f"{name_text(name)}:{line}:{column}: error: {said} [{code_of(message)}]"
-    return f"{first}\n{before}{seen}{after}\n{below}{'^' * max(marked, 1)}\nhelp: {HELPS[code_of(message)]}"
+    return f"{first}\n{before}{seen}{after}\n{below}{'^' * max(marked, 1)}\nhelp: {help_of(message)}"
 
 
 def shown_region(text, item):
@@ -432,9 +450,12 @@ CHECKED_TEXTS = [
 ]
 
 
+NAMED = "".join(f"x {character} y\n" for character in [*INPUT_HELPS, "“", "$", "é"]).encode()
+
+
 def check_runs(tester):
     """What the checks find in each form that has only faults."""
-    for text in CHECKED_TEXTS:
+    for text in [*CHECKED_TEXTS, NAMED]:
         for form in FORMS:
             for options in ([], ["--max-faults", "0"]) if form == "check" else ([],):
                 found = tester.run([*OPTIONS[form], *options], text)
@@ -742,8 +763,8 @@ def file_runs(tester, folder):
         (["empty.star"], 0, "1:1-1:1 Newline\n", ""),
         (["missing.star", "x.star"], 2, named, "starlark_tokens: missing.star: No such file or directory (os error 2)\n"),
         (["folder", "x.star"], 0, named, ""),
-        (["bad.star", "x.star"], 2, named, "starlark_tokens: bad.star: not UTF-8: byte 0xff at 3:4\n"),
-        (["--check", "bad.star", "x.star"], 2, "", "starlark_tokens: bad.star: not UTF-8: byte 0xff at 3:4\n0 faults in 0 of 1 file; 1 couldn't be read\n"),
+        (["bad.star", "x.star"], 2, named, "bad.star:3:4: error: not UTF-8: byte 0xff\n"),
+        (["--check", "bad.star", "x.star"], 2, "", "bad.star:3:4: error: not UTF-8: byte 0xff\n0 faults in 0 of 1 file; 1 couldn't be read\n"),
         ([b"\xff.star", "x.star"], 2, named, "starlark_tokens: b'\\xff.star': the name is not UTF-8\n"),
         (["no\nsuch"], 2, "", "starlark_tokens: 'no\\nsuch': No such file or directory (os error 2)\n"),
     ]

@@ -15,7 +15,7 @@ ghost use Rattle.starlark_tokens.specs.declared.form.Style.{Style};
 
 use crate::counts::count_line;
 use crate::form::{Form, Style, Terminal};
-use crate::messages::say;
+use crate::messages::say_fault;
 use crate::report::report_text;
 use crate::report_documents::{closing, opening};
 use crate::requests::Reports;
@@ -71,7 +71,7 @@ fn report_source<S: Texts, W: WriteDevice>(
         Err(fault) => {
             totals.add_failure();
             output.flush_once()?;
-            say(rt, source.name().as_bytes(), &fault);
+            say_fault(rt, source.name().as_bytes(), &fault);
         }
     }
     Ok(())

@@ -4,6 +4,7 @@ ghost use Rattle.std.specs.Prelude.{IfOk, string_bytes};
 ghost use Rattle.starlark_tokens.specs.ShownNames.{IsShownAs};
 
 use crate::python_literals::{push_name, push_quoted_bytes};
+use crate::sources::SourceFault;
 use std::alloc::AllocError;
 use std::fmt::Display;
 
@@ -24,5 +25,17 @@ pub fn say<D: Display>(rt: &HostRuntime, name: &[u8], what: &D) {
     let _ = match one_line(rt, name) {
         Ok(name) => eprintln!(rt; "starlark_tokens: {name}: {what}"),
         Err(_) => eprintln!(rt; "starlark_tokens: {what}"),
+    };
+}
+
+/// Says on standard error why a source isn't reported: of a byte that isn't UTF-8 as a compiler says it
+/// of a place, else in the name of `starlark_tokens`.
+pub fn say_fault(rt: &HostRuntime, name: &[u8], fault: &SourceFault) {
+    let SourceFault::NotUtf8 { byte, place } = fault else {
+        return say(rt, name, fault);
+    };
+    let _ = match one_line(rt, name) {
+        Ok(name) => eprintln!(rt; "{name}:{place}: error: not UTF-8: byte {byte:#04x}"),
+        Err(_) => eprintln!(rt; "starlark_tokens: {fault}"),
     };
 }
