@@ -583,7 +583,7 @@ def wrong_sarif(printed, build):
         "rules": rules == list(HELPS),
         "their words": all(set(rule) == {"id", "name", *RULE_TEXTS} and all(set(rule[text]) == {"text"} for text in RULE_TEXTS) for rule in driver["rules"]),
         "their help": {rule["id"]: rule["help"]["text"] for rule in driver["rules"]} == HELPS,
-        "invocations": [set(one) for one in run["invocations"]] == [{"executionSuccessful"}],
+        "invocations": [set(one) - {"toolExecutionNotifications"} for one in run["invocations"]] == [{"executionSuccessful"}],
     }
     for result in run["results"]:
         [place] = result["locations"]
@@ -607,7 +607,9 @@ def compare_sarif(tester, what, found, named_texts, said="", unreadable=0):
     for url in urls:
         url["uri"] = re.sub("%..", lambda match: match[0].upper(), url["uri"])
     tester.compare(f"results of {what}", run["results"], wanted)
-    tester.compare(f"invocations of {what}", run["invocations"], [{"executionSuccessful": unreadable == 0}])
+    message = {"text": f"files that couldn't be read: {unreadable}"}
+    told = {"toolExecutionNotifications": [{"level": "error", "message": message}]} if unreadable else {}
+    tester.compare(f"invocations of {what}", run["invocations"], [{"executionSuccessful": unreadable == 0, **told}])
     tester.compare(f"status of {what}", (found.status, found.stderr), (2 if unreadable else 1 if wanted else 0, said))
 
 

@@ -1,5 +1,5 @@
 -- What a document begins and ends with, around the reports of its files.
-use Rattle.std.specs.Prelude.{Bool, true, false, ◌==◌, if◌then◌else◌, [], ◌++◌, codes, drop}
+use Rattle.std.specs.Prelude.{ℕ, Bool, true, false, ◌==◌, if◌then◌else◌, [], ◌++◌, codes, drop}
 use Rattle.std.specs.Fmt.{decimal}
 use Rattle.starlark_base.specs.Places.{Text}
 use Rattle.starlark_tokens.specs.declared.form.Form.{Form}
@@ -32,10 +32,21 @@ json_counts totals =
 abbrev pub json_closing : Totals → Text
 json_closing totals = codes "{\"kind\":\"Summary\"" ++ json_counts totals
 
+-- how many files couldn't be read, as a field of an object of JSON
+unfoldable pub notification : (unreadable : ℕ) → Text
+notification unreadable =
+    codes ",\"toolExecutionNotifications\":[{\"level\":\"error\",\"message\":{\"text\":\""
+    ++ ((codes "files that couldn't be read: " ++ decimal unreadable) ++ codes "\"}}]")
+
+-- … if there are some
+abbrev pub notifications : (unreadable : ℕ) → Text
+notifications unreadable = if unreadable == 0 then [] else notification unreadable
+
 -- a document of SARIF after its results
 abbrev pub sarif_closing : Totals → Text
 sarif_closing totals =
-    codes "\n],\"invocations\":[{\"executionSuccessful\":" ++ ((if totals.unreadable == 0 then codes "true" else codes "false") ++ codes "}]}]}\n")
+    codes "\n],\"invocations\":[{\"executionSuccessful\":" ++ ((if totals.unreadable == 0 then codes "true" else codes "false")
+    ++ (notifications totals.unreadable ++ codes "}]}]}\n"))
 
 -- what a document ends with
 unfoldable pub closing : Form → Totals → Text

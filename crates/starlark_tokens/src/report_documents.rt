@@ -73,6 +73,28 @@ fn json_closing(alloc: Global, totals: Totals) -> Result<String, AllocError>
     Ok(text)
 }
 
+/// Appends how many files couldn't be read, as a field of an object of JSON.
+fn push_notification(text: &mut String, unreadable: usize) -> Result<(), AllocError>
+    ensures { OnOk result (string_bytes text.new ≡ string_bytes text.old ++ spec.notification unreadable) }
+{
+    text.push_str(
+        ",\"toolExecutionNotifications\":[{\"level\":\"error\",\"message\":{\"text\":\"",
+    )?;
+    push_count(text, "files that couldn't be read: ", unreadable)?;
+    text.push_str("\"}}]")?;
+    Ok(())
+}
+
+/// Appends how many files couldn't be read, if there are some, as a field of an object of JSON.
+fn push_notifications(text: &mut String, unreadable: usize) -> Result<(), AllocError>
+    ensures { OnOk result (string_bytes text.new ≡ string_bytes text.old ++ spec.notifications unreadable) }
+{
+    if unreadable == 0 {
+        return Ok(());
+    }
+    push_notification(text, unreadable)
+}
+
 /// A document of SARIF after its results.
 fn sarif_closing(alloc: Global, totals: Totals) -> Result<String, AllocError>
     ensures { IfOk result (λ text. string_bytes text ≡ spec.sarif_closing totals) }
@@ -83,6 +105,7 @@ fn sarif_closing(alloc: Global, totals: Totals) -> Result<String, AllocError>
     } else {
         "false"
     })?;
+    push_notifications(&mut text, totals.unreadable)?;
     text.push_str("}]}]}\n")?;
     Ok(text)
 }
