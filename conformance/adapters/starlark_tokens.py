@@ -74,7 +74,7 @@ def reports(program, texts):
             item = json.loads(line or b"{}")
             if "begin" in item:
                 found[item["file"]].append(item)
-        refused = set(re.findall(r"starlark_tokens: (.*?): not UTF-8", ran.stderr.decode()))
+        refused = set(re.findall(r"(?m)^(.*):\d+:\d+: error: not UTF-8", ran.stderr.decode()))
         return [None if name in refused else items for name, items in found.items()]
 
 

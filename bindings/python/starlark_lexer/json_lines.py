@@ -34,7 +34,18 @@ _HELPS = {
     "SL009": "close the expression with `}`, or write `{{` for a brace that is text",
 }
 
+# What to do about characters that begin no token, by the character.
+_INPUT_HELPS = {
+    **dict.fromkeys("\u201c\u201d\u201e", 'write " in place of a typographic quote'),
+    **dict.fromkeys("\u2018\u2019\u201a", "write ' in place of a typographic quote"),
+    **dict.fromkeys("\u2013\u2014\u2212", "write - in place of a dash"),
+    "\u00a0": "write a space: this is U+00A0 NO-BREAK SPACE",
+    "\ufeff": "remove it: this is U+FEFF BYTE ORDER MARK",
+    "`": "write quotes: Starlark has no backticks",
+}
+
 _MESSAGE_BEGIN = "Parse error: "
+_INPUT_BEGIN = "invalid input `"
 
 
 def _string(text: str) -> str:
@@ -63,6 +74,13 @@ def _value(value: Value, written: str) -> str:
     return _integer(value, written)
 
 
+def _help(code: str, message: str) -> str:
+    """What to do about a fault of a code with a message."""
+    if message.startswith(_INPUT_BEGIN):
+        return _INPUT_HELPS.get(message[len(_INPUT_BEGIN) : -1], _HELPS[code])
+    return _HELPS[code]
+
+
 def _utf16_column(line: str, column: int) -> int:
     """The units of UTF-16 before a column of a line."""
     return column if line.isascii() else len(line[:column].encode("utf-16-le")) // 2
@@ -87,7 +105,7 @@ def lines(name: str, items: List[Union[Token, Fault]]) -> Iterator[str]:
             yield _line(prefix, names[item.type], item, _value(item.value, item.string)) + "}\n"
         else:
             message = item.message[len(_MESSAGE_BEGIN) :] if item.message.startswith(_MESSAGE_BEGIN) else item.message
-            said = f',"code":"{item.code}","help":{_string(_HELPS[item.code])}}}\n'
+            said = f',"code":"{item.code}","help":{_string(_help(item.code, message))}}}\n'
             yield _line(prefix, "Fault", item, _string(message)) + said
 
 
