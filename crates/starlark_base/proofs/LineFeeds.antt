@@ -1,14 +1,15 @@
 -- Where lines begin, and how many line feeds stand before a place.
-use Rattle.std.proofs.Common.{◌≡◌, ℕ, zero, suc, ◌+◌, ◌-◌, ◌<◌, ◌≤◌, true, false, cond, not, [], ◌∷◌, length, take, drop, get_or, refl, ap, sym, ◌∙◌, arith, count_by, inl, inr, ◌⊎◌, leb}
+use Rattle.std.proofs.Common.{◌≡◌, ℕ, zero, suc, ◌+◌, ◌-◌, ◌<◌, ◌≤◌, true, false, cond, not, List, [], ◌∷◌, map, slice_index, length, take, drop, get_or, refl, ap, sym, ◌∙◌, arith, count_by, inl, inr, ◌⊎◌, leb}
 use Rattle.std.proofs.lemmas.Bool.{eqb-true, cases_lt}
 use Rattle.std.proofs.lemmas.Bool.Decides.{nat_tests}
-use Rattle.std.proofs.lemmas.List.{length-take-le, get_or-take, get_or_default, drop-take}
+use Rattle.std.proofs.lemmas.List.{at_drop_all, at_drop_more, length-take-le, get_or-take, get_or_default, drop-take}
 use Rattle.std.proofs.lemmas.List.Recursion.{is_count_by}
 use Rattle.std.proofs.lemmas.List.Sums.{count_by_more_yes, suffix_len_is}
 use Rattle.std.proofs.lemmas.Str.{IsCharBoundary-start, IsCharBoundary-end, IsCharBoundary-after_ascii}
 use Rattle.std.specs.List.{after_last, suffix_len}
 use Rattle.std.specs.List.Sorted.{IsPartitionedBy, IsPartitionPoint}
 use Rattle.std.specs.Str.{IsUtf8, IsCharBoundary}
+use Rattle.memchr.specs.Find.{places, places_from}
 use Rattle.starlark_base.specs.Places.{Text, is_lf}
 use Rattle.starlark_base.specs.Lines.{line_begin}
 use Rattle.starlark_base.specs.Starts.{starts_from, line_starts}
@@ -152,6 +153,20 @@ starts_from_at at (b ∷ rest) (suc k) h =
 pub line_starts_at : (text : Text) (line : ℕ) → line ≤ lf_search text → get_or (line_starts text) line 0 ≡ line_begin text line
 line_starts_at text zero h = refl
 line_starts_at text (suc line) h = starts_from_at 0 text line (omega arith) ∙ omega arith
+
+-- a line starts right after each line feed
+starts_after : (text : Text) (at n : ℕ) → at + n ≡ length text → map (λ k. k + 1) (places_from is_lf text at n) ≡ starts_from at (drop at text)
+unfolding places_from
+starts_after text at zero all = sym (at_drop_all (starts_from at) text at (omega arith))
+starts_after text at (suc n) all =
+    let later = starts_after text (at + 1) n (omega arith) in
+    elim (is_lf (slice_index text at)) as (λ f. map (λ k. k + 1) (cond f (at ∷ places_from is_lf text (at + 1) n) (places_from is_lf text (at + 1) n)) ≡ cond f ((at + 1) ∷ starts_from (at + 1) (drop (at + 1) text)) (starts_from (at + 1) (drop (at + 1) text))) [
+      | true ↦ ap (λ (l : List ℕ). (at + 1) ∷ l) later
+      | false ↦ later
+    ] ∙ sym (at_drop_more (starts_from at) text at 0 (omega arith))
+
+pub starts_found : (text : Text) → 0 ∷ map (λ k. k + 1) (places is_lf text) ≡ line_starts text
+starts_found text = ap (λ (l : List ℕ). 0 ∷ l) (starts_after text 0 (length text - 0) (omega arith))
 
 -- after a line's begin, up to a place on it, no line feed stands
 no_feed_on_line : (text : Text) (at k : ℕ) → at ≤ length text → line_begin text (lf_search (take at text)) ≤ k → k < at → is_lf (get_or text k 0) ≡ false

@@ -1,13 +1,14 @@
 -- Runs of bytes in parts, and runs that are found in some bytes at once.
-use Rattle.std.proofs.Common.{◌≡◌, ℕ, zero, suc, zero-add, ◌+◌, ◌-◌, ◌≤◌, ◌<◌, ◌%◌, ◌^◌, Bool, true, false, cond, ◌||◌, not, eqb, List, [], ◌∷◌, ◌*◌, map, length, take, drop, refl, ap, ◌∙◌, sym, bit_or, arith}
+use Rattle.std.proofs.Common.{◌≡◌, ℕ, zero, suc, zero-add, ◌+◌, ◌-◌, ◌≤◌, ◌<◌, ◌%◌, ◌^◌, Bool, true, false, cond, ◌||◌, not, eqb, List, [], ◌∷◌, ◌*◌, map, length, take, drop, refl, ap, ◌∙◌, sym, subst, bit_or, arith}
 use Rattle.std.proofs.lemmas.Bool.{eq-eqb, ne_eqb, cond-true, cond-false}
 use Rattle.std.proofs.lemmas.List.{length-take-le, length-drop, length-map, take-append-drop, take_all, drop-drop}
 use Rattle.std.proofs.lemmas.List.Folds.{prefix_len-append}
 use Rattle.std.proofs.lemmas.List.Sums.{prefix_len-drop_yes, prefix_len-le-length, prefix_len_passes}
-use Rattle.std.proofs.lemmas.Simd.{map-map, mask_l-mod, first_set_mask_l, leading_from_mask_l, trailing_mask_l}
+use Rattle.std.proofs.lemmas.Simd.{map-map, mask_l-mod, leading_from_mask_l, trailing_mask_l}
 use Rattle.std.specs.Int.{trailing_zeros, w64}
 use Rattle.std.specs.List.{prefix_len}
 use lib.Lanes.{mask_l, top}
+use Rattle.starlark_words.specs.Inner.LaneMasks.{MarksEnd}
 
 module _ (p : ℕ → Bool) (n : ℕ) (xs : List ℕ) (room : n ≤ length xs) where
   parts : prefix_len p xs ≡ cond (eqb (prefix_len p (take n xs)) n) (n + prefix_len p (drop n xs)) (prefix_len p (take n xs))
@@ -78,14 +79,6 @@ top_lane : (b : Bool) → top 7 (lane_of b) ≡ b
 top_lane true = refl
 top_lane false = refl
 
--- the lowest bit of the mask of lanes is the first byte that passes
-pub lanes_counted : (p : ℕ → Bool) (v z : List ℕ) (r : ℕ) → length v ≡ 16 → r ≡ cond (eqb (mask_l (map (top 7) z) % 2 ^ 64) 0) 16 (trailing_zeros w64 (mask_l (map (top 7) z) % 2 ^ 64))
-    → z ≡ map (λ x. lane_of (p x)) v → r ≡ prefix_len (λ x. not (p x)) v
-lanes_counted p v z r long found lanes =
-    let mask : mask_l (map (top 7) z) % 2 ^ 64 ≡ mask_l (map p v) =
-    ap (λ l. mask_l l % 2 ^ 64) (ap (map (top 7)) lanes ∙ map-map (top 7) (λ x. lane_of (p x)) v ∙ (λ i. map (λ x. top_lane (p x) i) v)) ∙ mask_l-mod (map p v) 64 (omega (arith, length-map v p, long)) in
-    found ∙ ap (λ m. cond (eqb m 0) 16 (trailing_zeros w64 m)) mask ∙ first_set_mask_l p v 16 long (omega arith)
-
 -- where a bit is set, a lane passes
 found_inside : (p : ℕ → Bool) (xs : List ℕ) → 0 < mask_l (map p xs) → prefix_len (λ x. not (p x)) xs < length xs
 found_inside p [] some = absurd (omega (arith, some))
@@ -95,15 +88,17 @@ found_inside p (x ∷ xs) some = go (p x) some (found_inside p xs)
     go true some more = omega arith
     go false some more = omega (arith, more (omega (arith, some)))
 
--- no bit of the mask of lanes is set where no byte passes, and else the lowest one is the first
--- byte that does
-pub lanes_found : (n : ℕ) (p : ℕ → Bool) (v z : List ℕ) → n ≤ 64 → length v ≡ n → z ≡ map (λ x. lane_of (p x)) v
-    → (mask_l (map (top 7) z) % 2 ^ 64 ≡ 0 → prefix_len (λ x. not (p x)) v ≡ n)
-    × (0 < mask_l (map (top 7) z) % 2 ^ 64 → (trailing_zeros w64 (mask_l (map (top 7) z) % 2 ^ 64) ≡ prefix_len (λ x. not (p x)) v) × (trailing_zeros w64 (mask_l (map (top 7) z) % 2 ^ 64) < n))
-lanes_found n p v z few long lanes =
+-- the mask of lanes marks the first byte that passes
+pub lanes_marked : (p : ℕ → Bool) (v z : List ℕ) → length v ≡ 16 → z ≡ map (λ x. lane_of (p x)) v → MarksEnd (λ x. not (p x)) v (mask_l (map (top 7) z) % 2 ^ 64)
+lanes_marked p v z long lanes =
     let mask : mask_l (map (top 7) z) % 2 ^ 64 ≡ mask_l (map p v) =
-    ap (λ l. mask_l l % 2 ^ 64) (ap (map (top 7)) lanes ∙ map-map (top 7) (λ x. lane_of (p x)) v ∙ (λ i. map (λ x. top_lane (p x) i) v)) ∙ mask_l-mod (map p v) 64 (omega (arith, length-map v p, long, few)) in
-    let first = λ (some : 0 < mask_l (map (top 7) z) % 2 ^ 64). ap (trailing_zeros w64) mask ∙ trailing_mask_l p 64 v (omega (arith, long, few)) (omega (arith, some, mask)) in (
-      λ none. leading_from_mask_l p v (sym mask ∙ none) ∙ long,
-      λ some. (first some, omega (arith, first some, found_inside p v (omega (arith, some, mask)), long)),
-    )
+    ap (λ l. mask_l l % 2 ^ 64) (ap (map (top 7)) lanes ∙ map-map (top 7) (λ x. lane_of (p x)) v ∙ (λ i. map (λ x. top_lane (p x) i) v)) ∙ mask_l-mod (map p v) 64 (omega (arith, length-map v p, long)) in
+    let first = λ (some : 0 < mask_l (map (top 7) z) % 2 ^ 64). ap (trailing_zeros w64) mask ∙ trailing_mask_l p 64 v (omega (arith, long)) (omega (arith, some, mask)) in
+    record {
+      none = λ none. leading_from_mask_l p v (sym mask ∙ none) ∙ long;
+      some = λ some. (first some, omega (arith, first some, found_inside p v (omega (arith, some, mask)), long));
+    }
+
+-- also if another test is the same
+pub marked_as : (p q : ℕ → Bool) → ((b : ℕ) → p b ≡ q b) → (v : List ℕ) (mask : ℕ) → MarksEnd p v mask → MarksEnd q v mask
+marked_as p q same v mask marks = subst (λ (test : ℕ → Bool). MarksEnd test v mask) (λ i b. same b i) marks

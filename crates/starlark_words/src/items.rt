@@ -3,7 +3,7 @@
 ghost use Rattle.std.specs.Prelude.{◌≡◌, ◌<◌, ◌≤◌, ◌+◌, ◌-◌, ◌==◌, ◌&&◌, ◌∷◌, not, drop, false, get_or, length, nat_eq, take, true};
 ghost use Rattle.std.specs.List.{starts_with};
 ghost use Rattle.starlark_grammar.specs.Items as grammar;
-ghost use Rattle.starlark_words.specs.Inner.LiteralViews.{IsText, found_len, found_view, least_reads, literal_view};
+ghost use Rattle.starlark_words.specs.Inner.LiteralViews.{IsText, found_len, found_view, least_reads, literal_view, single_literal};
 ghost use Rattle.starlark_grammar.specs.Inner.Openings.{opening_view};
 ghost use Rattle.starlark_words.specs.Inner.Reads.{AreReads, more_reads};
 ghost use Rattle.starlark_grammar.specs.declared.class.LiteralKind.TheVariants.{FString as OfFString};
@@ -19,6 +19,19 @@ pub struct Literal {
     pub kind: LiteralKind,
     /// Its quotes, and whether it is raw.
     pub opening: Opening,
+}
+
+/// A literal that one quote closes.
+#[inline(always)]
+pub(crate) fn single_quoted(kind: LiteralKind, is_raw: bool, quote: Quote) -> Literal
+    ensures { literal_view result ≡ single_literal kind is_raw quote }
+{
+    let opening = Opening {
+        is_raw,
+        quote,
+        is_triple: false,
+    };
+    Literal { kind, opening }
 }
 
 /// The decoded value of an item.

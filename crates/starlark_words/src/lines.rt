@@ -1,8 +1,8 @@
 //! Finds the first LF, or the first of another byte.
 
 ghost use Rattle.std.specs.Prelude.{◌≡◌, ◌+◌, ◌-◌, ◌≤◌, ◌<◌, ◌^◌, drop, length, take};
-ghost use Rattle.std.specs.Int.{trailing_zeros, w64};
 ghost use Rattle.std.specs.List.{prefix_len};
+ghost use Rattle.starlark_words.specs.Inner.LaneMasks.{MarksEnd};
 ghost use Rattle.starlark_words.specs.Inner.Reads.{AreReads};
 ghost use Rattle.starlark_words.specs.Inner.LineFronts.{is_in_front, most_front_reads};
 
@@ -34,8 +34,7 @@ fn short_front_len(text: &[u8], other: u8) -> usize
 #[inline(always)]
 fn front_ends(text: &[u8], at: usize, other: u8) -> u64
     requires { at + 16 ≤ length text.now }
-    ensures none { result ≡ 0 → prefix_len (is_in_front other) (take 16 (drop at text.now)) ≡ 16 }
-    ensures some { 0 < result → (trailing_zeros w64 result ≡ prefix_len (is_in_front other) (take 16 (drop at text.now))) × (trailing_zeros w64 result < 16) }
+    ensures { MarksEnd (is_in_front other) (take 16 (drop at text.now)) result }
 {
     let lanes = u8x16::from_slice(&text[at..]);
     let ends = lanes.simd_eq(u8x16::splat(other)) | lanes.simd_eq(u8x16::splat(b'\n'));

@@ -3,9 +3,10 @@
 ghost use Rattle.std.specs.Prelude.{◌≡◌, ◌<◌, ◌≤◌, ◌+◌, ◌*◌, ◌^◌, length, take};
 ghost use Rattle.std.specs.List.{prefix_len};
 ghost use Rattle.starlark_grammar.specs.Words as grammar;
+ghost use Rattle.starlark_words.specs.Inner.LaneMasks.{MarksEnd};
 ghost use Rattle.starlark_words.specs.Inner.Reads.{AreReads};
 
-use crate::lanes::{LANES, lowest_bit};
+use crate::lanes::LANES;
 use crate::reads::ReadCounter;
 use std::simd::prelude::*;
 
@@ -57,18 +58,18 @@ fn last_name_len(text: &[u8]) -> usize
     short_name_len(text)
 }
 
-/// Number of letters, digits and `_` at the start of the first 16 bytes, by SIMD.
+/// The bytes among the first 16 that no name has, as a mask: the lowest bit is the first byte's.
 #[inline(always)]
-fn lanes_name_len(text: &[u8]) -> usize
+fn name_ends(text: &[u8]) -> u64
     requires { 16 ≤ length text.now }
-    ensures value { result ≡ prefix_len grammar.is_in_name (take 16 text.now) }
+    ensures { MarksEnd grammar.is_in_name (take 16 text.now) result }
 {
     let lanes = u8x16::from_slice(text);
     let capitals = lanes.simd_ge(u8x16::splat(b'A')) & lanes.simd_le(u8x16::splat(b'Z'));
     let letters = lanes.simd_ge(u8x16::splat(b'a')) & lanes.simd_le(u8x16::splat(b'z'));
     let digits = lanes.simd_ge(u8x16::splat(b'0')) & lanes.simd_le(u8x16::splat(b'9'));
     let in_name = capitals | letters | lanes.simd_eq(u8x16::splat(b'_')) | digits;
-    lowest_bit((!in_name).to_bitmask())
+    (!in_name).to_bitmask()
 }
 
 /// Number of letters, digits and `_` at the start of a text.
@@ -92,10 +93,10 @@ pub(crate) fn name_len(reads: &mut ReadCounter, passed: usize, text: &[u8]) -> u
         reads.count_run(passed + len);
         return len;
     }
-    let more = lanes_name_len(&text[ALONE..]);
-    if more < LANES {
+    let ends = name_ends(&text[ALONE..]);
+    if ends != 0 {
         reads.add(passed + ALONE + LANES);
-        return ALONE + more;
+        return ALONE + ends.trailing_zeros() as usize;
     }
     let whole = ALONE + LANES + last_name_len(&text[ALONE + LANES..]);
     reads.count_run(passed + whole);

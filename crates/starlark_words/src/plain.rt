@@ -8,7 +8,7 @@ ghost use Rattle.starlark_words.specs.Inner.LiteralViews.{IsPlainBody, IsPlainCh
 ghost use Rattle.starlark_words.specs.Inner.PlainRuns.{IsRun};
 ghost use Rattle.starlark_grammar.specs.Inner.Openings.{opening_view};
 
-use super::items::{Literal, Stop, closes, quote_byte};
+use super::items::{Literal, Stop, closes, quote_byte, single_quoted};
 use super::runs::first_run;
 use crate::reads::{ReadCounter, byte_at, uncounted_front};
 use starlark_grammar::class::{LiteralKind, Opening, Quote};
@@ -33,12 +33,7 @@ pub fn plain_body_len(
     ensures reads { IfOk result (λ len. AreReads (len + 1) (6 * len + 3) reads.old reads.new) }
     ensures other { IfErr result (λ run. IsRun (single_literal kind is_raw quote) text.now run × AreReads run (6 * run + 3) reads.old reads.new) }
 {
-    let opening = Opening {
-        is_raw,
-        quote,
-        is_triple: false,
-    };
-    let literal = Literal { kind, opening };
+    let literal = single_quoted(kind, is_raw, quote);
     let len = first_run(reads, 0, literal, text).len();
     let bytes = text.as_bytes();
     if byte_at(bytes, len) != quote_byte(quote) {

@@ -4,12 +4,13 @@ ghost use Rattle.std.specs.Prelude.{◌≡◌, ◌<◌, ◌≤◌, ◌+◌, ◌*
 ghost use Rattle.std.specs.List.{prefix_len};
 ghost use Rattle.std.specs.Str.{IsCharBoundary};
 ghost use Rattle.starlark_grammar.specs.Items as grammar;
+ghost use Rattle.starlark_words.specs.Inner.LaneMasks.{MarksEnd};
 ghost use Rattle.starlark_words.specs.Inner.LiteralViews.{literal_view};
 ghost use Rattle.starlark_words.specs.Inner.Reads.{AreReads, more_reads};
 ghost use Rattle.starlark_words.specs.Inner.PlainRuns.{is_in_run, is_special};
 
 use super::items::{Literal, ends_line, is_brace, quote_byte};
-use crate::lanes::{LANES, lowest_bit};
+use crate::lanes::LANES;
 use crate::reads::ReadCounter;
 use starlark_grammar::class::LiteralKind;
 use std::simd::prelude::*;
@@ -63,12 +64,12 @@ fn short_run_len(literal: Literal, bytes: &[u8]) -> usize
     len
 }
 
-/// Length of the run at the start of the 16 bytes from `at` on; 16 if it fills them. The caller has
-/// to count the reads.
+/// The bytes that end a run among the 16 from `at` on, as a mask: the lowest bit is the first byte's.
+/// The caller has to count the reads.
 #[inline(always)]
-fn lanes_run_len(literal: Literal, bytes: &[u8], at: usize) -> usize
+fn run_ends(literal: Literal, bytes: &[u8], at: usize) -> u64
     requires { at + 16 ≤ length bytes.now }
-    ensures value { result ≡ prefix_len (is_in_run (literal_view literal)) (take 16 (drop at bytes.now)) }
+    ensures { MarksEnd (is_in_run (literal_view literal)) (take 16 (drop at bytes.now)) result }
 {
     let lanes = u8x16::from_slice(&bytes[at..]);
     let mut ends = lanes.simd_eq(u8x16::splat(quote_byte(literal.opening.quote)))
@@ -80,7 +81,7 @@ fn lanes_run_len(literal: Literal, bytes: &[u8], at: usize) -> usize
     if literal.kind == LiteralKind::FString {
         ends = ends | (lanes.simd_eq(u8x16::splat(b'{')) | lanes.simd_eq(u8x16::splat(b'}')));
     }
-    lowest_bit(ends.to_bitmask())
+    ends.to_bitmask()
 }
 
 /// Length of the run at the start of some bytes, by SIMD with a scalar tail.
@@ -94,10 +95,10 @@ fn long_run_len(reads: &mut ReadCounter, literal: Literal, bytes: &[u8]) -> usiz
 {
     let mut at = 0;
     while at + LANES <= bytes.len() {
-        let len = lanes_run_len(literal, bytes, at);
-        if len < LANES {
+        let ends = run_ends(literal, bytes, at);
+        if ends != 0 {
             reads.add(at + LANES);
-            return at + len;
+            return at + ends.trailing_zeros() as usize;
         }
         at += LANES;
     }
@@ -123,10 +124,10 @@ fn run_len(reads: &mut ReadCounter, passed: usize, literal: Literal, bytes: &[u8
         reads.count_run(passed + front);
         return front;
     }
-    let len = lanes_run_len(literal, bytes, 0);
+    let ends = run_ends(literal, bytes, 0);
     reads.add(passed + ALONE + LANES);
-    if len < LANES {
-        return len;
+    if ends != 0 {
+        return ends.trailing_zeros() as usize;
     }
     LANES + long_run_len(reads, literal, &bytes[LANES..])
 }

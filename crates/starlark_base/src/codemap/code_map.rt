@@ -15,6 +15,7 @@ use crate::codemap::character_counts::{characters_between, counts_of};
 use crate::codemap::{
     FileSpan, OrMemory, Pos, ResolvedPos, ResolvedSpan, SourceTooLong, Span, is_source_len,
 };
+use memchr::memchr_iter;
 use std::alloc::{AllocError, Global};
 use std::fmt;
 use std::hash::{Hash, Hasher};
@@ -96,10 +97,8 @@ fn starts_of_lines(alloc: Global, source: &str) -> Result<Vec<Pos>, AllocError>
 {
     let mut starts = Vec::new(alloc);
     starts.push(Pos::new(0))?;
-    for (at, byte) in source.as_bytes().iter().enumerate() {
-        if *byte == b'\n' {
-            starts.push(Pos::new(at as u32 + 1))?;
-        }
+    for at in memchr_iter(b'\n', source.as_bytes()) {
+        starts.push(Pos::new(at as u32 + 1))?;
     }
     Ok(starts)
 }

@@ -92,7 +92,7 @@ loop-rest-preserved c =
     let found : grammar.found_at (literal_view c.args.literal) c.range_from-rest.result.now ≡ grammar.Goes item = sym c.in-Ok.ensures.value in
     let more = front_item (literal_view c.args.literal) c.args.text.now (c.loop-rest.len + length c.first_run-run.result.now) ((string_bytes c.loop-rest.decoded) ++ take (c.loop-rest.len + length c.first_run-run.result.now - c.loop-rest.copied) (drop c.loop-rest.copied c.args.text.now)) c.range_from-rest.result.now item after found in
     record {
-      front = all_copied (literal_view c.args.literal) c.args.text.now _ (((string_bytes c.loop-rest.decoded) ++ take (c.loop-rest.len + length c.first_run-run.result.now - c.loop-rest.copied) (drop c.loop-rest.copied c.args.text.now)) ++ value_view c.in-Ok.value) ((c.loop-rest.len + length c.first_run-run.result.now) + c.in-Ok.more) (c.in_ok-append_to_text-in-Ok.ensures ∙ ap (λ (t : Text). t ++ value_view c.in-Ok.value) (c.in_ok-append_run.ensures ∙ ap (λ (t : Text). (string_bytes c.loop-rest.decoded) ++ t) c.range.ensures.value)) more;
+      front = all_copied (literal_view c.args.literal) c.args.text.now _ (((string_bytes c.loop-rest.decoded) ++ take (c.loop-rest.len + length c.first_run-run.result.now - c.loop-rest.copied) (drop c.loop-rest.copied c.args.text.now)) ++ value_view c.in-Ok.value) ((c.loop-rest.len + length c.first_run-run.result.now) + c.in-Ok.more) (c.in_ok-append_to_text-in-Ok.ensures ∙ ap (λ (t : Text). t ++ value_view c.in-Ok.value) (c.in_ok-append_run-2.ensures ∙ ap (λ (t : Text). (string_bytes c.loop-rest.decoded) ++ t) c.range-in-loop-rest.ensures.value)) more;
       copied = omega arith;
       start = item_boundary (literal_view c.args.literal) c.args.text.now (c.loop-rest.len + length c.first_run-run.result.now) ((string_bytes c.loop-rest.decoded) ++ take (c.loop-rest.len + length c.first_run-run.result.now - c.loop-rest.copied) (drop c.loop-rest.copied c.args.text.now)) c.range_from-rest.result.now item after found;
       boundary = item_boundary (literal_view c.args.literal) c.args.text.now (c.loop-rest.len + length c.first_run-run.result.now) ((string_bytes c.loop-rest.decoded) ++ take (c.loop-rest.len + length c.first_run-run.result.now - c.loop-rest.copied) (drop c.loop-rest.copied c.args.text.now)) c.range_from-rest.result.now item after found;
@@ -104,4 +104,4 @@ pub returns-in-Err-clause-body : goal.returns-in-Err-clause-body
 returns-in-Err-clause-body c =
     let after = run_is (goal.at.returns-in-Err-clause-body c).After-range_from-rest in
     let end = run_stops (literal_view c.args.literal) c.args.text.now (c.loop-rest.len + length c.first_run-run.result.now) ((string_bytes c.loop-rest.decoded) ++ take (c.loop-rest.len + length c.first_run-run.result.now - c.loop-rest.copied) (drop c.loop-rest.copied c.args.text.now)) c.range_from-rest.result.now (stop_view c.in-Err.stop) after (sym c.in-Err.ensures.value) in
-    record { len = end.0; value = (c.in_ok-append_run.ensures ∙ ap (λ (t : Text). (string_bytes c.loop-rest.decoded) ++ t) c.range.ensures.value) ∙ end.1; stop = end.2 }
+    record { len = end.0; value = (c.in_ok-append_run-2.ensures ∙ ap (λ (t : Text). (string_bytes c.loop-rest.decoded) ++ t) c.range-in-loop-rest.ensures.value) ∙ end.1; stop = end.2 }

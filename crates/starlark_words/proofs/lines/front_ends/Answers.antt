@@ -1,10 +1,7 @@
-use Rattle.std.proofs.Common.{arith}
 use Rattle.std.proofs.lemmas.Simd.{length-chunk}
 use lib.Lanes.{chunk}
-use Rattle.starlark_words.proofs.EqualLanes.{front_found}
+use Rattle.starlark_words.proofs.EqualLanes.{front_marked}
 use Rattle.starlark_words.proofs.lines.front_ends.Goals as goal
 
 pub returns : goal.returns
-returns c =
-    let found = front_found 16 c.args.other (chunk c.args.at 16 c.args.text.now) (omega arith) (length-chunk c.args.at 16 c.args.text.now c.requires) in
-    record { none = found.0; some = found.1 }
+returns c = front_marked c.args.other (chunk c.args.at 16 c.args.text.now) (length-chunk c.args.at 16 c.args.text.now c.requires)

@@ -1,6 +1,13 @@
-use Rattle.std.proofs.Common.{◌≡◌, ◌++◌, drop}
-use Rattle.starlark_base.specs.Starts.{starts_from, line_starts}
+use Rattle.std.proofs.Common.{◌≡◌, ◌+◌, ◌<◌, ◌++◌, All, length, map}
+use Rattle.memchr.specs.Find.{Passes}
+use Rattle.starlark_base.specs.Places.{is_lf}
+use Rattle.starlark_base.specs.Starts.{line_starts}
 use Rattle.starlark_base.proofs.codemap.code_map.starts_of_lines.Given as goal
 
 abbrev pub invariant-loop-at : goal.invariant-loop-at
-invariant-loop-at l = l.starts.items ++ starts_from l.at (drop l.at l.source) ≡ line_starts l.source
+invariant-loop-at l = record {
+  can_next : (goal.iterator-loop-at).can_next l.at-iterator;
+  finite : (goal.iterator-loop-at).is_finite l.at-iterator;
+  inside : All (λ k. (k < length l.source) × Passes is_lf l.source k) l.at-iterator;
+  starts : l.starts.items ++ map (λ k. k + 1) l.at-iterator ≡ line_starts l.source;
+}

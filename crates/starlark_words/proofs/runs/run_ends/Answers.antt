@@ -1,14 +1,13 @@
-use Rattle.std.proofs.Common.{◌≡◌, ℕ, Bool, ◌==◌, ◌&&◌, ◌||◌, ap, length, not, map, take, drop, sym, ◌∙◌, rules}
+use Rattle.std.proofs.Common.{◌≡◌, ℕ, Bool, ◌==◌, ◌&&◌, ◌||◌, ap, length, not, map, sym, ◌∙◌, rules}
 use Rattle.std.proofs.lemmas.Simd.{length-chunk}
 use lib.Lanes.{chunk}
 use Rattle.starlark_grammar.specs.Items.{is_brace, quote_byte}
 use Rattle.starlark_words.specs.Inner.LiteralViews.{literal_view}
 use Rattle.starlark_words.specs.Inner.PlainRuns.{is_in_run, is_special}
-use Rattle.starlark_words.proofs.LaneRuns.{lane_of, lanes_counted}
+use Rattle.starlark_words.proofs.LaneRuns.{lane_of, lanes_marked, marked_as}
 use Rattle.starlark_words.proofs.LiteralBodies.EndLanes.{always_ends, always_lanes, line_lanes, no_line_lanes, is_of_fstring, brace_lanes, no_brace_lanes, nested}
-use Rattle.starlark_words.proofs.LiteralBodies.RunBytes.{same_run}
-use Rattle.starlark_words.proofs.runs.lanes_run_len.Goals as goal
-use Rattle.starlark_words.proofs.runs.lanes_run_len.Goals.{then-not-literal, else-not-literal, then-eq, else-eq}
+use Rattle.starlark_words.proofs.runs.run_ends.Goals as goal
+use Rattle.starlark_words.proofs.runs.run_ends.Goals.{then-not-literal, else-not-literal, then-eq, else-eq}
 
 pub returns : goal.returns
 returns c =
@@ -31,4 +30,4 @@ returns c =
     ] in
     let same : (b : ℕ) → ends b ≡ is_special (literal_view c.args.literal) b = λ b.
     ap (λ q. (((b == q || b == 92) || b == 13) || (b == 10 && not triple)) || is_brace kind b) c.quote_byte.ensures ∙ nested (b == quote_byte c.args.literal.opening.quote) (b == 92) (b == 13) (b == 10 && not triple) (is_brace kind b) in
-    record { value = lanes_counted ends v _ _ long c.lowest_bit.ensures lanes ∙ same_run (λ b. not (ends b)) (is_in_run (literal_view c.args.literal)) (λ b. ap not (same b)) (take 16 (drop c.args.at c.args.bytes.now)) }
+    marked_as (λ b. not (ends b)) (is_in_run (literal_view c.args.literal)) (λ b. ap not (same b)) v _ (lanes_marked ends v _ long lanes)
