@@ -23,10 +23,10 @@ use Rattle.starlark_lexed_text.proofs.Elements.{all_append, all_weaker}
 use Rattle.starlark_lexed_text.proofs.JoinedLists.{begun}
 use Rattle.starlark_reader.proofs.TakenPieces.Onward.{margin_first}
 use Rattle.starlark_reader.proofs.TakenPieces.Taken.{no_tab}
-use Rattle.starlark_reader.specs.Inner.Reader.{IsReached, IsStateAfter, begins_with_tab, has_read_none}
+use Rattle.starlark_reader.specs.Inner.Reader.{IsReached, IsStateAfter, Start, begins_with_tab, has_read_none}
 use Rattle.starlark_lexemes.specs.Inner.RawItems.{IsRawIn}
 use Rattle.starlark_lexemes.specs.Lexer.{is_ended_by, yielded_by}
-use Rattle.starlark_lexemes.specs.Inner.LexerStates.{HasAnswered, HasTakenLast, IsBegun, IsLexing, StateView, left_in, view_of}
+use Rattle.starlark_lexemes.specs.Inner.LexerStates.{HasAnswered, HasTakenLast, IsBegun, IsLexing, StateView, left_in, view_of, whole}
 use Rattle.starlark_errors.specs.declared.error.kinds.ErrorKind.{ErrorKind}
 use Rattle.starlark_lexemes.specs.declared.lexer_state.LexerState.{LexerState}
 use Rattle.starlark_lexemes.proofs.LexerItems.{one_more as next_left}
@@ -37,9 +37,9 @@ use Rattle.starlark_token.specs.declared.tokens.Token.{Token}
 
 -- What was handed out and what is left in a lexer's state are all lexemes of a text.
 pub record IsCollected (text : Text) (state : LexerState) (found : List (ℕ × Token × ℕ)) : Type 0 where
-  pub lexing : IsLexing state
+  pub lexing : IsLexing (whole text) state
   pub view : view_of state ≡ record { text = text; yielded_count = length found; has_ended = false; reads = state.reader.reads }
-  pub all : map shown_lexeme (outcome text).lexemes ≡ map lexeme_view found ++ left_in state
+  pub all : map shown_lexeme (outcome text).lexemes ≡ map lexeme_view found ++ left_in (whole text) state
 
 pub text_is : (text : Text) (state : LexerState) (found : List (ℕ × Token × ℕ)) → IsCollected text state found → state.reader.text.now ≡ text
 text_is text state found is = ap (λ (v : StateView). v.text) is.view
@@ -48,16 +48,16 @@ pub goes_on : (text : Text) (state : LexerState) (found : List (ℕ × Token × 
 goes_on text state found is = ap (λ (v : StateView). v.has_ended) is.view
 
 -- with one lexeme more, right after which a kept cut is reached
-pub one_more : (text : Text) (old new : LexerState) (found : List (ℕ × Token × ℕ)) (lexeme : ℕ × Token × ℕ) → IsCollected text old found → HasAnswered old (Some (Ok lexeme)) new → IsLexing new
+pub one_more : (text : Text) (old new : LexerState) (found : List (ℕ × Token × ℕ)) (lexeme : ℕ × Token × ℕ) → IsCollected text old found → HasAnswered (whole text) old (Some (Ok lexeme)) new → IsLexing (whole text) new
     → view_of new ≡ record (view_of old) { yielded_count = old.yielded_count + 1; has_ended = false; reads = new.reader.reads }
-    → IsCollected text new (found ++ lexeme ∷ []) × (length found < length (outcome text).lexemes) × ((at : ℕ) → IsCutBefore text at (length (left_in new)) → IsReached new.reader at)
+    → IsCollected text new (found ++ lexeme ∷ []) × (length found < length (outcome text).lexemes) × ((at : ℕ) → IsCutBefore text at (length (left_in (whole text) new)) → IsReached new.reader at)
 one_more text old new found lexeme is answer lexing after =
-    let left : left_in new ≡ answer.0 =
-    ap (λ (v : StateView). drop v.yielded_count (map shown_lexeme (outcome v.text).lexemes)) after ∙ (next_left (map shown_lexeme (outcome old.reader.text.now).lexemes) old.yielded_count (lexeme_view lexeme) answer.0 answer.1).1 in
-    let all : map shown_lexeme (outcome text).lexemes ≡ map lexeme_view found ++ lexeme_view lexeme ∷ left_in new = is.all ∙ ap (λ vs. map lexeme_view found ++ vs) (answer.1 ∙ ap (λ vs. lexeme_view lexeme ∷ vs) (sym left)) in
-    let parts : map lexeme_view (found ++ lexeme ∷ []) ++ left_in new ≡ map lexeme_view found ++ lexeme_view lexeme ∷ left_in new =
-    ap (λ vs. vs ++ left_in new) (map-append lexeme_view found (lexeme ∷ [])) ∙ append_assoc (map lexeme_view found) (lexeme_view lexeme ∷ []) (left_in new) in
-    let count : length (map shown_lexeme (outcome text).lexemes) ≡ length (map lexeme_view found) + length (lexeme_view lexeme ∷ left_in new) = ap length all ∙ length-append (map lexeme_view found) (lexeme_view lexeme ∷ left_in new) in (
+    let left : left_in (whole text) new ≡ answer.0 =
+    ap (λ (v : StateView). drop v.yielded_count (map shown_lexeme (outcome text).lexemes)) after ∙ (next_left (map shown_lexeme (outcome text).lexemes) old.yielded_count (lexeme_view lexeme) answer.0 answer.1).1 in
+    let all : map shown_lexeme (outcome text).lexemes ≡ map lexeme_view found ++ lexeme_view lexeme ∷ left_in (whole text) new = is.all ∙ ap (λ vs. map lexeme_view found ++ vs) (answer.1 ∙ ap (λ vs. lexeme_view lexeme ∷ vs) (sym left)) in
+    let parts : map lexeme_view (found ++ lexeme ∷ []) ++ left_in (whole text) new ≡ map lexeme_view found ++ lexeme_view lexeme ∷ left_in (whole text) new =
+    ap (λ vs. vs ++ left_in (whole text) new) (map-append lexeme_view found (lexeme ∷ [])) ∙ append_assoc (map lexeme_view found) (lexeme_view lexeme ∷ []) (left_in (whole text) new) in
+    let count : length (map shown_lexeme (outcome text).lexemes) ≡ length (map lexeme_view found) + length (lexeme_view lexeme ∷ left_in (whole text) new) = ap length all ∙ length-append (map lexeme_view found) (lexeme_view lexeme ∷ left_in (whole text) new) in (
       record {
         lexing = lexing;
         view = after ∙ ap (λ (v : StateView). record v { yielded_count = v.yielded_count + 1; has_ended = false; reads = new.reader.reads }) is.view
@@ -65,15 +65,15 @@ one_more text old new found lexeme is answer lexing after =
         all = all ∙ sym parts;
       },
       omega (arith, count, length-map (outcome text).lexemes shown_lexeme, length-map found lexeme_view),
-      λ at cut. answer.3 at (subst (λ n. IsCutBefore old.reader.text.now at n) (ap length left) (subst (λ (t : Text). IsCutBefore t at (length (left_in new))) (sym (text_is text old found is)) cut)),
+      λ at cut. answer.3 refl at (subst (λ n. IsCutBefore old.reader.text.now at n) (ap length left) (subst (λ (t : Text). IsCutBefore t at (length (left_in (whole text) new))) (sym (text_is text old found is)) cut)),
     )
 
 -- where only the number of reads changes
-pub same_collected : (text : Text) (old new : LexerState) (found : List (ℕ × Token × ℕ)) → IsCollected text old found → IsLexing new → view_of new ≡ record (view_of old) { reads = new.reader.reads } → IsCollected text new found
+pub same_collected : (text : Text) (old new : LexerState) (found : List (ℕ × Token × ℕ)) → IsCollected text old found → IsLexing (whole text) new → view_of new ≡ record (view_of old) { reads = new.reader.reads } → IsCollected text new found
 same_collected text old new found is lexing after = search rules
 
 -- where no lexeme is left
-pub none_collected : (text : Text) (old new : LexerState) (answer : Option (Result (ℕ × Token × ℕ) (OrMemory (Diagnosed ErrorKind)))) (found : List (ℕ × Token × ℕ)) → is_some answer ≡ false → IsCollected text old found → IsLexing new
+pub none_collected : (text : Text) (old new : LexerState) (answer : Option (Result (ℕ × Token × ℕ) (OrMemory (Diagnosed ErrorKind)))) (found : List (ℕ × Token × ℕ)) → is_some answer ≡ false → IsCollected text old found → IsLexing (whole text) new
     → view_of new ≡ record (view_of old) { yielded_count = old.yielded_count + yielded_by answer; has_ended = old.has_ended || is_ended_by answer; reads = new.reader.reads } → IsCollected text new found
 none_collected text old new (Some answer) found none is lexing after = cc
 none_collected text old new None found none is lexing after =
@@ -87,14 +87,14 @@ pub less_left : {A : Type 0} (all : ℕ) (old new : List A) (x : A) → new ≡ 
 less_left all old new x is some = omega (arith, ap length is, length-append old (x ∷ []), some)
 
 -- none yet
-pub collected_none : (state : LexerState) (found : List (ℕ × Token × ℕ)) → found ≡ [] → IsLexing state → IsBegun state.reader.text.now state → IsCollected state.reader.text.now state found
+pub collected_none : (state : LexerState) (found : List (ℕ × Token × ℕ)) → found ≡ [] → IsLexing (whole state.reader.text.now) state → IsBegun state.reader.text.now state → IsCollected state.reader.text.now state found
 collected_none state found none lexing begun = search rules
 
 -- all of them, where none is left
-none_left : (text : Text) (state : LexerState) (found : List (ℕ × Token × ℕ)) → IsCollected text state found → left_in state ≡ [] → map lexeme_view found ≡ map shown_lexeme (outcome text).lexemes
+none_left : (text : Text) (state : LexerState) (found : List (ℕ × Token × ℕ)) → IsCollected text state found → left_in (whole text) state ≡ [] → map lexeme_view found ≡ map shown_lexeme (outcome text).lexemes
 none_left text state found is none = sym (is.all ∙ ap (λ vs. map lexeme_view found ++ vs) none ∙ append-nil (map lexeme_view found))
 
-found_all : (text : Text) (state : LexerState) (found : List (ℕ × Token × ℕ)) → IsCollected text state found → left_in state ≡ [] → length found ≡ length (outcome text).lexemes
+found_all : (text : Text) (state : LexerState) (found : List (ℕ × Token × ℕ)) → IsCollected text state found → left_in (whole text) state ≡ [] → length found ≡ length (outcome text).lexemes
 found_all text state found is none = sym (length-map found lexeme_view) ∙ ap length (none_left text state found is none) ∙ length-map (outcome text).lexemes shown_lexeme
 
 -- The cuts that were found so far: all before a text's end and before so many lexemes or fewer.
@@ -174,11 +174,11 @@ all_held text cuts more count so same last at kept = go (nat_lt at (length text)
         held_right at cuts more (ap (λ n. holds_cut n more) whole ∙ last (ap is_clean_cut (sym (take_all at text (omega (arith, whole)))) ∙ (kept_parts text at kept).1))
 
 -- with the text's fault after them
-pub fault_given : (text : Text) (state new : LexerState) (part : PartView) (found : ℕ × LexemeError × ℕ) → IsCollected text state part.lexemes → HasTakenLast state (Some found) new
+pub fault_given : (text : Text) (state new : LexerState) (part : PartView) (found : ℕ × LexemeError × ℕ) → IsCollected text state part.lexemes → HasTakenLast (whole text) state (Some found) new
     → AreCutsSoFar text (length part.lexemes) part.cuts → part.fault ≡ Some found → part.is_cut ≡ false → part.has_tab ≡ has_read_none new.reader → IsReadPart text part
 fault_given text state new part found is last so thrown no_cut tab =
     let same : state.reader.text.now ≡ text = text_is text state part.lexemes is in
-    let fault : (outcome text).fault ≡ Some last.0 = ap (λ (t : Text). (outcome t).fault) (sym same) ∙ last.1.has in
+    let fault : (outcome text).fault ≡ Some last.0 = last.1.has in
     record {
       lexemes = none_left text state part.lexemes is last.1.none;
       fault = subst (λ f. IsRawIn f part.fault) (sym fault) (subst (IsRawIn (Some last.0)) (sym thrown) last.2);
@@ -189,7 +189,7 @@ fault_given text state new part found is last so thrown no_cut tab =
             (all_held text part.cuts [] (length part.lexemes) so (found_all text state part.lexemes is last.1.none) (λ clean. let both : true ≡ false = sym clean ∙ faulty_cut text last.0 fault in cc) place kept);
       };
       is_cut = no_cut ∙ sym (faulty_cut text last.0 fault);
-      tab = tab ∙ last.1.tab ∙ ap begins_with_tab same;
+      tab = tab ∙ last.1.tab refl ∙ ap begins_with_tab same;
     }
 
 -- the cut at a text's end, where it is one, after others
@@ -208,10 +208,10 @@ end_is text cuts count false so is same = record {
 }
 
 -- where the text has none
-pub all_given : (text : Text) (state new : LexerState) (part : PartView) (cuts : List Cut) → IsCollected text state part.lexemes → HasTakenLast state None new → part.fault ≡ None
+pub all_given : (text : Text) (state new : LexerState) (part : PartView) (cuts : List Cut) → IsCollected text state part.lexemes → HasTakenLast (whole text) state None new → part.fault ≡ None
     → AreCutsSoFar text (length part.lexemes) cuts → part.cuts ≡ cuts ++ end_cuts text (length part.lexemes) part.is_cut → part.is_cut ≡ is_clean_cut text → part.has_tab ≡ false → IsReadPart text part
 all_given text state new part cuts is answer no_fault so same is_cut no_tabs =
-    let none : (outcome text).fault ≡ None = ap (λ (t : Text). (outcome t).fault) (sym (text_is text state part.lexemes is)) ∙ answer.1 in
+    let none : (outcome text).fault ≡ None = answer.1 in
     record {
       lexemes = none_left text state part.lexemes is answer.0;
       fault = subst (λ f. IsRawIn f part.fault) (sym none) (subst (IsRawIn None) (sym no_fault) tt);
@@ -220,9 +220,14 @@ all_given text state new part cuts is answer no_fault so same is_cut no_tabs =
       tab = let margin = begun text none in no_tabs ∙ sym (no_tab text margin.0 (sym (margin_first text) ∙ margin.1));
     }
 
+-- a cut before the text's end lies in the text
+pub cut_inside : (text : Text) (ahead : ℕ) (place : Option ℕ) → IfSome place (λ at. IsCutBefore text at ahead) → IfSome place (λ at. at < length text)
+cut_inside text ahead None found = tt
+cut_inside text ahead (Some at) found = found.inside
+
 -- how many are found and how many are left
-pub all_counted : (text : Text) (state : LexerState) (found : List (ℕ × Token × ℕ)) → IsCollected text state found → length found + length (left_in state) ≡ length (outcome text).lexemes
-all_counted text state found is = omega (arith, ap length is.all, length-append (map lexeme_view found) (left_in state), length-map found lexeme_view, length-map (outcome text).lexemes shown_lexeme)
+pub all_counted : (text : Text) (state : LexerState) (found : List (ℕ × Token × ℕ)) → IsCollected text state found → length found + length (left_in (whole text) state) ≡ length (outcome text).lexemes
+all_counted text state found is = omega (arith, ap length is.all, length-append (map lexeme_view found) (left_in (whole text) state), length-map found lexeme_view, length-map (outcome text).lexemes shown_lexeme)
 
 -- The lexeme that was handed out last is in the list, and the cuts up to it are in theirs.
 pub record HasPushed (text : Text) (state : LexerState) (lexemes pushed : List (ℕ × Token × ℕ)) (found : List Cut) : Type 0 where
@@ -231,25 +236,25 @@ pub record HasPushed (text : Text) (state : LexerState) (lexemes pushed : List (
   pub cuts : AreCutsSoFar text (length pushed) found
 
 pub pushed_one : (text : Text) (old new : LexerState) (lexemes pushed : List (ℕ × Token × ℕ)) (lexeme : ℕ × Token × ℕ) (cuts found : List Cut) (place : Option ℕ) (len : ℕ) → IsCollected text old lexemes → AreCutsSoFar text (length lexemes) cuts
-    → HasAnswered old (Some (Ok lexeme)) new → IsLexing new → view_of new ≡ record (view_of old) { yielded_count = old.yielded_count + 1; has_ended = false; reads = new.reader.reads }
-    → pushed ≡ lexemes ++ lexeme ∷ [] → IfSome place (λ at. IsCutBefore new.reader.text.now at (length (left_in new))) → ((at : ℕ) → IsReached new.reader at → 0 < at → at < length new.reader.text.now → place ≡ Some at)
+    → HasAnswered (whole text) old (Some (Ok lexeme)) new → IsLexing (whole text) new → view_of new ≡ record (view_of old) { yielded_count = old.yielded_count + 1; has_ended = false; reads = new.reader.reads }
+    → pushed ≡ lexemes ++ lexeme ∷ [] → IfSome place (λ at. IsCutBefore new.reader.text.now at (length (left_in (whole text) new))) → ((at : ℕ) → IsReached new.reader at → 0 < at → at < length new.reader.text.now → place ≡ Some at)
     → len ≡ length pushed → found ≡ cuts ++ cuts_at place len → HasPushed text new lexemes pushed found
 pushed_one text old new lexemes pushed lexeme cuts found place len is so answer lexing after push kept reached counted all =
     let more = one_more text old new lexemes lexeme is answer lexing after in
     let collected : IsCollected text new pushed = subst (IsCollected text new) (sym push) more.0 in
     let one : length pushed ≡ length lexemes + 1 = ap length push ∙ length-append lexemes (lexeme ∷ []) in
     let same = text_is text new pushed collected in
-    let later = cuts_more text (length lexemes) (left_in new) cuts place so (omega (arith, one, all_counted text new pushed collected))
-    (subst (λ (t : Text). IfSome place (λ at. IsCutBefore t at (length (left_in new)))) same kept)
+    let later = cuts_more text (length lexemes) (left_in (whole text) new) cuts place so (omega (arith, one, all_counted text new pushed collected))
+    (subst (λ (t : Text). IfSome place (λ at. IsCutBefore t at (length (left_in (whole text) new)))) same kept)
     (λ at cut. reached at (more.2 at cut) (kept_some text at cut.is_kept) (subst (λ (t : Text). at < length t) (sym same) cut.inside)) in
     search rules
 
 -- Nothing is left of a text without fault only where it has a lexeme at least.
-pub some_given : (text : Text) (state new : LexerState) (found : List (ℕ × Token × ℕ)) → IsCollected text state found → HasTakenLast state None new → 0 < length found
+pub some_given : (text : Text) (state new : LexerState) (found : List (ℕ × Token × ℕ)) → IsCollected text state found → HasTakenLast (whole text) state None new → 0 < length found
 some_given text state new found is answer =
-    omega (arith, some_lexemes text (ap (λ (t : Text). (outcome t).fault) (sym (text_is text state found is)) ∙ answer.1), found_all text state found is answer.0)
+    omega (arith, some_lexemes text answer.1, found_all text state found is answer.0)
 
 -- whether the text is a clean cut, which the history at its end tells
-pub settled_is : (text : Text) (state new : LexerState) (found : List (ℕ × Token × ℕ)) (is_cut : Bool) → IsCollected text state found → HasTakenLast state None new
-    → ((history : History) → IsStateAfter text history new.reader → is_cut ≡ (is_settled history && ends_with nat_eq text (codes "\n"))) → is_cut ≡ is_clean_cut text
+pub settled_is : (text : Text) (state new : LexerState) (found : List (ℕ × Token × ℕ)) (is_cut : Bool) → IsCollected text state found → HasTakenLast (whole text) state None new
+    → ((history : History) → IsStateAfter Start text history new.reader → is_cut ≡ (is_settled history && ends_with nat_eq text (codes "\n"))) → is_cut ≡ is_clean_cut text
 settled_is text state new found is_cut is answer by = search (rules, text_is, faultless_cut)

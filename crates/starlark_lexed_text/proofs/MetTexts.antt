@@ -17,7 +17,7 @@ use Rattle.starlark_reader.proofs.TakenPieces.Onward.{margin_first}
 use Rattle.starlark_reader.proofs.TakenPieces.Taken.{no_tab}
 use Rattle.starlark_lexemes.specs.Inner.RawItems.{IsRawIn}
 use Rattle.starlark_lexed_text.specs.Inner.LexedTexts.{AreCuts, IsCutOf, IsMet, IsReadPart, IsReadPartTo, IsRising, PartView, cuts_at, holds_cut, met_part, moved_cut, moved_lexeme, AllAfter, AllNear, AllNearCuts, IsPutIn, later}
-use Rattle.starlark_lexemes.specs.Inner.LexerStates.{left_in}
+use Rattle.starlark_lexemes.specs.Inner.LexerStates.{left_in, whole}
 use Rattle.starlark_lexed_text.specs.declared.cuts.Cut.{Cut}
 use Rattle.starlark_lexed_text.specs.declared.meetings.Meeting.{Meeting}
 use Rattle.starlark_lexemes.specs.declared.lexer_state.LexerState.{LexerState}
@@ -258,12 +258,12 @@ met_whole text known ls cuts is_cut at index cut part lexed faultless is are fou
             held_right x part.cuts _ (ap (λ n. holds_cut n (map (moved_cut cut there) (drop (index + 1) cuts))) (sym place) ∙ held_moved cut there (x - at + cut.at) (drop (index + 1) cuts) held)
 
 -- What was collected up to a kept cut that was just reached.
-pub met_front : (text : Text) (state : LexerState) (cuts : List Cut) (at : ℕ) (part : PartView) → IsCollected text state part.lexemes → IsCutBefore text at (length (left_in state)) → AreCutsSoFar text (length part.lexemes) part.cuts
+pub met_front : (text : Text) (state : LexerState) (cuts : List Cut) (at : ℕ) (part : PartView) → IsCollected text state part.lexemes → IsCutBefore text at (length (left_in (whole text) state)) → AreCutsSoFar text (length part.lexemes) part.cuts
     → part.cuts ≡ cuts ++ cuts_at (Some at) (length part.lexemes) → IsReadPartTo text at part
 met_front text state cuts at part is before so last = record {
   inside = before.inside;
   is_kept = before.is_kept;
-  lexemes = same_front (map lexeme_view part.lexemes) (map shown_lexeme (without_closing (outcome (take at text)).lexemes)) (left_in state) (map shown_lexeme law.0)
+  lexemes = same_front (map lexeme_view part.lexemes) (map shown_lexeme (without_closing (outcome (take at text)).lexemes)) (left_in (whole text) state) (map shown_lexeme law.0)
       (sym is.all ∙ ap (map shown_lexeme) law.1 ∙ map-append shown_lexeme (without_closing (outcome (take at text)).lexemes) law.0)
       (omega (arith, length-map part.lexemes lexeme_view, length-map (without_closing (outcome (take at text)).lexemes) shown_lexeme, count));
   each = so.each;

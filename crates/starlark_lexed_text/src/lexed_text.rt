@@ -8,7 +8,7 @@ ghost use Rattle.starlark_base.specs.Sources.{SourceFile};
 ghost use Rattle.starlark_grammar.specs.Cuts.{is_clean_cut};
 ghost use Rattle.starlark_grammar.specs.Reading.{outcome};
 ghost use Rattle.starlark_grammar.specs.Words.{Text};
-ghost use Rattle.starlark_lexemes.specs.Inner.LexerStates.{IsBegun, IsLexing};
+ghost use Rattle.starlark_lexemes.specs.Inner.LexerStates.{IsBegun, IsLexing, whole};
 ghost use Rattle.starlark_lexemes.specs.Lexer.{most_reads};
 ghost use Rattle.starlark_lexed_text.specs.LexedTexts.{IsLexed, IsReadFrom};
 ghost use Rattle.starlark_lexed_text.specs.LexedTexts as texts;
@@ -90,7 +90,7 @@ impl<'a> LexedText<'a> {
         state: &mut LexerState<'a>,
         code_map: &CodeMap,
     ) -> Result<LexedText<'a>, AllocError>
-        requires lexing { IsLexing state.old }
+        requires lexing { IsLexing (whole state.old.reader.text.now) state.old }
         requires begun { IsBegun state.old.reader.text.now state.old }
         ensures text { IfOk result (λ lexed. lexed.text ≡ state.old.reader.text.now) }
         ensures lexed { IfOk result (λ lexed. IsLexed code_map.now lexed) }

@@ -4,7 +4,7 @@ ghost use Rattle.std.specs.Prelude.{[], ◌≡◌, ◌<◌, ◌≤◌, ◌+◌, 
 ghost use Rattle.std.specs.List.{AllByRecursion};
 ghost use Rattle.starlark_grammar.specs.Words.{Text};
 ghost use Rattle.starlark_lexed_text.specs.Inner.LexedTexts.{IsMet, IsPutIn, later, later_cut, moved_cut, moved_lexeme, part_view};
-ghost use Rattle.starlark_lexemes.specs.Inner.LexerStates.{IsLexing, view_of};
+ghost use Rattle.starlark_lexemes.specs.Inner.LexerStates.{Course, IsLexing, view_of};
 ghost use Rattle.starlark_lexemes.specs.Lexer.{most_reads};
 
 use crate::cuts::{Begin, Cut, append_cuts, push_moved_cuts};
@@ -57,11 +57,11 @@ pub(crate) fn meeting_at(
     known: &[u8],
     known_cuts: &[Cut],
 ) -> Option<Meeting>
-    requires lexing { IsLexing state.old }
+    requires lexing { (course : Course) × IsLexing course state.old }
     requires going { state.old.has_ended ≡ false }
     requires cuts { AllByRecursion (λ (cut : Cut). cut.at ≤ length known.now) known_cuts.now }
     requires inside { IfSome place (λ at. at < length state.old.reader.text.now) }
-    ensures lexing { IsLexing state.new }
+    ensures lexing { (course : Course) → IsLexing course state.old → IsLexing course state.new }
     ensures after { view_of state.new ≡ record (view_of state.old) { reads = state.new.reader.reads } }
     ensures place { IfSome result (λ meeting. place ≡ Some meeting.at) }
     ensures met { IfSome result (IsMet state.old.reader.text.now known.now known_cuts.now) }

@@ -6,7 +6,7 @@ ghost use Rattle.starlark_grammar.specs.Tokens.{Fault, Spanned, moved};
 ghost use Rattle.starlark_errors.specs.Exceptions.{IsFaultIn};
 ghost use Rattle.starlark_lexemes.specs.Inner.RawItems.{IsRawIn};
 ghost use Rattle.starlark_lexed_text.specs.Inner.LexedTexts.{IsMet, IsReadPart, IsReadPartTo, cuts_at, part_view};
-ghost use Rattle.starlark_lexemes.specs.Inner.LexerStates.{IsBegun, IsLexing};
+ghost use Rattle.starlark_lexemes.specs.Inner.LexerStates.{IsBegun, IsLexing, whole};
 ghost use Rattle.starlark_lexemes.specs.Lexer.{most_reads};
 
 use crate::cuts::Cut;
@@ -61,7 +61,7 @@ pub(crate) fn read_part(
     known: &[u8],
     known_cuts: &[Cut],
 ) -> Result<ReadPart, AllocError>
-    requires lexing { IsLexing state.old }
+    requires lexing { IsLexing (whole state.old.reader.text.now) state.old }
     requires begun { IsBegun state.old.reader.text.now state.old }
     requires cuts { AllByRecursion (λ (cut : Cut). cut.at ≤ length known.now) known_cuts.now }
     ensures part { IfOk result (λ part. part.met ≡ None → IsReadPart state.old.reader.text.now (part_view part)) }

@@ -13,14 +13,14 @@ use Rattle.starlark_grammar.proofs.Joining.CleanCuts.{cut}
 use Rattle.starlark_grammar.proofs.Joining.LaidCuts.{ends_some}
 use Rattle.starlark_grammar.proofs.Joining.LineCuts.{kept_parts}
 use Rattle.starlark_reader.specs.Inner.MarginCuts.{IsCutBefore}
-use Rattle.starlark_reader.specs.Inner.Reader.{IsAhead, IsAheadPast, IsReached}
+use Rattle.starlark_reader.specs.Inner.Reader.{IsAhead, IsAheadPast, IsReached, Start}
 use Rattle.starlark_reader.specs.declared.reader.Before.{Before}
 use Rattle.starlark_reader.specs.declared.reader.Before.TheVariants as before
 use Rattle.starlark_reader.specs.declared.reader.Reader.{Reader}
 use Rattle.starlark_reader.specs.declared.reader.Stage.{Stage}
 use Rattle.starlark_reader.specs.declared.reader.Stage.TheVariants as stages
 use Rattle.starlark_lexemes.specs.CutAfter.{IsCutAfter, KnowsCut}
-use Rattle.starlark_lexemes.specs.Inner.LexerStates.{HasAnswered, IsLexing, StateView, known_cut, left_in, lexer_view, reached_cut, view_of}
+use Rattle.starlark_lexemes.specs.Inner.LexerStates.{HasAnswered, IsLexing, StateView, known_cut, left_in, lexer_view, reached_cut, view_of, whole}
 use Rattle.starlark_lexemes.specs.Lexer.{is_ended_by, yielded_by}
 use Rattle.starlark_errors.specs.declared.error.kinds.ErrorKind.{ErrorKind}
 use Rattle.starlark_lexemes.specs.declared.lexer_state.LexerState.{LexerState}
@@ -34,13 +34,13 @@ pub kept_some : (text : Text) (at : ℕ) → is_kept_cut text at ≡ true → 0 
 kept_some text at h = omega (arith, ends_some (take at text) (cut (take at text) ((kept_parts text at h).1)).ends, length-take at text)
 
 -- an offset that the reader says is a cut, before what is left
-pub cut_kept : (state : LexerState) (found : Option ℕ) → IsLexing state → state.has_ended ≡ false
-    → IfSome found (λ at. (lexemes : List (Spanned TokenView)) (fault : Option (Spanned Fault)) → IsAhead state.reader.text.now state.reader state.reader.stage lexemes fault → IsCutBefore state.reader.text.now at (length lexemes))
-    → IfSome found (λ at. IsCutBefore state.reader.text.now at (length (left_in state)))
-cut_kept state None lexing going kept = kept
-cut_kept state (Some at) lexing going kept = kept _ _ (lexing.1 going).1
+pub cut_kept : (text : Text) (state : LexerState) (found : Option ℕ) → IsLexing (whole text) state → state.has_ended ≡ false
+    → IfSome found (λ at. (lexemes : List (Spanned TokenView)) (fault : Option (Spanned Fault)) → IsAhead Start state.reader.text.now state.reader state.reader.stage lexemes fault → IsCutBefore state.reader.text.now at (length lexemes))
+    → IfSome found (λ at. IsCutBefore state.reader.text.now at (length (left_in (whole text) state)))
+cut_kept text state None lexing going kept = kept
+cut_kept text state (Some at) lexing going kept = kept _ _ (lexing.1 going).1
 
-pub cut_after : (state : LexerState) (found : Option ℕ) → IsLexing state → state.has_ended ≡ false → IfSome found (λ at. IsCutBefore state.reader.text.now at (length (left_in state)))
+pub cut_after : (state : LexerState) (found : Option ℕ) → IsLexing (whole state.reader.text.now) state → state.has_ended ≡ false → IfSome found (λ at. IsCutBefore state.reader.text.now at (length (left_in (whole state.reader.text.now) state)))
     → IfSome found (IsCutAfter state.reader.text.now state.yielded_count)
 cut_after state None lexing going before = tt
 cut_after state (Some at) lexing going before = record {
@@ -104,7 +104,7 @@ fresh_view state text file is = search (rules, no_cut_yet)
 
 -- After a lexeme
 
-pub knows_cut : (old new : LexerState) (lexeme : Spanned TokenView) (fault : Option (Spanned Fault)) → IsLexing old → old.has_ended ≡ false → IsAheadPast old.reader.text.now lexeme new.reader (left_in old) fault
+pub knows_cut : (old new : LexerState) (lexeme : Spanned TokenView) (fault : Option (Spanned Fault)) → IsLexing (whole old.reader.text.now) old → old.has_ended ≡ false → IsAheadPast Start old.reader.text.now lexeme new.reader (left_in (whole old.reader.text.now) old) fault
     → new.reader.text.now ≡ old.reader.text.now → new.yielded_count ≡ old.yielded_count + 1 → new.has_ended ≡ false → KnowsCut new.reader.text.now new.yielded_count (known_cut new)
 knows_cut old new lexeme fault lexing going past text count goes = λ at cut.
     let before : IsCutBefore old.reader.text.now at (length past.0) = record {
@@ -120,9 +120,9 @@ knows_cut old new lexeme fault lexing going past text count goes = λ at cut.
         length-map (outcome old.reader.text.now).lexemes shown_lexeme,
       );
     } in
-    cut_known new at goes (omega (arith, count)) (past.3 at before) (kept_some new.reader.text.now at cut.is_kept) cut.inside
+    cut_known new at goes (omega (arith, count)) (past.3 refl at before) (kept_some new.reader.text.now at cut.is_kept) cut.inside
 
-pub answers_cut : (old : LexerState) (answer : Option (Result (ℕ × Token × ℕ) (OrMemory (Diagnosed ErrorKind)))) (new : LexerState) → IsLexing old → old.has_ended ≡ false → HasAnswered old answer new
+pub answers_cut : (old : LexerState) (answer : Option (Result (ℕ × Token × ℕ) (OrMemory (Diagnosed ErrorKind)))) (new : LexerState) → IsLexing (whole old.reader.text.now) old → old.has_ended ≡ false → HasAnswered (whole old.reader.text.now) old answer new
     → view_of new ≡ record (view_of old) { yielded_count = old.yielded_count + yielded_by answer; has_ended = old.has_ended || is_ended_by answer; reads = new.reader.reads }
     → IfSome answer (λ item. OnOk item (KnowsCut new.reader.text.now new.yielded_count (known_cut new)))
 answers_cut old (Some (Ok lexeme)) new lexing going is after =

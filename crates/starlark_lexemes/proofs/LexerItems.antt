@@ -19,9 +19,10 @@ use Rattle.starlark_token.specs.Lexemes.{shown_lexeme}
 use Rattle.starlark_lexemes.specs.Lexer.{AnswersNext, AnswersBetween}
 use Rattle.starlark_token.specs.TextItems.{LexerItem, Given, Refused, items}
 use Rattle.starlark_token.specs.Lexemes.{IsWithin}
-use Rattle.starlark_reader.specs.Inner.Reader.{IsSomething}
+use Rattle.starlark_reader.specs.Inner.Reader.{IsSomething, IsText}
 use Rattle.starlark_token.specs.TokenViews.{TokenView}
-use Rattle.starlark_grammar.proofs.Order.Inside.{all_within}
+use Rattle.starlark_grammar.proofs.Order.Inside.{all_within, fault_within, lexemes_few}
+use Rattle.starlark_lexemes.specs.Inner.LexerStates.{Course, IsCourse, whole}
 use Rattle.starlark_grammar.proofs.Indentation.LayoutTotals.{outcome_balances}
 
 abbrev given : Lexeme → LexerItem
@@ -74,10 +75,29 @@ one_within P (l ∷ ls) (suc h) x more all e = one_within P ls h x more all.1 e
 one_within P [] zero x more all e = cc
 one_within P [] (suc h) x more all e = cc
 
-pub lexeme_within : (text : Text) (h : ℕ) (x : Spanned TokenView) (more : List (Spanned TokenView)) → length text < 2 ^ 32 → drop h (map shown_lexeme (outcome text).lexemes) ≡ x ∷ more → IsWithin text x.begin x.end
-lexeme_within text h x more short e =
-    let both = one_within (λ begin end. (begin ≤ end) × (end ≤ length text)) (outcome text).lexemes h x more (all_within text) e in
-    (both.0, both.1, short)
+pub course_within : (course : Course) (text : Text) (h : ℕ) (x : Spanned TokenView) (more : List (Spanned TokenView)) → IsCourse course text → drop h (map shown_lexeme course.lexemes) ≡ x ∷ more → IsWithin text x.begin x.end
+course_within course text h x more is e =
+    let both = one_within (λ begin end. (begin ≤ end) × (end ≤ length text)) course.lexemes h x more is.within e in
+    (both.0, both.1, is.fits)
+
+pub course_between : (course : Course) (text : Text) (h : ℕ) (x : Spanned TokenView) (more : List (Spanned TokenView)) → IsCourse course text → drop h (map shown_lexeme course.lexemes) ≡ x ∷ more → IsCharBoundary text x.begin × IsCharBoundary text x.end
+course_between course text h x more is e = one_within (λ begin end. IsCharBoundary text begin × IsCharBoundary text end) course.lexemes h x more is.edges e
+
+-- the course of a whole text
+pub whole_course : (text : Text) → IsText text → IsCourse (whole text) text
+whole_course text is = record {
+  fits = is.fits;
+  utf8 = is.utf8;
+  few = lexemes_few text is.fits;
+  within = all_within text;
+  edges = outcome_edges text is.utf8;
+  fault_within = fault_inside (outcome text).fault refl;
+  fault_edges = fault_edges text is.utf8;
+}
+  where
+    fault_inside : (fault : Option (Spanned Fault)) → (outcome text).fault ≡ fault → IfSome (outcome text).fault (λ fault. (fault.begin ≤ fault.end) × (fault.end ≤ length text))
+    fault_inside None has = rw has tt
+    fault_inside (Some fault) has = rw has (fault_within text fault has)
 
 -- an item begins and ends between characters
 abbrev ItemBetween : Text → LexerItem → Type 0
@@ -97,13 +117,6 @@ all_between text (l ∷ ls) rest (suc h) edges remainder = all_between text ls r
 item_between : (text : Text) (h : ℕ) → IsUtf8 text → IfSome (slice_get (items text) h) (ItemBetween text)
 unfolding items
 item_between text h utf8 = all_between text (outcome text).lexemes _ h (outcome_edges text utf8) (λ k. fault_between text (outcome text).fault k (fault_edges text utf8))
-
--- a lexeme among them, and the fault
-pub given_between : (text : Text) (h : ℕ) (lexeme : Spanned TokenView) → IsUtf8 text → slice_get (items text) h ≡ Some (Given lexeme) → IsCharBoundary text lexeme.begin × IsCharBoundary text lexeme.end
-given_between text h lexeme utf8 is = subst (λ (item : Option LexerItem). IfSome item (ItemBetween text)) is (item_between text h utf8)
-
-pub refused_between : (text : Text) (fault : Spanned Fault) → IsUtf8 text → (outcome text).fault ≡ Some fault → IsCharBoundary text fault.begin × IsCharBoundary text fault.end
-refused_between text fault utf8 has = subst (λ (found : Option (Spanned Fault)). IfSome found (AtBoundaries text)) has (fault_edges text utf8)
 
 -- so is what is answered for it
 answer_between : (text : Text) (file : SourceFile) (item : Option LexerItem) (answer : Option (Result (ℕ × Token × ℕ) (OrMemory (Diagnosed ErrorKind)))) → IfSome item (ItemBetween text) → AnswersNext file item answer → AnswersBetween text answer

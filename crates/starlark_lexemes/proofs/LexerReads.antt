@@ -14,7 +14,7 @@ use Rattle.starlark_words.specs.Inner.LiteralViews.{single_literal}
 use Rattle.starlark_words.specs.Inner.PlainRuns.{IsRun}
 use Rattle.starlark_words.specs.declared.scanner.word.Word.{Word}
 use Rattle.starlark_reader.specs.Inner.Lookaheads.{HasPeeked, IsLiteralHere, is_opener, is_slow, most_peeked}
-use Rattle.starlark_reader.specs.Inner.Reader.{IsAhead, IsWordHere}
+use Rattle.starlark_reader.specs.Inner.Reader.{IsAhead, IsWordHere, Origin}
 use Rattle.starlark_reader.specs.Inner.ReadBounds.{HasRead, HasReadAt, HasScanned, HasScannedHere, HasStarted, IsPassedBy}
 use Rattle.starlark_reader.specs.declared.reader.TakenLineEnd.{TakenLineEnd}
 use Rattle.starlark_reader.specs.declared.reader.TakenLineEnd.TheVariants as line_end
@@ -26,7 +26,7 @@ use Rattle.starlark_reader.proofs.TakenPieces.PieceTaken.{left_onward}
 use Rattle.starlark_reader.proofs.TakenPieces.ReaderReads.{onward_reads}
 
 -- a word where a reader is has a byte at least, and lies inside of the text
-pub word_inside : (text : Text) (reader : Reader) (lexemes : List (Spanned TokenView)) (fault : Option (Spanned Fault)) (class : Class) (len : ℕ) → reader.stage ≡ stages.Onward → IsAhead text reader reader.stage lexemes fault
+pub word_inside : {origin : Origin} → (text : Text) (reader : Reader) (lexemes : List (Spanned TokenView)) (fault : Option (Spanned Fault)) (class : Class) (len : ℕ) → reader.stage ≡ stages.Onward → IsAhead origin text reader reader.stage lexemes fault
     → language_front (drop reader.at text) ≡ Some (class, len) → (1 ≤ len) × (reader.at + len ≤ length text)
 word_inside text reader lexemes fault class len onward ahead front =
     let inside = (left_onward text reader lexemes fault onward ahead).is_left.1.inside in

@@ -15,5 +15,4 @@ pub mod LexerReads
 pub mod LexerStates
 pub mod PlainLexemes
 pub mod NextItems
-pub mod RepairedStates
 pub mod MovedFaults

@@ -10,15 +10,15 @@ use Rattle.starlark_grammar.specs.Tokens as grammar
 use Rattle.starlark_grammar.specs.Tokens.{Fault, Spanned}
 use Rattle.starlark_grammar.specs.Words.{Text}
 use Rattle.starlark_grammar.proofs.Lists.{drop-sum}
-use Rattle.starlark_reader.specs.Inner.Reader.{IsAhead, IsAheadAfter, IsAheadPast, IsSomething, fstring_text_lexeme, name_lexeme, newline_if, text_lexeme}
+use Rattle.starlark_reader.specs.Inner.Reader.{IsAhead, IsAheadAfter, IsAheadPast, IsSomething, Origin, fstring_text_lexeme, name_lexeme, newline_if, text_lexeme}
 use Rattle.starlark_reader.specs.declared.reader.Reader.{Reader}
 use Rattle.starlark_reader.specs.declared.reader.Stage.TheVariants as stages
 use Rattle.starlark_reader.proofs.TakenPieces.PieceTaken.{left_onward}
-use Rattle.starlark_lexemes.specs.Inner.LexerStates.{HasAdvanced, HasAnswered, HasPassed, HasPassedAs, HasPassedNext, IsItemOf, IsLexing, IsTakenAs, IsTakenOf, StateView, is_out_of_memory, item_of, known_cut, left_in, lexer_view, made_view, passed_count, passed_of, valueless, view_of}
+use Rattle.starlark_lexemes.specs.Inner.LexerStates.{Course, IsCourse, HasAdvanced, HasAnswered, HasPassed, HasPassedAs, HasPassedNext, IsItemOf, IsLexing, IsTakenAs, IsTakenOf, StateView, is_out_of_memory, item_of, known_cut, left_in, lexer_view, made_view, passed_count, passed_of, valueless, view_of}
 use Rattle.starlark_lexemes.specs.Lexer.{is_ended_by, most_reads, yielded_by}
 use Rattle.starlark_lexemes.specs.PlainLexemes.{IsPlainIn, is_plain, plain_token, plain_value, plain_view, token_of}
 use Rattle.starlark_errors.specs.declared.error.kinds.ErrorKind.{ErrorKind}
-use Rattle.starlark_lexemes.proofs.LexerItems.{given_between, lexeme_item}
+use Rattle.starlark_lexemes.proofs.LexerItems.{course_between}
 use Rattle.starlark_lexemes.proofs.LexerStates.{IsSameText, answers_within, lexing_read, or_true}
 use Rattle.starlark_lexemes.specs.declared.lexer_state.LexerState.{LexerState}
 use Rattle.starlark_lexemes.specs.declared.passed.Kind.{Kind}
@@ -43,7 +43,7 @@ plain_inside text it begin end value_begin value_end plain short order value fir
 }
 
 -- the offset of a reader in code is a character boundary
-pub reader_boundary : (text : Text) (reader : Reader) (lexemes : List (Spanned TokenView)) (fault : Option (Spanned Fault)) → reader.stage ≡ stages.Onward → IsAhead text reader reader.stage lexemes fault → IsCharBoundary text reader.at
+pub reader_boundary : {origin : Origin} → (text : Text) (reader : Reader) (lexemes : List (Spanned TokenView)) (fault : Option (Spanned Fault)) → reader.stage ≡ stages.Onward → IsAhead origin text reader reader.stage lexemes fault → IsCharBoundary text reader.at
 reader_boundary text reader lexemes fault on ahead = (left_onward text reader lexemes fault on ahead).is_left.1.boundary
 
 pub name_shown : (text : Text) (at len end : ℕ) → end ≡ at + len → name_lexeme text at len ≡ plain_view text (record { kind = kind.Identifier; begin = at; end = end; value_begin = at; value_end = end })
@@ -64,23 +64,23 @@ pub fstring_text_shown : (text : Text) (at len : ℕ) → fstring_text_lexeme te
 fstring_text_shown text at len = let count : len ≡ at + len - at = omega (arith) in ap (λ n. record { begin = at; node = Whole (grammar.FStringText (take n (drop at text))); end = at + len }) count
 
 -- where a lexeme was passed, something was left
-pub past_something : (text : Text) (lexeme : Spanned TokenView) (reader : Reader) (lexemes : List (Spanned TokenView)) (fault : Option (Spanned Fault)) → IsAheadPast text lexeme reader lexemes fault → IsSomething lexemes fault
+pub past_something : {origin : Origin} → (text : Text) (lexeme : Spanned TokenView) (reader : Reader) (lexemes : List (Spanned TokenView)) (fault : Option (Spanned Fault)) → IsAheadPast origin text lexeme reader lexemes fault → IsSomething lexemes fault
 past_something text lexeme reader lexemes fault past none whole = let both : lexeme ∷ past.0 ≡ [] = sym past.1 ∙ none in cc
 
 -- a plain kind, of which it isn't known which
-pub plain_passes : (old : LexerState) (it : Kind) (passed : Passed) (new : LexerState) → is_plain it ≡ true → IsPlainIn old.reader.text.now passed × IsAheadPast old.reader.text.now (plain_view old.reader.text.now passed) new.reader (left_in old) (outcome old.reader.text.now).fault → HasPassedAs old it passed new
-plain_passes old kind.Made passed new plain is = cc
-plain_passes old kind.Layout passed new plain is = cc
-plain_passes old kind.Last passed new plain is = cc
-plain_passes old kind.OutOfMemory passed new plain is = cc
-plain_passes old it passed new plain is = is
+pub plain_passes : (course : Course) (old : LexerState) (it : Kind) (passed : Passed) (new : LexerState) → is_plain it ≡ true → IsPlainIn old.reader.text.now passed × IsAheadPast course.origin old.reader.text.now (plain_view old.reader.text.now passed) new.reader (left_in course old) course.fault → HasPassedAs course old it passed new
+plain_passes course old kind.Made passed new plain is = cc
+plain_passes course old kind.Layout passed new plain is = cc
+plain_passes course old kind.Last passed new plain is = cc
+plain_passes course old kind.OutOfMemory passed new plain is = cc
+plain_passes course old it passed new plain is = is
 
-pub passed_plain : (old : LexerState) (it : Kind) (passed : Passed) (new : LexerState) → is_plain it ≡ true → HasPassedAs old it passed new → IsPlainIn old.reader.text.now passed × IsAheadPast old.reader.text.now (plain_view old.reader.text.now passed) new.reader (left_in old) (outcome old.reader.text.now).fault
-passed_plain old kind.Made passed new plain is = cc
-passed_plain old kind.Layout passed new plain is = cc
-passed_plain old kind.Last passed new plain is = cc
-passed_plain old kind.OutOfMemory passed new plain is = cc
-passed_plain old it passed new plain is = is
+pub passed_plain : (course : Course) (old : LexerState) (it : Kind) (passed : Passed) (new : LexerState) → is_plain it ≡ true → HasPassedAs course old it passed new → IsPlainIn old.reader.text.now passed × IsAheadPast course.origin old.reader.text.now (plain_view old.reader.text.now passed) new.reader (left_in course old) course.fault
+passed_plain course old kind.Made passed new plain is = cc
+passed_plain course old kind.Layout passed new plain is = cc
+passed_plain course old kind.Last passed new plain is = cc
+passed_plain course old kind.OutOfMemory passed new plain is = cc
+passed_plain course old it passed new plain is = is
 
 -- it is one lexeme
 pub plain_counts : (it : Kind) → is_plain it ≡ true → (passed_count it ≡ 1) × (is_out_of_memory it ≡ false)
@@ -90,18 +90,18 @@ plain_counts kind.Last plain = cc
 plain_counts kind.OutOfMemory plain = cc
 plain_counts it plain = (refl, refl)
 
-pub plain_advances : (old : LexerState) (it : Kind) (new : LexerState) → is_plain it ≡ true → HasPassedNext old (passed_of new it) new → HasAdvanced old it new
+pub plain_advances : {course : Course} → (old : LexerState) (it : Kind) (new : LexerState) → is_plain it ≡ true → HasPassedNext course old (passed_of new it) new → HasAdvanced course old it new
 plain_advances old kind.Layout new plain is = cc
 plain_advances old it new plain is = is
 
 -- what was passed is no layout
-pub next_advances : (old : LexerState) (it : Kind) (new : LexerState) → HasPassedNext old (passed_of new it) new → HasAdvanced old it new
+pub next_advances : {course : Course} → (old : LexerState) (it : Kind) (new : LexerState) → HasPassedNext course old (passed_of new it) new → HasAdvanced course old it new
 next_advances old kind.Layout new is = absurd is.passed
 next_advances old it new is = is
 
-pub advances_next : (old : LexerState) (it : Kind) (new : LexerState) → it ≢ kind.Layout → HasAdvanced old it new → HasPassedNext old (passed_of new it) new
-advances_next old kind.Layout new other is = absurd (other refl)
-advances_next old it new other is = is
+pub advances_next : (course : Course) (old : LexerState) (it : Kind) (new : LexerState) → it ≢ kind.Layout → HasAdvanced course old it new → HasPassedNext course old (passed_of new it) new
+advances_next course old kind.Layout new other is = absurd (other refl)
+advances_next course old it new other is = is
 
 -- the token of a plain lexeme is taken
 takes_plain : (old : LexerState) (it : Kind) (passed : Passed) (token : Token) (new : LexerState) → is_plain it ≡ true → (token_view token ≡ Whole (plain_token old.reader.text.now passed)) × (new ≡ old) → IsTakenAs old it passed (Ok token) new
@@ -116,24 +116,24 @@ taken_plain old it passed token new same plain is stays =
     subst (λ (k : Kind). IsTakenAs old k passed (Ok token) new) (sym same) (takes_plain old it passed token new plain (is ∙ ap (λ (k : Kind). Whole (token_of k (plain_value old.reader.text.now passed))) (sym same), stays))
 
 -- what is taken of what was passed is an answer
-taken_answer : (old mid : LexerState) (it : Kind) (passed : Passed) (taken : Result Token Kind) (new : LexerState) → HasPassedAs old it passed mid → mid.reader.text.now ≡ old.reader.text.now → IsTakenAs mid it passed taken new → HasAnswered old (item_of passed taken) new
-taken_answer old mid kind.Made passed (Ok token) new is text taken =
-    rw taken.1 (subst (λ (t : Token). IsAheadPast old.reader.text.now (made_view passed t) mid.reader (left_in old) (outcome old.reader.text.now).fault) (sym taken.0) is)
-taken_answer old mid kind.Made passed (Err e) new is text taken = absurd taken
-taken_answer old mid kind.Layout passed taken new is text taken' = absurd is
-taken_answer old mid kind.Last passed (Ok token) new is text taken = absurd taken
-taken_answer old mid kind.Last passed (Err e) new is text taken = rw (taken.0, taken.1) is
-taken_answer old mid kind.OutOfMemory passed (Ok token) new is text taken = absurd taken
-taken_answer old mid kind.OutOfMemory passed (Err e) new is text taken = rw taken.0 is
-taken_answer old mid it passed (Ok token) new is text taken =
-    rw taken.1 (subst (λ (view : Spanned TokenView). IsAheadPast old.reader.text.now view mid.reader (left_in old) (outcome old.reader.text.now).fault) (ap (λ (view : TokenView). record { begin = passed.begin; node = view; end = passed.end }) (ap (λ (t : Text). Whole (plain_token t passed)) (sym text) ∙ sym taken.0)) is.1)
-taken_answer old mid it passed (Err e) new is text taken = rw taken.0 (past_something old.reader.text.now (plain_view old.reader.text.now passed) mid.reader (left_in old) (outcome old.reader.text.now).fault is.1)
+taken_answer : (course : Course) (old mid : LexerState) (it : Kind) (passed : Passed) (taken : Result Token Kind) (new : LexerState) → HasPassedAs course old it passed mid → mid.reader.text.now ≡ old.reader.text.now → IsTakenAs mid it passed taken new → HasAnswered course old (item_of passed taken) new
+taken_answer course old mid kind.Made passed (Ok token) new is text taken =
+    rw taken.1 (subst (λ (t : Token). IsAheadPast course.origin old.reader.text.now (made_view passed t) mid.reader (left_in course old) course.fault) (sym taken.0) is)
+taken_answer course old mid kind.Made passed (Err e) new is text taken = absurd taken
+taken_answer course old mid kind.Layout passed taken new is text taken' = absurd is
+taken_answer course old mid kind.Last passed (Ok token) new is text taken = absurd taken
+taken_answer course old mid kind.Last passed (Err e) new is text taken = rw (taken.0, taken.1) is
+taken_answer course old mid kind.OutOfMemory passed (Ok token) new is text taken = absurd taken
+taken_answer course old mid kind.OutOfMemory passed (Err e) new is text taken = rw taken.0 is
+taken_answer course old mid it passed (Ok token) new is text taken =
+    rw taken.1 (subst (λ (view : Spanned TokenView). IsAheadPast course.origin old.reader.text.now view mid.reader (left_in course old) course.fault) (ap (λ (view : TokenView). record { begin = passed.begin; node = view; end = passed.end }) (ap (λ (t : Text). Whole (plain_token t passed)) (sym text) ∙ sym taken.0)) is.1)
+taken_answer course old mid it passed (Err e) new is text taken = rw taken.0 (past_something old.reader.text.now (plain_view old.reader.text.now passed) mid.reader (left_in course old) course.fault is.1)
 
-pub item_answers : (old mid : LexerState) (passed : Passed) (answer : Option (Result (ℕ × Token × ℕ) (OrMemory (Diagnosed ErrorKind)))) (new : LexerState) → HasPassed old passed mid → mid.reader.text.now ≡ old.reader.text.now → IsItemOf mid passed answer new → HasAnswered old answer new
-item_answers old mid passed answer new is text taken = rw taken.2 (taken_answer old mid passed.kind passed taken.0 new is text taken.1)
+pub item_answers : (course : Course) (old mid : LexerState) (passed : Passed) (answer : Option (Result (ℕ × Token × ℕ) (OrMemory (Diagnosed ErrorKind)))) (new : LexerState) → HasPassed course old passed mid → mid.reader.text.now ≡ old.reader.text.now → IsItemOf mid passed answer new → HasAnswered course old answer new
+item_answers course old mid passed answer new is text taken = rw taken.2 (taken_answer course old mid passed.kind passed taken.0 new is text taken.1)
 
 -- so the lexer goes on
-taken_lexing : (mid : LexerState) (it : Kind) (passed : Passed) (taken : Result Token Kind) (new : LexerState) → IsLexing mid → IsTakenAs mid it passed taken new → IsLexing new
+taken_lexing : {course : Course} → (mid : LexerState) (it : Kind) (passed : Passed) (taken : Result Token Kind) (new : LexerState) → IsLexing course mid → IsTakenAs mid it passed taken new → IsLexing course new
 taken_lexing mid kind.Made passed (Ok token) new lexing taken = rw taken.1 lexing
 taken_lexing mid kind.Made passed (Err e) new lexing taken = absurd taken
 taken_lexing mid kind.Layout passed (Ok token) new lexing taken = absurd taken
@@ -145,7 +145,7 @@ taken_lexing mid kind.OutOfMemory passed (Err e) new lexing taken = rw taken.1 l
 taken_lexing mid it passed (Ok token) new lexing taken = rw taken.1 lexing
 taken_lexing mid it passed (Err e) new lexing taken = rw taken.1 (lexing.0, (λ on. cc), (λ yes. cc), (λ on. cc), (λ yes. cc))
 
-pub item_lexing : (mid : LexerState) (passed : Passed) (answer : Option (Result (ℕ × Token × ℕ) (OrMemory (Diagnosed ErrorKind)))) (new : LexerState) → IsLexing mid → IsItemOf mid passed answer new → IsLexing new
+pub item_lexing : {course : Course} → (mid : LexerState) (passed : Passed) (answer : Option (Result (ℕ × Token × ℕ) (OrMemory (Diagnosed ErrorKind)))) (new : LexerState) → IsLexing course mid → IsItemOf mid passed answer new → IsLexing course new
 item_lexing mid passed answer new lexing taken = taken_lexing mid passed.kind passed taken.0 new lexing taken.1
 
 -- and is as users see it
@@ -180,40 +180,39 @@ last_item mid passed answer new last taken = by taken.0 (subst (λ (it : Kind). 
     by (Err e) is same = (same ∙ ap (λ (k : Kind). item_of passed (Err k)) is.0, is.1)
 
 -- a name was passed, where the text and the number of items are those before
-pub name_passed : (first state : LexerState) (mid new : Reader) (len : ℕ) → IsSameText first state → length state.reader.text.now < 2 ^ 32 → mid.stage ≡ stages.Onward → new.stage ≡ stages.Onward → IsAhead state.reader.text.now mid mid.stage (left_in state) (outcome state.reader.text.now).fault
-    → new.at ≡ mid.at + len → IsAheadPast state.reader.text.now (name_lexeme state.reader.text.now mid.at len) new (left_in state) (outcome state.reader.text.now).fault
+pub name_passed : (course : Course) (first state : LexerState) (mid new : Reader) (len : ℕ) → IsSameText first state → length state.reader.text.now < 2 ^ 32 → mid.stage ≡ stages.Onward → new.stage ≡ stages.Onward → IsAhead course.origin state.reader.text.now mid mid.stage (left_in course state) course.fault
+    → new.at ≡ mid.at + len → IsAheadPast course.origin state.reader.text.now (name_lexeme state.reader.text.now mid.at len) new (left_in course state) course.fault
     → IsPlainIn first.reader.text.now (record { kind = kind.Identifier; begin = mid.at; end = new.at; value_begin = mid.at; value_end = new.at })
-    × IsAheadPast first.reader.text.now (plain_view first.reader.text.now (record { kind = kind.Identifier; begin = mid.at; end = new.at; value_begin = mid.at; value_end = new.at })) new (left_in first) (outcome first.reader.text.now).fault
-name_passed first state mid new len same short on onward ahead at is =
+    × IsAheadPast course.origin first.reader.text.now (plain_view first.reader.text.now (record { kind = kind.Identifier; begin = mid.at; end = new.at; value_begin = mid.at; value_end = new.at })) new (left_in course first) course.fault
+name_passed course first state mid new len same short on onward ahead at is =
     let text = state.reader.text.now in
-    let front = reader_boundary text mid (left_in state) (outcome text).fault on ahead in
-    let last = reader_boundary text new is.0 (outcome text).fault onward is.2 in
-    let past = subst (λ (view : Spanned TokenView). IsAheadPast text view new (left_in state) (outcome text).fault) (name_shown text mid.at len new.at at) is in
-    let both : IsPlainIn text (record { kind = kind.Identifier; begin = mid.at; end = new.at; value_begin = mid.at; value_end = new.at }) × IsAheadPast text (plain_view text (record { kind = kind.Identifier; begin = mid.at; end = new.at; value_begin = mid.at; value_end = new.at })) new (left_in state) (outcome text).fault =
+    let front = reader_boundary text mid (left_in course state) course.fault on ahead in
+    let last = reader_boundary text new is.0 course.fault onward is.2 in
+    let past = subst (λ (view : Spanned TokenView). IsAheadPast course.origin text view new (left_in course state) course.fault) (name_shown text mid.at len new.at at) is in
+    let both : IsPlainIn text (record { kind = kind.Identifier; begin = mid.at; end = new.at; value_begin = mid.at; value_end = new.at }) × IsAheadPast course.origin text (plain_view text (record { kind = kind.Identifier; begin = mid.at; end = new.at; value_begin = mid.at; value_end = new.at })) new (left_in course state) course.fault =
     (plain_inside text kind.Identifier mid.at new.at mid.at new.at refl short (omega (arith, at)) (omega (arith, at)) front last front last, past) in
     rw (same.0, same.1) at both
 
 -- a newline was passed
-pub newline_passed : (first state : LexerState) (mid new : Reader) (len : ℕ) → IsSameText first state → length state.reader.text.now < 2 ^ 32 → mid.stage ≡ stages.Onward → IsAhead state.reader.text.now mid mid.stage (left_in state) (outcome state.reader.text.now).fault
-    → IsCharBoundary state.reader.text.now (mid.at + len) → IsAheadAfter state.reader.text.now (newline_if true mid.at len) new (left_in state) (outcome state.reader.text.now).fault
+pub newline_passed : (course : Course) (first state : LexerState) (mid new : Reader) (len : ℕ) → IsSameText first state → length state.reader.text.now < 2 ^ 32 → mid.stage ≡ stages.Onward → IsAhead course.origin state.reader.text.now mid mid.stage (left_in course state) course.fault
+    → IsCharBoundary state.reader.text.now (mid.at + len) → IsAheadAfter course.origin state.reader.text.now (newline_if true mid.at len) new (left_in course state) course.fault
     → IsPlainIn first.reader.text.now (record { kind = kind.Newline; begin = mid.at; end = mid.at + len; value_begin = mid.at + len; value_end = mid.at + len })
-    × IsAheadPast first.reader.text.now (plain_view first.reader.text.now (record { kind = kind.Newline; begin = mid.at; end = mid.at + len; value_begin = mid.at + len; value_end = mid.at + len })) new (left_in first) (outcome first.reader.text.now).fault
+    × IsAheadPast course.origin first.reader.text.now (plain_view first.reader.text.now (record { kind = kind.Newline; begin = mid.at; end = mid.at + len; value_begin = mid.at + len; value_end = mid.at + len })) new (left_in course first) course.fault
 unfolding token_view
-newline_passed first state mid new len same short on ahead last is =
+newline_passed course first state mid new len same short on ahead last is =
     let text = state.reader.text.now in
-    let front = reader_boundary text mid (left_in state) (outcome text).fault on ahead in
-    let both : IsPlainIn text (record { kind = kind.Newline; begin = mid.at; end = mid.at + len; value_begin = mid.at + len; value_end = mid.at + len }) × IsAheadPast text (plain_view text (record { kind = kind.Newline; begin = mid.at; end = mid.at + len; value_begin = mid.at + len; value_end = mid.at + len })) new (left_in state) (outcome text).fault =
+    let front = reader_boundary text mid (left_in course state) course.fault on ahead in
+    let both : IsPlainIn text (record { kind = kind.Newline; begin = mid.at; end = mid.at + len; value_begin = mid.at + len; value_end = mid.at + len }) × IsAheadPast course.origin text (plain_view text (record { kind = kind.Newline; begin = mid.at; end = mid.at + len; value_begin = mid.at + len; value_end = mid.at + len })) new (left_in course state) course.fault =
     (plain_inside text kind.Newline mid.at (mid.at + len) (mid.at + len) (mid.at + len) refl short (omega (arith)) (omega (arith)) front last last last, is) in
     rw (same.0, same.1) at both
 
 -- a keyword or symbol lies in the text
-pub symbol_inside : (state : LexerState) (lexeme : ℕ × Token × ℕ) (new : LexerState) (plain : Passed) → is_plain plain.kind ≡ true → length state.reader.text.now < 2 ^ 32 → state.yielded_count ≤ length (outcome state.reader.text.now).lexemes → IsUtf8 state.reader.text.now
-    → HasAnswered state (Some (Ok lexeme)) new → plain ≡ record { kind = plain.kind; begin = lexeme.0; end = lexeme.2; value_begin = lexeme.2; value_end = lexeme.2 } → IsPlainIn state.reader.text.now plain
-symbol_inside state lexeme new plain sort short few utf8 is places =
-    let item = lexeme_item state.reader.text.now state.yielded_count _ is.0 is.1 in
-    let within = answers_within state (Some (Ok lexeme)) new refl short is in
-    let between = given_between state.reader.text.now state.yielded_count (lexeme_view lexeme) utf8 item in
-    subst (IsPlainIn state.reader.text.now) (sym places) (plain_inside state.reader.text.now plain.kind lexeme.0 lexeme.2 lexeme.2 lexeme.2 sort short within.0 (omega (arith)) between.0 between.1 between.1 between.1)
+pub symbol_inside : (course : Course) (state : LexerState) (lexeme : ℕ × Token × ℕ) (new : LexerState) (plain : Passed) → is_plain plain.kind ≡ true → IsCourse course state.reader.text.now
+    → HasAnswered course state (Some (Ok lexeme)) new → plain ≡ record { kind = plain.kind; begin = lexeme.0; end = lexeme.2; value_begin = lexeme.2; value_end = lexeme.2 } → IsPlainIn state.reader.text.now plain
+symbol_inside course state lexeme new plain sort inside is places =
+    let within = answers_within course state (Some (Ok lexeme)) new refl inside is in
+    let between = course_between course state.reader.text.now state.yielded_count _ is.0 inside is.1 in
+    subst (IsPlainIn state.reader.text.now) (sym places) (plain_inside state.reader.text.now plain.kind lexeme.0 lexeme.2 lexeme.2 lexeme.2 sort inside.fits within.0 (omega (arith)) between.0 between.1 between.1 between.1)
 
 pub symbol_shown : (text : Text) (lexeme : ℕ × Token × ℕ) (plain : Passed) → token_view lexeme.1 ≡ Whole (token_of plain.kind (plain_value text plain)) → plain ≡ record { kind = plain.kind; begin = lexeme.0; end = lexeme.2; value_begin = lexeme.2; value_end = lexeme.2 }
     → lexeme_view lexeme ≡ plain_view text plain
@@ -223,13 +222,13 @@ symbol_shown text lexeme plain token places =
     ∙ ap (λ n. record { begin = plain.begin; node = Whole (plain_token text plain); end = n }) (sym (ap (λ (p : Passed). p.end) places))
 
 -- a lexeme without a value was passed
-pub valueless_passed : (state : LexerState) (it : Kind) (lexeme : ℕ × Token × ℕ) (new : LexerState) → is_plain it ≡ true → length state.reader.text.now < 2 ^ 32 → state.yielded_count ≤ length (outcome state.reader.text.now).lexemes → IsUtf8 state.reader.text.now
-    → ((value : Text) → token_view lexeme.1 ≡ Whole (token_of it value)) → HasAnswered state (Some (Ok lexeme)) new → HasPassedAs state it (valueless it lexeme.0 lexeme.2) new
-valueless_passed state it lexeme new sort short few utf8 token is =
+pub valueless_passed : (course : Course) (state : LexerState) (it : Kind) (lexeme : ℕ × Token × ℕ) (new : LexerState) → is_plain it ≡ true → IsCourse course state.reader.text.now
+    → ((value : Text) → token_view lexeme.1 ≡ Whole (token_of it value)) → HasAnswered course state (Some (Ok lexeme)) new → HasPassedAs course state it (valueless it lexeme.0 lexeme.2) new
+valueless_passed course state it lexeme new sort inside token is =
     let plain = valueless it lexeme.0 lexeme.2 in
-    plain_passes state it plain new sort (
-      symbol_inside state lexeme new plain sort short few utf8 is refl,
-      subst (λ (view : Spanned TokenView). IsAheadPast state.reader.text.now view new.reader (left_in state) (outcome state.reader.text.now).fault) (symbol_shown state.reader.text.now lexeme plain (token _) refl) is,
+    plain_passes course state it plain new sort (
+      symbol_inside course state lexeme new plain sort inside is refl,
+      subst (λ (view : Spanned TokenView). IsAheadPast course.origin state.reader.text.now view new.reader (left_in course state) course.fault) (symbol_shown state.reader.text.now lexeme plain (token _) refl) is,
     )
 
 -- what a lexer says of itself after an answer of its state
@@ -258,31 +257,31 @@ pub plain_goes : (it : Kind) → is_plain it ≡ true → it ≡ kind.Last → �
 plain_goes it plain last = let both : is_plain kind.Last ≡ true = subst (λ (k : Kind). is_plain k ≡ true) last plain in cc
 
 -- what was read to pass a lexeme
-pub passed_reads : (old new : LexerState) → IsLexing new → old.has_ended ≡ false → new.reader.text.now ≡ old.reader.text.now → new.has_ended ≡ (old.has_ended || false) → new.reader.reads ≤ most_reads old.reader.text.now
+pub passed_reads : {course : Course} → (old new : LexerState) → IsLexing course new → old.has_ended ≡ false → new.reader.text.now ≡ old.reader.text.now → new.has_ended ≡ (old.has_ended || false) → new.reader.reads ≤ most_reads old.reader.text.now
 passed_reads old new lexing going text goes = subst (λ (t : Text). new.reader.reads ≤ most_reads t) text (lexing_read new lexing (goes ∙ ap (λ b. b || false) going))
 
 -- a plain lexeme that was passed lies in the text
-pub passed_within : (old : LexerState) (passed : Passed) (new : LexerState) → (old.has_ended ≡ true → (passed.kind ≡ kind.Last) × (new ≡ old)) → (old.has_ended ≡ false → HasPassed old passed new) → new.reader.text.now ≡ old.reader.text.now → is_plain passed.kind ≡ true → IsPlainIn new.reader.text.now passed
-passed_within old passed new ended is text plain =
+pub passed_within : (course : Course) (old : LexerState) (passed : Passed) (new : LexerState) → (old.has_ended ≡ true → (passed.kind ≡ kind.Last) × (new ≡ old)) → (old.has_ended ≡ false → HasPassed course old passed new) → new.reader.text.now ≡ old.reader.text.now → is_plain passed.kind ≡ true → IsPlainIn new.reader.text.now passed
+passed_within course old passed new ended is text plain =
     let going = passed_going old passed new (plain_goes passed.kind plain) ended in
-    subst (λ (t : Text). IsPlainIn t passed) (sym text) (passed_plain old passed.kind passed new plain (is going)).0
+    subst (λ (t : Text). IsPlainIn t passed) (sym text) (passed_plain course old passed.kind passed new plain (is going)).0
 
 -- and is counted
 pub passed_counted : (old : LexerState) (passed : Passed) (new : LexerState) → view_of new ≡ record (view_of old) { yielded_count = old.yielded_count + passed_count passed.kind; has_ended = old.has_ended || is_out_of_memory passed.kind; reads = new.reader.reads } → is_plain passed.kind ≡ true → 0 < new.yielded_count
 passed_counted old passed new after plain = omega (arith, ap (λ (v : StateView). v.yielded_count) after, (plain_counts passed.kind plain).0)
 
 -- what a call answers of a state
-pub record IsNextAnswer (old : LexerState) (item : Option (Result (ℕ × Token × ℕ) (OrMemory (Diagnosed ErrorKind)))) (new : LexerState) : Type 0 where
+pub record IsNextAnswer (course : Course) (old : LexerState) (item : Option (Result (ℕ × Token × ℕ) (OrMemory (Diagnosed ErrorKind)))) (new : LexerState) : Type 0 where
   pub ended : old.has_ended ≡ true → (item ≡ None) × (new ≡ old)
-  pub answer : old.has_ended ≡ false → HasAnswered old item new
-  pub lexing : IsLexing new
+  pub answer : old.has_ended ≡ false → HasAnswered course old item new
+  pub lexing : IsLexing course new
   pub after : view_of new ≡ record (view_of old) { yielded_count = old.yielded_count + yielded_by item; has_ended = old.has_ended || is_ended_by item; reads = new.reader.reads }
 
-pub item_next : (old mid : LexerState) (passed : Passed) (item : Option (Result (ℕ × Token × ℕ) (OrMemory (Diagnosed ErrorKind)))) (new : LexerState) → (old.has_ended ≡ true → (passed.kind ≡ kind.Last) × (mid ≡ old)) → (old.has_ended ≡ false → HasPassed old passed mid) → IsLexing mid
-    → view_of mid ≡ record (view_of old) { yielded_count = old.yielded_count + passed_count passed.kind; has_ended = old.has_ended || is_out_of_memory passed.kind; reads = mid.reader.reads } → IsItemOf mid passed item new → IsNextAnswer old item new
-item_next old mid passed item new ended is lexing after taken = record {
+pub item_next : (course : Course) (old mid : LexerState) (passed : Passed) (item : Option (Result (ℕ × Token × ℕ) (OrMemory (Diagnosed ErrorKind)))) (new : LexerState) → (old.has_ended ≡ true → (passed.kind ≡ kind.Last) × (mid ≡ old)) → (old.has_ended ≡ false → HasPassed course old passed mid) → IsLexing course mid
+    → view_of mid ≡ record (view_of old) { yielded_count = old.yielded_count + passed_count passed.kind; has_ended = old.has_ended || is_out_of_memory passed.kind; reads = mid.reader.reads } → IsItemOf mid passed item new → IsNextAnswer course old item new
+item_next course old mid passed item new ended is lexing after taken = record {
   ended = λ yes. (let none = ended yes in let last = last_item mid passed item new none.0 taken in (last.0, last.1 ∙ none.1));
-  answer = λ going. item_answers old mid passed item new (is going) (ap (λ (v : StateView). v.text) after) taken;
+  answer = λ going. item_answers course old mid passed item new (is going) (ap (λ (v : StateView). v.text) after) taken;
   lexing = item_lexing mid passed item new lexing taken;
   after = item_view old mid passed item new after taken;
 }

@@ -38,14 +38,14 @@ pub struct Lexer<'a> {
 }
 
 impl<'a> Model for Lexer<'a> {
-    ghost use Rattle.starlark_lexemes.specs.Inner.LexerStates.{IsLexing, lexer_view};
+    ghost use Rattle.starlark_lexemes.specs.Inner.LexerStates.{IsLexing, lexer_view, whole};
     ghost use Rattle.starlark_lexemes.specs.Lexer.{LexerView};
 
     ghost Value = { LexerView };
 
     ghost view = { λ lexer. lexer_view lexer.state lexer.code_map };
 
-    ghost invariant = { λ lexer. IsLexing lexer.state };
+    ghost invariant = { λ lexer. IsLexing (whole lexer.state.reader.text.now) lexer.state };
 }
 
 impl<'a> Lexer<'a> {

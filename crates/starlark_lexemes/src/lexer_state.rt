@@ -2,10 +2,8 @@
 
 ghost use Rattle.std.specs.Prelude.{◌≡◌, ◌≢◌, ◌<◌, ◌≤◌, ◌+◌, ◌-◌, ◌*◌, ◌^◌, ◌||◌, Err, None, Ok, Some, length, string_bytes, true, false, IfErr, IfOk, IsSome, OnOk};
 ghost use Rattle.std.specs.Option.{is_some};
-ghost use Rattle.std.specs.Str.{IsCharBoundary, IsUtf8};
-ghost use Rattle.starlark_grammar.specs.Found.{passed_count as passed_lexemes};
-ghost use Rattle.starlark_grammar.specs.RepairLaws.{KeepsLine};
-ghost use Rattle.starlark_grammar.specs.Repairs.{repair_end, repaired};
+ghost use Rattle.std.specs.Str.{IsCharBoundary};
+ghost use Rattle.starlark_grammar.specs.Reading.{History};
 ghost use Rattle.starlark_grammar.specs.Tokens.{Fault, Spanned};
 ghost use Rattle.starlark_grammar.specs.Words.{Text};
 ghost use Rattle.starlark_grammar.specs.declared.class.LiteralKind.TheVariants as literal;
@@ -13,7 +11,7 @@ ghost use Rattle.starlark_reader.specs.Inner.Lookaheads.{is_slow, most_peeked};
 ghost use Rattle.starlark_reader.specs.Inner.Pending.{IsIdle, IsPendingToken, IsPending};
 ghost use Rattle.starlark_reader.specs.Inner.ReadBounds.{HasRead};
 ghost use Rattle.starlark_reader.specs.Inner.Reader.{IsAtCode, IsAtEnd, IsInCode, IsTokenOf};
-ghost use Rattle.starlark_lexemes.specs.Inner.LexerStates.{HasAdvanced, HasAnswered, HasFound, HasPassed, HasPassedNext, HasTakenLast, HasThrown, IsAtFault, IsAtLiteral, IsAtText, IsAtWord, IsAtWordless, IsBegun, IsItemOf, IsLexing, IsLexingIn, IsReadNext, IsTakenNext, IsTakenOf, IsUnnamed, has_fault, is_out_of_memory, passed_count, passed_of, taken_count, thrown_count, view_of};
+ghost use Rattle.starlark_lexemes.specs.Inner.LexerStates.{Course, HasAdvanced, HasAnswered, HasFound, HasPassed, HasPassedNext, HasTakenLast, HasThrown, IsAtFault, IsAtLiteral, IsAtText, IsAtWord, IsAtWordless, IsBegun, IsCourse, IsItemOf, IsLexing, IsLexingIn, IsReadNext, IsTakenNext, IsTakenOf, IsUnnamed, KeepsOpen, course_from, has_fault, is_out_of_memory, passed_count, passed_of, taken_count, thrown_count, view_of, whole};
 ghost use Rattle.starlark_lexemes.specs.Lexer.{is_ended_by, most_reads, yielded_by};
 ghost use Rattle.starlark_lexemes.specs.Inner.RawItems.{OffsetsHold};
 ghost use Rattle.starlark_lexemes.specs.PlainLexemes.{IsPlainIn, is_plain, plain_value, token_of};
@@ -109,7 +107,7 @@ impl<'a> LexerState<'a> {
     /// Lexing that begins at the start of a text. It doesn't allocate.
     pub fn new(alloc: Global, text: &'a str) -> LexerState<'a>
         requires { length text.now < 2 ^ 32 }
-        ensures lexing { IsLexing result }
+        ensures lexing { IsLexing (whole result.reader.text.now) result }
         ensures begun { IsBegun text.now result }
     {
         LexerState {
@@ -143,10 +141,10 @@ impl<'a> LexerState<'a> {
         taken: Result<(usize, Token, usize), AllocError>,
         is_at_code: bool,
     ) -> Kind
-        requires taken { IsTakenNext self.old taken }
+        requires taken { (course : Course) × IsTakenNext course self.old taken }
         requires read { OnOk taken (HasRead self.old.reader.text.now self.old.reader) }
         requires code { OnOk taken (is_at_code ≡ true → IsAtCode self.old.reader.text.now self.old.reader) }
-        ensures { HasPassedNext self.old (passed_of self.new result) self.new }
+        ensures { (course : Course) → IsTakenNext course self.old taken → HasPassedNext course self.old (passed_of self.new result) self.new }
     {
         let Ok((begin, token, end)) = taken else {
             return self.run_out();
@@ -163,8 +161,8 @@ impl<'a> LexerState<'a> {
     /// memory ends the lexer.
     #[inline(always)]
     fn put_read(&mut self, read: Result<Option<(usize, Token, usize)>, AllocError>) -> Kind
-        requires { IsReadNext self.old read }
-        ensures { HasPassedNext self.old (passed_of self.new result) self.new }
+        requires { (course : Course) × IsReadNext course self.old read }
+        ensures { (course : Course) → IsReadNext course self.old read → HasPassedNext course self.old (passed_of self.new result) self.new }
     {
         let Some(taken) = read.transpose() else {
             self.is_at_code = false;
@@ -178,8 +176,8 @@ impl<'a> LexerState<'a> {
     // A call: it needs registers that a literal without escapes doesn't.
     #[inline(never)]
     fn pass_literal(&mut self, opener: Word, run: usize) -> Kind
-        requires { IsAtLiteral self.old opener run }
-        ensures { HasPassedNext self.old (passed_of self.new result) self.new }
+        requires { (course : Course) × IsAtLiteral course self.old opener run }
+        ensures { (course : Course) → IsAtLiteral course self.old opener run → HasPassedNext course self.old (passed_of self.new result) self.new }
     {
         let read = self.reader.read_literal(opener, run);
         self.put_read(read)
@@ -188,8 +186,8 @@ impl<'a> LexerState<'a> {
     /// Passes the bytes literal whose opener of `len` bytes is here.
     #[inline(always)]
     fn pass_bytes(&mut self, is_raw: bool, quote: Quote, len: usize) -> Kind
-        requires { IsAtWord self.old (record { class = Class.Opener literal.Bytes is_raw quote; len = len }) (5 * len - 2) }
-        ensures { HasPassedNext self.old (passed_of self.new result) self.new }
+        requires { (course : Course) × IsAtWord course self.old (record { class = Class.Opener literal.Bytes is_raw quote; len = len }) (5 * len - 2) }
+        ensures { (course : Course) → IsAtWord course self.old (record { class = Class.Opener literal.Bytes is_raw quote; len = len }) (5 * len - 2) → HasPassedNext course self.old (passed_of self.new result) self.new }
     {
         match self
             .reader
@@ -215,9 +213,9 @@ impl<'a> LexerState<'a> {
     // A call: in line it costs each lexeme.
     #[inline(never)]
     fn pass_word(&mut self, word: Word) -> Kind
-        requires here { IsAtWord self.old word (most_peeked word) }
+        requires here { (course : Course) × IsAtWord course self.old word (most_peeked word) }
         requires slow { is_slow word.class ≡ true }
-        ensures { HasPassedNext self.old (passed_of self.new result) self.new }
+        ensures { (course : Course) → IsAtWord course self.old word (most_peeked word) → HasPassedNext course self.old (passed_of self.new result) self.new }
     {
         match word.class {
             Class::Opener {
@@ -252,8 +250,8 @@ impl<'a> LexerState<'a> {
     /// an f-string's expression; or stops at the fault that it is.
     #[inline(always)]
     fn pass_wordless(&mut self) -> Kind
-        requires { IsAtWordless self.old }
-        ensures { HasPassedNext self.old (passed_of self.new result) self.new }
+        requires { (course : Course) × IsAtWordless course self.old }
+        ensures { (course : Course) → IsAtWordless course self.old → HasPassedNext course self.old (passed_of self.new result) self.new }
     {
         let read = if self.reader.at == self.reader.text.len() {
             Ok(Some(self.reader.close()))
@@ -310,10 +308,10 @@ impl<'a> LexerState<'a> {
     /// Passes the first pending comment.
     #[inline(always)]
     fn pass_pending_comment(&mut self) -> Kind
-        requires lexing { IsLexing self.old }
+        requires lexing { (course : Course) × IsLexing course self.old }
         requires going { self.old.has_ended ≡ false }
         requires some { self.old.reader.pending.from < self.old.reader.pending.to }
-        ensures { HasPassedNext self.old (passed_of self.new result) self.new }
+        ensures { (course : Course) → IsLexing course self.old → HasPassedNext course self.old (passed_of self.new result) self.new }
     {
         let reader = &mut self.reader;
         let (begin, end) = reader.pending.pass_comment(&mut reader.reads, reader.text);
@@ -324,10 +322,10 @@ impl<'a> LexerState<'a> {
     /// Passes the first pending lexeme, where no comments are pending; `Layout` if none is.
     #[inline(always)]
     fn pass_pending_token(&mut self) -> Kind
-        requires lexing { IsLexing self.old }
+        requires lexing { (course : Course) × IsLexing course self.old }
         requires going { self.old.has_ended ≡ false }
         requires none { self.old.reader.pending.to ≤ self.old.reader.pending.from }
-        ensures passed { result ≢ Kind.Layout → HasPassedNext self.old (passed_of self.new result) self.new }
+        ensures passed { result ≢ Kind.Layout → (course : Course) → IsLexing course self.old → HasPassedNext course self.old (passed_of self.new result) self.new }
         ensures stays { result ≡ Kind.Layout → self.new ≡ self.old }
         ensures idle { result ≡ Kind.Layout → IsIdle self.old.reader.text.now self.old.reader.pending }
     {
@@ -342,8 +340,8 @@ impl<'a> LexerState<'a> {
     /// empty.
     #[inline(never)]
     fn pass_decoded_text(&mut self, run: usize) -> Kind
-        requires { IsAtText self.old run }
-        ensures { HasPassedNext self.old (passed_of self.new result) self.new }
+        requires { (course : Course) × IsAtText course self.old run }
+        ensures { (course : Course) → IsAtText course self.old run → HasPassedNext course self.old (passed_of self.new result) self.new }
     {
         let read = self.reader.read_text(run);
         self.put_read(read)
@@ -353,12 +351,12 @@ impl<'a> LexerState<'a> {
     /// next.
     #[inline(always)]
     fn pass_fstring_text(&mut self) -> Kind
-        requires lexing { IsLexing self.old }
+        requires lexing { (course : Course) × IsLexing course self.old }
         requires going { self.old.has_ended ≡ false }
         requires out { self.old.is_at_code ≡ false }
         requires stage { self.old.reader.stage ≡ Stage.Onward }
         requires idle { IsIdle self.old.reader.text.now self.old.reader.pending }
-        ensures { HasAdvanced self.old result self.new }
+        ensures { (course : Course) → IsLexing course self.old → HasAdvanced course self.old result self.new }
     {
         let found = match self.reader.plain_text() {
             Some(Ok(found)) => found,
@@ -384,10 +382,10 @@ impl<'a> LexerState<'a> {
     // A kind in a register: a result in memory costs each lexeme.
     #[inline(never)]
     fn advance_outside_code(&mut self) -> Kind
-        requires lexing { IsLexing self.old }
+        requires lexing { (course : Course) × IsLexing course self.old }
         requires going { self.old.has_ended ≡ false }
         requires out { self.old.is_at_code ≡ false }
-        ensures { HasAdvanced self.old result self.new }
+        ensures { (course : Course) → IsLexing course self.old → HasAdvanced course self.old result self.new }
     {
         if self.reader.pending.has_comments() {
             return self.pass_pending_comment();
@@ -412,8 +410,8 @@ impl<'a> LexerState<'a> {
     // Always, as `pass_symbol` and `pass_string`: as plain `inline` these are calls (39 % of a mix).
     #[inline(always)]
     fn pass_name(&mut self, len: usize) -> Passed
-        requires { IsAtWord self.old (record { class = Class.Identifier; len = len }) (5 * len - 2) }
-        ensures { HasPassedNext self.old result self.new }
+        requires { (course : Course) × IsAtWord course self.old (record { class = Class.Identifier; len = len }) (5 * len - 2) }
+        ensures { (course : Course) → IsAtWord course self.old (record { class = Class.Identifier; len = len }) (5 * len - 2) → HasPassedNext course self.old result self.new }
     {
         let begin = self.reader.at;
         self.yielded_count += 1;
@@ -431,8 +429,8 @@ impl<'a> LexerState<'a> {
     /// Passes the keyword or symbol of `len` bytes here.
     #[inline(always)]
     fn pass_symbol(&mut self, terminal: Terminal, len: usize) -> Passed
-        requires { IsAtWord self.old (record { class = Class.Fixed terminal; len = len }) (5 * len - 2) }
-        ensures { HasPassedNext self.old result self.new }
+        requires { (course : Course) × IsAtWord course self.old (record { class = Class.Fixed terminal; len = len }) (5 * len - 2) }
+        ensures { (course : Course) → IsAtWord course self.old (record { class = Class.Fixed terminal; len = len }) (5 * len - 2) → HasPassedNext course self.old result self.new }
     {
         self.yielded_count += 1;
         let (begin, token, end) = self.reader.take_terminal(terminal, len);
@@ -444,8 +442,8 @@ impl<'a> LexerState<'a> {
     // Always: as a call it costs 3 % of BUILD files.
     #[inline(always)]
     fn pass_string(&mut self, is_raw: bool, quote: Quote, len: usize) -> Passed
-        requires { IsAtWord self.old (record { class = Class.Opener literal.Text is_raw quote; len = len }) (5 * len - 2) }
-        ensures { HasPassedNext self.old result self.new }
+        requires { (course : Course) × IsAtWord course self.old (record { class = Class.Opener literal.Text is_raw quote; len = len }) (5 * len - 2) }
+        ensures { (course : Course) → IsAtWord course self.old (record { class = Class.Opener literal.Text is_raw quote; len = len }) (5 * len - 2) → HasPassedNext course self.old result self.new }
     {
         let begin = self.reader.at;
         match self
@@ -480,8 +478,8 @@ impl<'a> LexerState<'a> {
     // A call: in line it costs each lexeme.
     #[inline(never)]
     fn look_further(&mut self) -> Kind
-        requires { IsUnnamed self.old }
-        ensures { HasAdvanced self.old result self.new }
+        requires { (course : Course) × IsUnnamed course self.old }
+        ensures { (course : Course) → IsUnnamed course self.old → HasAdvanced course self.old result self.new }
     {
         let Some(word) = self.reader.unnamed_word() else {
             return self.pass_wordless();
@@ -504,10 +502,10 @@ impl<'a> LexerState<'a> {
     /// Passes the next lexeme, or tells why it passes none. It never returns `Layout`.
     #[inline(always)]
     pub(crate) fn advance(&mut self) -> Passed
-        requires { IsLexing self.old }
+        requires { (course : Course) × IsLexing course self.old }
         ensures ended { self.old.has_ended ≡ true → (result.kind ≡ Kind.Last) × (self.new ≡ self.old) }
-        ensures passed { self.old.has_ended ≡ false → HasPassed self.old result self.new }
-        ensures lexing { IsLexing self.new }
+        ensures passed { self.old.has_ended ≡ false → (course : Course) → IsLexing course self.old → HasPassed course self.old result self.new }
+        ensures lexing { (course : Course) → IsLexing course self.old → IsLexing course self.new }
         ensures after { view_of self.new ≡ record (view_of self.old) { yielded_count = self.old.yielded_count + passed_count result.kind; has_ended = self.old.has_ended || is_out_of_memory result.kind; reads = self.new.reader.reads } }
     {
         loop {
@@ -623,10 +621,10 @@ impl<'a> LexerState<'a> {
     /// is the fault: after `None`, `take_fault` returns it.
     #[inline(always)]
     pub fn next(&mut self) -> Option<Lexeme>
-        requires { IsLexing self.old }
+        requires { (course : Course) × IsLexing course self.old }
         ensures ended { self.old.has_ended ≡ true → (result ≡ None) × (self.new ≡ self.old) }
-        ensures answer { self.old.has_ended ≡ false → HasAnswered self.old result self.new }
-        ensures lexing { IsLexing self.new }
+        ensures answer { self.old.has_ended ≡ false → (course : Course) → IsLexing course self.old → HasAnswered course self.old result self.new }
+        ensures lexing { (course : Course) → IsLexing course self.old → IsLexing course self.new }
         ensures after { view_of self.new ≡ record (view_of self.old) { yielded_count = self.old.yielded_count + yielded_by result; has_ended = self.old.has_ended || is_ended_by result; reads = self.new.reader.reads } }
     {
         let passed = self.advance();
@@ -639,10 +637,10 @@ impl<'a> LexerState<'a> {
     pub fn next_item(
         &mut self,
     ) -> Option<Result<(usize, Token, usize), OrMemory<(usize, LexemeError, usize)>>>
-        requires lexing { IsLexing self.old }
+        requires lexing { (course : Course) × IsLexing course self.old }
         ensures ended { self.old.has_ended ≡ true → (result ≡ None) × (self.new ≡ self.old) }
-        ensures found { self.old.has_ended ≡ false → HasFound self.old.reader.text.now self.old result self.new }
-        ensures lexing { IsLexing self.new }
+        ensures found { self.old.has_ended ≡ false → (course : Course) → IsLexing course self.old → HasFound course self.old.reader.text.now self.old result self.new }
+        ensures lexing { (course : Course) → IsLexing course self.old → IsLexing course self.new }
         ensures within { OffsetsHold (IsWithin self.old.reader.text.now) result }
         ensures between { OffsetsHold (λ from to. IsCharBoundary self.old.reader.text.now from × IsCharBoundary self.old.reader.text.now to) result }
         ensures after { view_of self.new ≡ record (view_of self.old) { yielded_count = self.old.yielded_count + yielded_by result; has_ended = self.old.has_ended || is_ended_by result; reads = self.new.reader.reads } }
@@ -654,38 +652,17 @@ impl<'a> LexerState<'a> {
         }
     }
 
-    /// Moves the state to another text, as `Reader::over` does.
-    #[inline(always)]
-    pub fn over<'b>(self, text: &'b str) -> LexerState<'b>
-        ensures text { result.reader.text.now ≡ text.now }
-        ensures same { result ≡ record self.entry { reader = record self.entry.reader { text = result.reader.text } } }
-    {
-        LexerState {
-            yielded_count: self.yielded_count,
-            is_at_code: self.is_at_code,
-            has_ended: self.has_ended,
-            reader: self.reader.over(text),
-            begin: self.begin,
-            end: self.end,
-            value_begin: self.value_begin,
-            value_end: self.value_end,
-            token: self.token,
-            alloc: self.alloc,
-        }
-    }
-
-    /// Goes on after the fault that was taken, in the repaired text. The repair is between two
-    /// offsets.
+    /// Goes on after the fault that was taken: its bytes, between two offsets, are passed, and all that
+    /// was open stays open. Lexemes are counted anew.
     pub fn go_on(&mut self, begin: usize, end: usize)
         requires order { begin ≤ end }
         requires fits { end < 2 ^ 32 }
-        requires some { 0 < self.old.yielded_count }
-        requires few { self.old.yielded_count ≤ 2 ^ 34 }
-        ensures lexing { (text : Text) (fault : Spanned Fault) → IsAtFault text fault self.old → KeepsLine text fault → begin ≡ fault.begin → end ≡ repair_end text fault → IsCharBoundary (repaired text fault) end → IsUtf8 (repaired text fault) → IsLexingIn (repaired text fault) self.new }
-        ensures count { (text : Text) (fault : Spanned Fault) → IsAtFault text fault self.old → begin ≡ fault.begin → end ≡ repair_end text fault → self.new.yielded_count ≡ passed_lexemes text fault }
+        ensures lexing { (course : Course) (text : Text) (fault : Spanned Fault) (next : History) → IsAtFault course text fault self.old → KeepsOpen course text fault next begin end → IsCourse (course_from next end text) text → IsLexingIn (course_from next end text) text self.new }
+        ensures count { self.new.yielded_count ≡ 0 }
         ensures going { self.new.has_ended ≡ false }
+        ensures text { self.new.reader.text ≡ self.old.reader.text }
     {
-        self.yielded_count = self.yielded_count - 1 + (end - begin);
+        self.yielded_count = 0;
         self.has_ended = false;
         self.is_at_code = false;
         self.reader.go_on(begin, end);
@@ -701,12 +678,12 @@ impl<'a> LexerState<'a> {
 
     /// The fault after the last lexeme, between two offsets, if one is left. It ends the lexer.
     pub fn take_fault(&mut self) -> Option<(usize, LexemeError, usize)>
-        requires lexing { IsLexing self.old }
+        requires lexing { (course : Course) × IsLexing course self.old }
         requires end { self.old.has_ended ≡ false → IsAtEnd self.old.reader.text.now self.old.reader }
         ensures ended { self.old.has_ended ≡ true → (result ≡ None) × (self.new ≡ self.old) }
-        ensures last { self.old.has_ended ≡ false → HasTakenLast self.old result self.new }
+        ensures last { self.old.has_ended ≡ false → (course : Course) → IsLexing course self.old → HasTakenLast course self.old result self.new }
         ensures some { IsSome result → has_fault self.old ≡ true }
-        ensures lexing { IsLexing self.new }
+        ensures lexing { (course : Course) → IsLexing course self.old → IsLexing course self.new }
         ensures after { view_of self.new ≡ record (view_of self.old) { yielded_count = self.old.yielded_count + taken_count result; has_ended = self.old.has_ended || is_some result; reads = self.new.reader.reads } }
     {
         if self.has_ended {
@@ -724,11 +701,11 @@ impl<'a> LexerState<'a> {
     // A call that returns two registers: an item that it returns costs each lexeme 15 instructions.
     #[inline(never)]
     pub(crate) fn take_exception(&mut self, code_map: &CodeMap) -> OrMemory<EvalException>
-        requires lexing { IsLexing self.old }
+        requires lexing { (course : Course) × IsLexing course self.old }
         requires fault { has_fault self.old ≡ true }
         requires end { IsAtEnd self.old.reader.text.now self.old.reader }
-        ensures thrown { HasThrown code_map.now self.old result self.new }
-        ensures lexing { IsLexing self.new }
+        ensures thrown { (course : Course) → IsLexing course self.old → HasThrown course code_map.now self.old result self.new }
+        ensures lexing { (course : Course) → IsLexing course self.old → IsLexing course self.new }
         ensures after { view_of self.new ≡ record (view_of self.old) { yielded_count = self.old.yielded_count + thrown_count result; has_ended = true; reads = self.new.reader.reads } }
     {
         let Some((begin, fault, end)) = self.take_fault() else {
@@ -746,9 +723,9 @@ impl<'a> LexerState<'a> {
     /// Counts reads of `len` other bytes if those so far leave room for them. Returns whether they do.
     pub fn count_others(&mut self, len: usize) -> bool
         requires fits { len < 2 ^ 32 }
-        requires lexing { IsLexing self.old }
+        requires lexing { (course : Course) × IsLexing course self.old }
         requires going { self.old.has_ended ≡ false }
-        ensures lexing { IsLexing self.new }
+        ensures lexing { (course : Course) → IsLexing course self.old → IsLexing course self.new }
         ensures after { view_of self.new ≡ record (view_of self.old) { reads = self.new.reader.reads } }
         ensures counted { result ≡ true → self.old.reader.reads + len < self.new.reader.reads }
         ensures most { result ≡ true → self.new.reader.reads ≤ most_reads self.old.reader.text.now }

@@ -18,13 +18,10 @@ ghost use Rattle.starlark_grammar.specs.declared.class.LiteralKind.TheVariants a
 ghost use Rattle.starlark_reader.specs.Inner.Pending.{IsIdle, IsPendingToken, owed, pending_lexemes};
 ghost use Rattle.starlark_reader.specs.Inner.MarginCuts.{IsCutBefore};
 ghost use Rattle.starlark_reader.specs.Inner.ReadBounds.{HasStarted, HasScanned, HasScannedHere, HasRead, HasReadAt, HasReadLast, IsMarginRead, IsPassedBy, IsTaken};
-ghost use Rattle.starlark_reader.specs.Inner.Reader.{HasSomething, IsAtLineEnd, IsAtStep, IsLineEndStep, IsSound, KeepsAhead, Takes, TakesNext, has_read_none, IsAhead, IsAtCode, IsBangHere, IsInCode, IsReached, IsStateAfter, IsStateAtFault, IsAtEnd, IsLast, IsPlainTextHere, IsRead, IsReadPast, IsTokenOf, IsWordHere, chunk_lexemes, left_here, left_to_read, newline_of, step_here};
+ghost use Rattle.starlark_reader.specs.Inner.Reader.{From, HasKept, HasSomething, IsAhead, IsAtCode, IsAtEnd, IsAtLineEnd, IsAtStep, IsBangHere, IsInCode, IsLast, IsLineEndStep, IsPlainTextHere, IsReached, IsRead, IsReadPast, IsSound, IsStateAfter, IsTokenOf, IsWordHere, KeepsAhead, Origin, Start, Takes, TakesNext, chunk_lexemes, has_read_none, left_here, left_to_read, newline_of, remaining_outcome, step_here};
 ghost use Rattle.starlark_reader.specs.Inner.PieceViews.{IsLineEnd};
 ghost use Rattle.starlark_reader.specs.Inner.Lookaheads.{HasPeeked, IsLiteralHere, IsTextRun};
 ghost use Rattle.starlark_grammar.specs.Cuts.{is_settled};
-ghost use Rattle.starlark_grammar.specs.Found.{passed_count};
-ghost use Rattle.starlark_grammar.specs.RepairLaws.{KeepsLine};
-ghost use Rattle.starlark_grammar.specs.Repairs.{repair_end, repaired};
 ghost use Rattle.starlark_grammar.specs.Reading.{History, outcome};
 ghost use Rattle.starlark_token.specs.TokenViews.{TokenView, token_view};
 ghost use Rattle.starlark_grammar.specs.Tokens.{FStringStart, Fault, Spanned};
@@ -111,7 +108,7 @@ impl<'a> Reader<'a> {
     /// A reader at the start of a text. It doesn't allocate.
     pub fn new(alloc: Global, text: &'a str) -> Self
         ensures text { result.text.now ≡ text.now }
-        ensures ahead { (any : Text) → IsAhead any result result.stage (map shown_lexeme (outcome any).lexemes) (outcome any).fault }
+        ensures ahead { (any : Text) → IsAhead Start any result result.stage (map shown_lexeme (outcome any).lexemes) (outcome any).fault }
         ensures reads { (any : Text) → HasRead any result }
         ensures unread { result.reads ≡ 0 }
     {
@@ -316,8 +313,8 @@ impl<'a> Reader<'a> {
     pub fn pass_chunk(&mut self, chunk: Chunk)
         requires { (value : Text) × IsAtStep self.old (λ history step. step ≡ text_step value chunk) }
         ensures text { self.new.text ≡ self.old.text }
-        ensures read { (value : Text) (history : History) → IsStateAfter self.old.text.now history self.old → step_here self.old.text.now history self.old ≡ text_step value chunk →
-            IsReadPast self.old.text.now (left_here self.old.text.now history self.old) (chunk_lexemes self.old.at chunk.len value) self.new }
+        ensures read { (value : Text) (origin : Origin) (history : History) → IsStateAfter origin self.old.text.now history self.old → step_here self.old.text.now history self.old ≡ text_step value chunk →
+            IsReadPast origin self.old.text.now (left_here self.old.text.now history self.old) (chunk_lexemes self.old.at chunk.len value) self.new }
         ensures passed { IsPassedBy (self.old.at + (chunk.len + chunk.stop_len)) self.old self.new × (self.new.stage ≡ Stage.Onward) }
     {
         let begin = self.at + chunk.len;
@@ -351,7 +348,7 @@ impl<'a> Reader<'a> {
     /// Whether the text, which was read to its end, is a clean cut. A read of its last byte is counted.
     #[tactic(auto, unfolding(starlark_grammar::specs::Cuts::is_settled))]
     pub fn is_clean_cut(&mut self) -> bool
-        ensures value { (history : History) → IsStateAfter self.old.text.now history self.old → result ≡ (is_settled history && ends_with nat_eq self.old.text.now (codes "\n")) }
+        ensures value { (origin : Origin) (history : History) → IsStateAfter origin self.old.text.now history self.old → result ≡ (is_settled history && ends_with nat_eq self.old.text.now (codes "\n")) }
         ensures least { self.old.reads < 2 ^ 64 - 1 → self.old.reads ≤ self.new.reads }
         ensures most { self.new.reads ≤ self.old.reads + 1 }
         ensures same { self.new ≡ record self.old { reads = self.new.reads } }
@@ -370,7 +367,7 @@ impl<'a> Reader<'a> {
     /// do.
     pub fn count_others(&mut self, len: usize) -> bool
         requires { len < 2 ^ 32 }
-        ensures ahead { (text : Text) (lexemes : List (Spanned TokenView)) (fault : Option (Spanned Fault)) → IsAhead text self.old self.old.stage lexemes fault → IsAhead text self.new self.new.stage lexemes fault }
+        ensures ahead { (origin : Origin) (text : Text) (lexemes : List (Spanned TokenView)) (fault : Option (Spanned Fault)) → IsAhead origin text self.old self.old.stage lexemes fault → IsAhead origin text self.new self.new.stage lexemes fault }
         ensures reads { (text : Text) → HasRead text self.old → HasRead text self.new }
         ensures none { result ≡ false → self.new ≡ self.old }
         ensures onward { result ≡ true → self.new.stage ≡ Stage.Onward }
@@ -399,7 +396,7 @@ impl<'a> Reader<'a> {
     /// is after a newline or a comment-only line, in a margin with no indent open before it. Each
     /// such offset before the end of the text is found right after the last lexeme before it.
     pub fn cut(&self) -> Option<usize>
-        ensures kept { IfSome result (λ at. (lexemes : List (Spanned TokenView)) (fault : Option (Spanned Fault)) → IsAhead self.now.text.now self.now self.now.stage lexemes fault → IsCutBefore self.now.text.now at (length lexemes)) }
+        ensures kept { IfSome result (λ at. (lexemes : List (Spanned TokenView)) (fault : Option (Spanned Fault)) → IsAhead Start self.now.text.now self.now self.now.stage lexemes fault → IsCutBefore self.now.text.now at (length lexemes)) }
         ensures reached { (at : ℕ) → IsReached self.now at → 0 < at → at < length self.now.text.now → result ≡ Some at }
     {
         let is_flat = matches!(self.stage, Stage::Onward)
@@ -413,7 +410,7 @@ impl<'a> Reader<'a> {
     /// open indent becomes pending.
     pub fn close(&mut self) -> (usize, Token, usize)
         ensures text { self.new.text ≡ self.old.text }
-        ensures read { (history : History) → IsStateAfter self.old.text.now history self.old → step_here self.old.text.now history self.old ≡ grammar.Ends → IsRead self.old.text.now (left_here self.old.text.now history self.old) (Some result) self.new }
+        ensures read { (origin : Origin) (history : History) → IsStateAfter origin self.old.text.now history self.old → step_here self.old.text.now history self.old ≡ grammar.Ends → IsRead origin self.old.text.now (left_here self.old.text.now history self.old) (Some result) self.new }
         ensures passed { IsPassedBy self.old.at self.old self.new × (self.new.stage ≡ Stage.Closed) }
     {
         self.pending = Pending::only(AfterComments::Dedents {
@@ -481,7 +478,7 @@ impl<'a> Reader<'a> {
     /// most sixteen for each byte before that offset, and sixteen more.
     pub fn take_fault(&mut self) -> Option<(usize, LexemeError, usize)>
         ensures text { self.new.text ≡ self.old.text }
-        ensures last { (text : Text) (lexemes : List (Spanned TokenView)) (fault : Option (Spanned Fault)) → IsAtEnd text self.old → IsAhead text self.old self.old.stage lexemes fault → IsLast text lexemes fault result self.new }
+        ensures last { (origin : Origin) (text : Text) (lexemes : List (Spanned TokenView)) (fault : Option (Spanned Fault)) → IsAtEnd text self.old → IsAhead origin text self.old self.old.stage lexemes fault → IsLast origin text lexemes fault result self.new }
         ensures reads { (text : Text) → IsAtEnd text self.old → HasRead text self.old → HasReadLast text result self.new }
     {
         match mem::replace(&mut self.stage, Stage::Closed) {
@@ -490,15 +487,16 @@ impl<'a> Reader<'a> {
         }
     }
 
-    /// Goes on after the repair of the fault that was taken, which is between two offsets: brackets,
-    /// f-strings and indents stay open. What is ahead is what the repaired text has there.
+    /// Goes on after the fault that was taken: its bytes, between two offsets, are passed, and
+    /// brackets, f-strings and indents stay open.
     ///
-    /// Each byte of the repair counts as read once more, and the byte after it.
+    /// Each of these bytes counts as read once more, and the byte after them.
     pub fn go_on(&mut self, begin: usize, end: usize)
         requires order { begin ≤ end }
         requires fits { end < 2 ^ 64 - 1 }
-        ensures ahead { (text : Text) (fault : Spanned Fault) → KeepsLine text fault → IsStateAtFault text self.old → end ≡ repair_end text fault → IsCharBoundary (repaired text fault) end →
-            IsAhead (repaired text fault) self.new self.new.stage (map shown_lexeme (drop (passed_count text fault) (outcome (repaired text fault)).lexemes)) (outcome (repaired text fault)).fault }
+        ensures text { self.new.text ≡ self.old.text }
+        ensures ahead { (origin : Origin) (text : Text) (history next : History) → IsStateAfter origin text history self.old → self.old.at ≤ end → IsCharBoundary text end → HasKept history next →
+            IsAhead (From next end) text self.new self.new.stage (map shown_lexeme (remaining_outcome next end (drop end text)).lexemes) (remaining_outcome next end (drop end text)).fault }
         ensures reads { (text : Text) → more_reads 0 begin ≤ self.old.reads → self.old.reads + (end - begin) + 1 ≤ 10 * end + 2 → HasRead text self.new }
     {
         self.reads.count_run(end - begin);
@@ -563,7 +561,7 @@ impl<'a> Reader<'a> {
         ensures code { IsAtCode self.new.text.now self.new }
         ensures stands { result ≡ true → IsBangHere self.new.text.now self.new }
         ensures lookahead { HasScannedHere 2 2 self.old self.new }
-        ensures other { result ≡ false → (history : History) → IsStateAfter self.new.text.now history self.new → (grammar.takes_bang (mode_after history.tokens) history.before && grammar.is_bang (drop self.new.at self.new.text.now)) ≡ false }
+        ensures other { result ≡ false → (origin : Origin) (history : History) → IsStateAfter origin self.new.text.now history self.new → (grammar.takes_bang (mode_after history.tokens) history.before && grammar.is_bang (drop self.new.at self.new.text.now)) ≡ false }
     {
         let front = self.reads.front(self.text[self.at..].as_bytes(), 2);
         match (self.nesting.mode(), self.before) {

@@ -1,37 +1,45 @@
 -- A fault that was passed.
-use Rattle.std.proofs.Common.{◌≡◌, ℕ, ◌+◌, drop, ap, subst, ◌∙◌, Some}
-use Rattle.std.specs.Prelude.{Bool}
+use Rattle.std.proofs.Common.{◌≡◌, ℕ, ◌+◌, ◌==◌, List, drop, ap, subst, ◌∙◌, None, Some, refl}
+use Rattle.std.specs.List.{prefix_len}
+use Rattle.std.specs.Prelude.{◌&&◌, ◌||◌, Bool, Option, codes, if◌then◌else◌, nat_eq, not, string_bytes}
+use Rattle.std.specs.Str.{IsCharBoundary, bytes_eq}
+use Rattle.starlark_grammar.specs.Margins.{begins_with_line_end}
+use Rattle.starlark_grammar.specs.Repairs.{ends_by_comment, keeps_line, repair_end}
+use Rattle.starlark_grammar.specs.Tokens.{Fault, Lexeme, Spanned}
+use Rattle.starlark_grammar.specs.Tokens as grammar
 use Rattle.std.proofs.lemmas.Str.{IsCharBoundary-from_rest}
-use Rattle.std.specs.Str.{IsCharBoundary}
 use Rattle.starlark_base.specs.Diagnostics.{Diagnosed, place_in, unplaced, with_span}
 use Rattle.starlark_base.specs.Sources.{SourceFile}
-use Rattle.starlark_grammar.specs.Tokens.{Fault, Spanned}
 use Rattle.starlark_grammar.specs.Words.{Text}
 use Rattle.starlark_reader.specs.Inner.Reader.{IsRaw}
-use Rattle.starlark_recovery.specs.Inner.Passed.{HasPassed, is_tab_error}
+use Rattle.starlark_recovery.specs.Inner.Passed.{HasPassed, error_keeps_line, is_tab_error}
 use Rattle.starlark_grammar.specs.Recovery.{is_tab, restart}
 use Rattle.starlark_recovery.specs.Restarts.{IsPlaceOf}
 use Rattle.starlark_lexemes.specs.Lexer.{search_reads}
 use Rattle.starlark_errors.specs.declared.error.kinds.ErrorKind.{ErrorKind}
 use Rattle.starlark_errors.specs.declared.error.kinds.ErrorKind.TheVariants.{Parser}
-use Rattle.starlark_errors.specs.declared.error.kinds.ParserMessage.TheVariants.{Lexeme}
+use Rattle.starlark_errors.specs.declared.error.kinds.ParserMessage.TheVariants as message
 use Rattle.starlark_words.specs.Inner.Reads.{AreReads}
 use Rattle.starlark_token.specs.Lexemes.{fault_view}
 use Rattle.starlark_token.specs.declared.lexeme_error.LexemeError.{LexemeError}
-use Rattle.starlark_token.specs.declared.lexeme_error.LexemeError.TheVariants as fault
-use Rattle.starlark_recovery.proofs.MendedTexts.{fault_of}
+use Rattle.starlark_token.specs.declared.lexeme_error.LexemeError.TheVariants as error
 use Rattle.starlark_lexemes.proofs.MovedFaults.{raw_thrown}
+
+-- the fault that there is, if there is one
+abbrev pub fault_of : Option Fault → Fault
+fault_of (Some node) = node
+fault_of None = grammar.Indentation
 
 -- the fault of a tab is that of the code
 pub tab_kind : (error : LexemeError) (node : Fault) → fault_view error ≡ Some node → is_tab_error error ≡ is_tab node
-tab_kind fault.InvalidTab node is = ap (λ found. is_tab (fault_of found)) is
-tab_kind error node is = ap (λ found. is_tab (fault_of found)) is
+tab_kind error.InvalidTab node is = ap (λ found. is_tab (fault_of found)) is
+tab_kind it node is = ap (λ found. is_tab (fault_of found)) is
 
 -- what passing a fault leaves, by what was found out for it
 pub passes : (file : SourceFile) (text part : Text) (begin at : ℕ) (fault : Spanned Fault) (found : ℕ × LexemeError × ℕ) (tab : Bool) (reads : ℕ) (given : Diagnosed ErrorKind)
     → IsRaw fault found → tab ≡ is_tab_error found.1
     → part ≡ drop begin text → ((fault : Spanned Fault) → IsPlaceOf fault found.0 found.2 tab → at ≡ restart part fault) → ((fault : Spanned Fault) → IsPlaceOf fault found.0 found.2 tab → AreReads 1 (search_reads part fault) 0 reads) → IsCharBoundary part at → IsCharBoundary text begin
-    → given ≡ with_span (unplaced (Parser (Lexeme found.1))) (place_in file (record { begin = begin + found.0; end = begin + found.2 }))
+    → given ≡ with_span (unplaced (Parser (message.Lexeme found.1))) (place_in file (record { begin = begin + found.0; end = begin + found.2 }))
     → HasPassed file text begin fault (record { fault = given; begin = begin + at; reads = reads })
 passes file text part begin at fault found tab reads given raw tab_is part_is restarts searches boundary start given_is =
     let its_place : IsPlaceOf fault found.0 found.2 tab = record { begins = raw.0; ends = raw.2; is_tab = (tab_is ∙ tab_kind found.1 fault.node raw.1) } in
@@ -41,3 +49,23 @@ passes file text part begin at fault found tab reads given raw tab_is part_is re
       boundary = IsCharBoundary-from_rest text begin at start.0 (subst (λ (t : Text). IsCharBoundary t at) part_is boundary);
       reads = subst (λ (t : Text). AreReads 1 (search_reads t fault) 0 reads) part_is (searches fault its_place);
     }
+
+-- where a repair ends
+pub end_is : (text : Text) (begin end len : ℕ) (tab : Bool) → len ≡ (if tab then begin + prefix_len (nat_eq 9) (drop begin text) else end) → (fault : Spanned Fault) → IsPlaceOf fault begin end tab → len ≡ repair_end text fault
+end_is text begin end len tab is fault place = rw (is, place.begins, place.ends, place.is_tab) refl
+
+-- whether the code's fault keeps its line, by a text that is the same from it on
+pub keeps_is : (text mended : Text) (before : List Lexeme) (found : Spanned Fault) (begin end : ℕ) (fault : LexemeError) (follows_comment : Bool) → IsRaw found (begin, fault, end) → follows_comment ≡ ends_by_comment found.begin before
+    → drop found.begin text ≡ drop found.begin mended → error_keeps_line text begin fault follows_comment ≡ keeps_line mended before found
+unfolding keeps_line
+keeps_is text mended before found begin end fault follows_comment raw follows same =
+    by fault found.node raw.1
+  where
+    goes : Bool → Fault → Type 0
+    goes keeps node = keeps ≡ keeps_line mended before (record { begin = found.begin; node = node; end = found.end })
+
+    by : (fault : LexemeError) (node : Fault) → fault_view fault ≡ Some node → goes (error_keeps_line text begin fault follows_comment) node
+    by (error.InvalidInput character) node is =
+        subst (goes (error_keeps_line text begin (error.InvalidInput character) follows_comment)) (ap fault_of is) (ap (λ b. not (bytes_eq (string_bytes character) (codes "}")) && not b) follows)
+    by error.InvalidTab node is = subst (goes (error_keeps_line text begin error.InvalidTab follows_comment)) (ap fault_of is) (ap (λ n. not (n == 0 || begins_with_line_end (drop n text))) raw.0 ∙ ap (λ (t : Text). not (found.begin == 0 || begins_with_line_end t)) same)
+    by fault node is = subst (goes (error_keeps_line text begin fault follows_comment)) (ap fault_of is) refl

@@ -1,5 +1,5 @@
 -- The items of a text that is lexed on after its faults.
-use Rattle.std.proofs.Common.{◌≡◌, ℕ, zero, suc, ◌+◌, true, false, List, [], ◌∷◌, ◌++◌, map, drop, refl, ap, sym, ◌∙◌, arith, None, Some}
+use Rattle.std.proofs.Common.{◌≡◌, ℕ, zero, suc, ◌+◌, true, false, List, [], ◌∷◌, ◌++◌, ◌≤◌, length, map, drop, refl, ap, sym, ◌∙◌, arith, None, Some}
 use Rattle.std.proofs.lemmas.List.{append-nil, drop-map, map-append}
 use Rattle.std.specs.Prelude.{Option}
 use Rattle.starlark_grammar.specs.Found as found
@@ -9,9 +9,10 @@ use Rattle.starlark_grammar.specs.Repairs.{keeps_line, repaired}
 use Rattle.starlark_grammar.specs.Tokens.{Fault, Lexeme, Spanned, moved}
 use Rattle.starlark_grammar.specs.Words.{Text}
 use Rattle.starlark_grammar.proofs.Joining.Joined.{moved_both}
+use Rattle.starlark_grammar.proofs.Lists.{drop-sum}
 use Rattle.starlark_lexemes.proofs.MovedFaults.{unmoved}
 use Rattle.starlark_grammar.proofs.Found.FoundItems.{by_keeps, faultless_found, found_after_lines, found_after_repairs}
-use Rattle.starlark_recovery.specs.Inner.RecoveryStates.{items_after, items_past, moved_item}
+use Rattle.starlark_recovery.specs.Inner.RecoveryStates.{after_faults, items_after, items_past, moved_item}
 use Rattle.starlark_grammar.specs.Recovery.{restart}
 use Rattle.starlark_recovery.specs.RecoveringLexer.{shown_item}
 use Rattle.starlark_token.specs.Lexemes.{shown_lexeme}
@@ -96,6 +97,39 @@ items_refused text k fault none has = items_are k text ∙ ap (λ l. l ++ after_
 -- … or nothing
 pub items_none : (text : Text) (k : ℕ) → drop k (map shown_lexeme (outcome text).lexemes) ≡ [] → (outcome text).fault ≡ None → items_past k text ≡ []
 items_none text k none has = items_are k text ∙ ap (λ l. l ++ after_lexemes text (outcome text).fault) (none_shown (outcome text).lexemes k none) ∙ ap (after_lexemes text) has
+
+-- of what is left so many lexemes are passed
+pub items_drop : (passed k : ℕ) (text : Text) → k ≤ length (drop passed (outcome text).lexemes) → drop k (items_past passed text) ≡ items_past (passed + k) text
+items_drop passed k text few =
+    ap (λ (l : List LexerItem). drop k l) (items_are passed text) ∙ past_given k (drop passed (outcome text).lexemes) few
+    ∙ ap (λ (l : List Lexeme). shown_given l ++ after_lexemes text (outcome text).fault) (sym (drop-sum passed k (outcome text).lexemes)) ∙ sym (items_are (passed + k) text)
+  where
+    past_given : (k : ℕ) (lexemes : List Lexeme) → k ≤ length lexemes → drop k (shown_given lexemes ++ after_lexemes text (outcome text).fault) ≡ shown_given (drop k lexemes) ++ after_lexemes text (outcome text).fault
+    past_given zero lexemes few = refl
+    past_given (suc k) (lexeme ∷ lexemes) few = past_given k lexemes (omega (arith, few))
+    past_given (suc k) [] few = absurd (omega (arith, few))
+
+-- Items after faults
+
+one_more_fault : (n : ℕ) (items : List LexerItem) → after_faults (suc n) items ≡ after_faults 1 (after_faults n items)
+one_more_fault zero items = refl
+one_more_fault (suc n) [] = refl
+one_more_fault (suc n) (Given lexeme ∷ items) = one_more_fault (suc n) items
+one_more_fault (suc n) (Refused fault ∷ items) = one_more_fault n items
+
+after_lexemes_moved : (at : ℕ) (lexemes : List Lexeme) (fault : Spanned Fault) (items : List LexerItem) → after_faults 1 (map (moved_item at) (shown_given lexemes ++ (Refused fault ∷ items))) ≡ map (moved_item at) items
+after_lexemes_moved at [] fault items = refl
+after_lexemes_moved at (lexeme ∷ lexemes) fault items = after_lexemes_moved at lexemes fault items
+
+-- those after one more fault are those after the fault of the text that is lexed
+pub after_fault : (n at passed : ℕ) (text : Text) (items : List LexerItem) (fault : Spanned Fault) → after_faults n items ≡ map (moved_item at) (items_past passed text) → (outcome text).fault ≡ Some fault
+    → after_faults (n + 1) items ≡ map (moved_item at) (items_after text fault)
+after_fault n at passed text items fault is has =
+    let next : n + 1 ≡ suc n = omega arith in
+    let left : items_past passed text ≡ shown_given (drop passed (outcome text).lexemes) ++ (Refused fault ∷ items_after text fault) =
+    items_are passed text ∙ ap (λ f. shown_given (drop passed (outcome text).lexemes) ++ after_lexemes text f) has in
+    ap (λ k. after_faults k items) next ∙ one_more_fault n items ∙ ap (λ (l : List LexerItem). after_faults 1 l) (is ∙ ap (λ (l : List LexerItem). map (moved_item at) l) left)
+    ∙ after_lexemes_moved at (drop passed (outcome text).lexemes) fault (items_after text fault)
 
 -- after a fault that keeps its line is left what the repaired text has after the repair, …
 pub items_repaired : (text : Text) (fault : Spanned Fault) → keeps_line text (outcome text).lexemes fault ≡ true → items_after text fault ≡ items_past (passed_count text fault) (repaired text fault)

@@ -1,4 +1,3 @@
 -- Definitions that only contracts of inner functions, and proofs, cite.
 pub mod Passed
 pub mod RecoveryStates
-pub mod MendedTexts

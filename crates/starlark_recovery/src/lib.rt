@@ -1,7 +1,6 @@
 //! The lexer that goes on after faults.
 #![tactic(auto)]
 
-mod mended_text;
 mod passed_faults;
 pub mod recovering_lexer;
 mod recovery_state;

@@ -2,21 +2,14 @@
 
 ghost use Rattle.std.specs.Prelude.{◌≡◌, ◌≤◌, ◌<◌, ◌+◌, ◌^◌, ◌||◌, None, false, length, true};
 ghost use Rattle.std.specs.Str.{IsCharBoundary};
-ghost use Rattle.starlark_grammar.specs.Repairs.{keeps_line, repair_end};
-ghost use Rattle.starlark_grammar.specs.Reading.{outcome};
+ghost use Rattle.starlark_grammar.specs.Repairs.{repair_end};
 ghost use Rattle.starlark_grammar.specs.Tokens.{Fault, Spanned};
 ghost use Rattle.starlark_reader.specs.Inner.Reader.{IsRaw};
-ghost use Rattle.starlark_lexemes.specs.Inner.LexerStates.{HasFound, IsLexingIn};
-ghost use Rattle.starlark_recovery.specs.Inner.MendedTexts.{bytes_of};
 ghost use Rattle.starlark_recovery.specs.Inner.Passed.{is_tab_error};
-ghost use Rattle.starlark_lexemes.specs.Inner.RawItems.{OffsetsHold};
-ghost use Rattle.starlark_recovery.specs.Inner.RecoveryStates.{HasPassedOn, IsAdvanced, IsRecovering, IsStopped, is_end, last_comment, part_of, view_of};
-ghost use Rattle.starlark_lexemes.specs.Lexer.{is_ended_by, yielded_by};
+ghost use Rattle.starlark_recovery.specs.Inner.RecoveryStates.{HasPassedOn, IsAdvanced, IsRecovering, IsStopped, is_end, last_comment, mended_keeps, part_of, view_of};
 ghost use Rattle.starlark_recovery.specs.RecoveringLexer.{IsNextOf, all_items};
-ghost use Rattle.starlark_token.specs.Lexemes.{IsWithin};
 ghost use Rattle.starlark_token.specs.TokenViews.{token_view};
 
-use crate::mended_text::MendedText;
 use crate::passed_faults::{is_tab, pass};
 use crate::repairs::{keeps_line, repair_end};
 use starlark_base::codemap::{CodeMap, OrMemory};
@@ -27,27 +20,25 @@ use starlark_lexemes::lexer_state::LexerState;
 use starlark_token::lexeme_error::LexemeError;
 use starlark_token::tokens::Token;
 use std::alloc::Global;
-use std::mem;
 
 /// The state of a lexer that goes on after faults.
 ///
 /// It lexes a part of the text: from its start, or from the line after the last fault that ended its
-/// line. Faults that keep their lines are repaired, and the state goes on in the mended text.
+/// line. After a fault that keeps its line lexing goes on in the part, with all that was open.
 #[derive(Drop)]
 pub struct RecoveryState<'a> {
     alloc: Global,
-    mended: MendedText<'a>,
+    text: &'a str,
     /// Where the part begins, in bytes.
     begin: usize,
     state: LexerState<'a>,
     code_map: CodeMap,
     fault_count: usize,
-    /// The number of lexemes of the part up to its last comment so far, and where that ends in it.
+    /// The number of lexemes since the last fault up to the last comment, and where that ends in the
+    /// part.
     comment: Option<(usize, usize)>,
     /// Number of reads that found the part, and that looked at the faults which keep their lines.
     earlier_reads: u64,
-    /// What was found in the mended text, until it is returned.
-    held: Option<Lexeme>,
 }
 
 /// Whether the last of some lexemes is a comment that ends at an offset.
@@ -69,48 +60,20 @@ impl<'a> RecoveryState<'a> {
     {
         RecoveryState {
             alloc,
-            mended: MendedText::new(text),
+            text,
             begin: 0,
             state: LexerState::new(alloc, text),
             code_map,
             fault_count: 0,
             comment: None,
             earlier_reads: 0,
-            held: None,
         }
     }
 
-    /// The next item of the part.
-    #[inline(always)]
-    fn advance(
-        &mut self,
-    ) -> Option<Result<(usize, Token, usize), OrMemory<(usize, LexemeError, usize)>>>
-        requires { IsRecovering self.old }
-        ensures ended { self.old.state.has_ended ≡ true → (result ≡ None) × (self.new.state.reader.reads ≡ self.old.state.reader.reads) }
-        ensures found { self.old.state.has_ended ≡ false → HasFound (part_of self.old) self.old.state result self.new.state }
-        ensures lexing { IsLexingIn (part_of self.old) self.new.state }
-        ensures within { OffsetsHold (IsWithin (part_of self.old)) result }
-        ensures between { OffsetsHold (λ from to. IsCharBoundary (part_of self.old) from × IsCharBoundary (part_of self.old) to) result }
-        ensures count { self.new.state.yielded_count ≡ self.old.state.yielded_count + yielded_by result }
-        ensures ends { self.new.state.has_ended ≡ (self.old.state.has_ended || is_ended_by result) }
-        ensures own { self.old.mended.copy ≡ None → self.new.state.reader.text.now ≡ part_of self.old }
-        ensures after { self.new ≡ record self.old { state = self.new.state } }
-    {
-        let Some(copy) = self.mended.copy() else {
-            return self.state.next_item();
-        };
-        let text = self.mended.text();
-        let lent = mem::replace(&mut self.state, LexerState::new(self.alloc, text));
-        let mut state = lent.over(&copy[self.begin..]);
-        let item = state.next_item();
-        self.state = state.over(text);
-        item
-    }
-
-    /// Passes a fault that keeps its line, whose repair ends at a byte of the part.
+    /// Passes a fault that keeps its line: lexing goes on at a byte of the part.
     fn keep(&mut self, fault: (usize, LexemeError, usize), end: usize) -> OrMemory<EvalException>
-        requires { (found : Spanned Fault) × IsStopped self.old found × IsRaw found fault × (keeps_line (part_of self.old) (outcome (part_of self.old)).lexemes found ≡ true) × (end ≡ repair_end (part_of self.old) found) }
-        ensures { (found : Spanned Fault) → IsStopped self.old found → IsRaw found fault → keeps_line (part_of self.old) (outcome (part_of self.old)).lexemes found ≡ true → HasPassedOn self.old found result self.new }
+        requires { (found : Spanned Fault) × (stopped : IsStopped self.old found) × IsRaw found fault × (mended_keeps stopped.mended found ≡ true) × (end ≡ repair_end (part_of self.old) found) }
+        ensures { (found : Spanned Fault) (stopped : IsStopped self.old found) → IsRaw found fault → mended_keeps stopped.mended found ≡ true → HasPassedOn self.old found result self.new }
     {
         let begin = self.begin;
         let (from, error, to) = fault;
@@ -118,10 +81,6 @@ impl<'a> RecoveryState<'a> {
         else {
             return OrMemory::Memory;
         };
-        let repaired = self.mended.repair(self.alloc, begin + from, begin + end);
-        if repaired.is_err() {
-            return OrMemory::Memory;
-        }
         self.state.go_on(from, end);
         self.comment = None;
         self.fault_count += 1;
@@ -132,18 +91,17 @@ impl<'a> RecoveryState<'a> {
 
     /// Passes a fault that ends its line: lexing begins again at the next one.
     fn restart(&mut self, fault: (usize, LexemeError, usize)) -> OrMemory<EvalException>
-        requires { (found : Spanned Fault) × IsStopped self.old found × IsRaw found fault × (keeps_line (part_of self.old) (outcome (part_of self.old)).lexemes found ≡ false) }
-        ensures { (found : Spanned Fault) → IsStopped self.old found → IsRaw found fault → keeps_line (part_of self.old) (outcome (part_of self.old)).lexemes found ≡ false → HasPassedOn self.old found result self.new }
+        requires { (found : Spanned Fault) × (stopped : IsStopped self.old found) × IsRaw found fault × (mended_keeps stopped.mended found ≡ false) }
+        ensures { (found : Spanned Fault) (stopped : IsStopped self.old found) → IsRaw found fault → mended_keeps stopped.mended found ≡ false → HasPassedOn self.old found result self.new }
     {
-        let mended = self.mended.as_str();
-        let Ok(passed) = pass(self.alloc, mended, self.begin, fault, &self.code_map) else {
+        let Ok(passed) = pass(self.alloc, self.text, self.begin, fault, &self.code_map) else {
             return OrMemory::Memory;
         };
         let reads = self.state.reader.reads.count().saturating_add(passed.reads);
         self.earlier_reads = self.earlier_reads.saturating_add(reads);
         self.fault_count += 1;
         self.begin = passed.begin;
-        self.state = LexerState::new(self.alloc, &self.mended.text()[passed.begin..]);
+        self.state = LexerState::new(self.alloc, &self.text[passed.begin..]);
         self.comment = None;
         OrMemory::Error(passed.fault)
     }
@@ -155,7 +113,7 @@ impl<'a> RecoveryState<'a> {
         requires { (found : Spanned Fault) × IsStopped self.old found × IsRaw found fault }
         ensures { (found : Spanned Fault) → IsStopped self.old found → IsRaw found fault → HasPassedOn self.old found result self.new }
     {
-        let part = &self.mended.as_str()[self.begin..];
+        let part = &self.text[self.begin..];
         let lexemes = self.state.yielded_count - 1;
         let follows_comment = is_end(self.comment, lexemes, fault.0);
         if !keeps_line(part, fault.0, &fault.1, follows_comment) {
@@ -197,20 +155,6 @@ impl<'a> RecoveryState<'a> {
         }
     }
 
-    /// Finds the next lexeme or fault of the text, and holds it.
-    // A call that returned it would make each lexeme of a text without repairs pass through memory.
-    #[inline(never)]
-    fn hold_next(&mut self)
-        requires { IsRecovering self.old }
-        ensures recovering { IsRecovering self.new }
-        ensures next { IsNextOf (view_of self.old) self.new.held (view_of self.new) }
-    {
-        match self.advance() {
-            Some(item) => self.held = Some(self.answer(item)),
-            None => self.held = None,
-        }
-    }
-
     /// The next lexeme or fault of the text; `None` after the last lexeme, and after out of memory.
     #[inline(always)]
     pub(crate) fn next(&mut self) -> Option<Lexeme>
@@ -218,10 +162,6 @@ impl<'a> RecoveryState<'a> {
         ensures recovering { IsRecovering self.new }
         ensures next { IsNextOf (view_of self.old) result (view_of self.new) }
     {
-        if self.mended.copy().is_some() {
-            self.hold_next();
-            return mem::take(&mut self.held);
-        }
         let item = self.state.next_item()?;
         Some(self.answer(item))
     }

@@ -6,7 +6,7 @@ ghost use Rattle.std.specs.Str.{bytes_eq};
 ghost use Rattle.starlark_grammar.specs.Repairs as spec;
 ghost use Rattle.starlark_grammar.specs.Margins.{begins_with_line_end};
 ghost use Rattle.starlark_grammar.specs.Tokens.{Fault, Spanned};
-ghost use Rattle.starlark_recovery.specs.Inner.MendedTexts.{error_keeps_line};
+ghost use Rattle.starlark_recovery.specs.Inner.Passed.{error_keeps_line};
 ghost use Rattle.starlark_recovery.specs.Restarts.{IsPlaceOf};
 
 use starlark_token::lexeme_error::LexemeError;

@@ -1,9 +1,15 @@
 -- What is ahead of a text that is lexed so far, and what a call answers of it.
-use Rattle.std.specs.Prelude.{◌≡◌, ◌≤◌, ◌<◌, ◌^◌, ◌+◌, ◌-◌, ◌*◌, ◌&&◌, if◌then◌else◌, nat_lt, not, Bool, ℕ, true, false, List, [], ◌∷◌, drop, length, map, Option, None, Some, Result, Ok, Err, IfOk, OnErr, OnOk}
+use Rattle.std.specs.Prelude.{◌≡◌, ◌≤◌, ◌<◌, ◌^◌, ◌+◌, ◌-◌, ◌*◌, ◌&&◌, if◌then◌else◌, nat_lt, not, Bool, ℕ, true, false, List, [], ◌∷◌, drop, length, map, Option, None, Some, Result, Ok, Err, IfOk, IfSome, OnErr, OnOk}
+use Rattle.std.specs.List.{AllByRecursion}
+use Rattle.std.specs.Str.{IsCharBoundary, IsUtf8}
 use Rattle.starlark_base.specs.Diagnostics.{Diagnosed}
 use Rattle.starlark_base.specs.Sources.{SourceFile}
 use Rattle.starlark_words.specs.Inner.Reads.{more_reads}
-use Rattle.starlark_grammar.specs.Reading.{outcome}
+use Rattle.starlark_grammar.specs.AfterFaults.{is_margin_tab, restart}
+use Rattle.starlark_grammar.specs.Inner.KeptFaults.{may_keep}
+use Rattle.starlark_grammar.specs.Laws.{AtBoundaries}
+use Rattle.starlark_grammar.specs.Reading.{History, outcome}
+use Rattle.starlark_grammar.specs.Repairs.{repair_end}
 use Rattle.starlark_grammar.specs.Tokens as grammar
 use Rattle.starlark_grammar.specs.Tokens.{Fault, Spanned}
 use Rattle.starlark_grammar.specs.Words.{Text, begins, is_name_start}
@@ -11,7 +17,7 @@ use Rattle.starlark_grammar.specs.declared.class.Class.TheVariants as class
 use Rattle.starlark_grammar.specs.declared.class.LiteralKind.TheVariants as literal
 use Rattle.starlark_words.specs.Inner.ScannedWords.{begins_mark, peeked_len}
 use Rattle.starlark_words.specs.declared.scanner.word.Word.{Word}
-use Rattle.starlark_reader.specs.Inner.Reader.{IsAhead, IsAheadAfter, IsAheadPast, IsAtCode, IsAtEnd, IsRaw, IsSomething, IsStateAfter, IsStateAtFault, IsText, IsWordHere, begins_with_tab, has_read_none, history_of, is_fault, left_to_read}
+use Rattle.starlark_reader.specs.Inner.Reader.{IsAhead, IsAheadAfter, IsAheadPast, IsAtCode, IsAtEnd, IsRaw, IsSomething, IsStateAfter, IsStateAtFault, IsWordHere, From, HasKept, Origin, Start, begins_with_tab, has_read_none, history_since, is_fault, left_to_read, remaining_outcome}
 use Rattle.starlark_reader.specs.Inner.ReadBounds.{HasRead, LeavesRepair}
 use Rattle.starlark_reader.specs.declared.reader.Before.{Before}
 use Rattle.starlark_reader.specs.declared.reader.Before.TheVariants as before
@@ -21,7 +27,7 @@ use Rattle.starlark_reader.specs.declared.reader.Stage.TheVariants as stages
 use Rattle.starlark_errors.specs.Exceptions.{IsException}
 use Rattle.starlark_reader.specs.Inner.Lookaheads.{HasPeeked, IsLiteralHere, IsTextRun}
 use Rattle.starlark_grammar.specs.Front.{language_front}
-use Rattle.starlark_lexemes.specs.Lexer.{HasReadToFault, LexerView, most_reads}
+use Rattle.starlark_lexemes.specs.Lexer.{LexerView, most_reads, search_reads}
 use Rattle.starlark_errors.specs.declared.error.kinds.ErrorKind.{ErrorKind}
 use Rattle.starlark_lexemes.specs.PlainLexemes.{IsPlainIn, plain_token, plain_view}
 use Rattle.starlark_lexemes.specs.declared.lexer_state.LexerState.{LexerState}
@@ -35,9 +41,29 @@ use Rattle.starlark_token.specs.TokenViews.{TokenView, Whole, token_view}
 use Rattle.starlark_token.specs.declared.lexeme_error.LexemeError.{LexemeError}
 use Rattle.starlark_token.specs.declared.tokens.Token.{Token}
 
--- the lexemes of the text that weren't yielded yet
-abbrev pub left_in : LexerState → List (Spanned TokenView)
-left_in state = drop state.yielded_count (map shown_lexeme (outcome state.reader.text.now).lexemes)
+-- What is lexed: the lexemes of a text from where reading began on, and the fault after them.
+pub record Course : Type 0 where
+  pub origin : Origin
+  pub lexemes : List grammar.Lexeme
+  pub fault : Option (Spanned Fault)
+
+-- that of a whole text
+abbrev pub whole : Text → Course
+whole text = record { origin = Start; lexemes = (outcome text).lexemes; fault = (outcome text).fault }
+
+-- The text is UTF-8 and short enough for offsets of 32 bits; the lexemes and the fault lie in it, between characters.
+pub record IsCourse (course : Course) (text : Text) : Type 0 where
+  pub fits : length text < 2 ^ 32
+  pub utf8 : IsUtf8 text
+  pub few : length course.lexemes < 2 ^ 34
+  pub within : AllByRecursion (λ (lexeme : grammar.Lexeme). (lexeme.begin ≤ lexeme.end) × (lexeme.end ≤ length text)) course.lexemes
+  pub edges : AllByRecursion (AtBoundaries text) course.lexemes
+  pub fault_within : IfSome course.fault (λ fault. (fault.begin ≤ fault.end) × (fault.end ≤ length text))
+  pub fault_edges : IfSome course.fault (AtBoundaries text)
+
+-- the lexemes that weren't yielded yet
+abbrev pub left_in : Course → LexerState → List (Spanned TokenView)
+left_in course state = drop state.yielded_count (map shown_lexeme course.lexemes)
 
 -- the state as users of a lexer see it, without its cut
 pub record StateView : Type 0 where
@@ -59,35 +85,35 @@ reached_cut text reader stage before = None
 unfoldable pub known_cut : LexerState → Option ℕ
 known_cut state = if not state.has_ended && nat_lt 0 state.yielded_count then reached_cut state.reader.text.now state.reader state.reader.stage state.reader.before else None
 
--- What the reader has ahead are the lexemes of a text that weren't yielded yet, and the fault after them; and what was read
--- is paid for. After an error nothing of this is known.
-abbrev pub IsLexingIn : Text → LexerState → Type 0
-IsLexingIn text state =
-    IsText text
-    × (state.has_ended ≡ false → (state.yielded_count ≤ length (outcome text).lexemes)
-    × IsAhead text state.reader state.reader.stage (drop state.yielded_count (map shown_lexeme (outcome text).lexemes)) (outcome text).fault)
+-- What the reader has ahead are the lexemes that weren't yielded yet, and the fault after them; and what was read is paid
+-- for. After an error nothing of this is known.
+abbrev pub IsLexingIn : Course → Text → LexerState → Type 0
+IsLexingIn course text state =
+    IsCourse course text
+    × (state.has_ended ≡ false → (state.yielded_count ≤ length course.lexemes)
+    × IsAhead course.origin text state.reader state.reader.stage (drop state.yielded_count (map shown_lexeme course.lexemes)) course.fault)
     × (state.is_at_code ≡ true → state.has_ended ≡ false)
     × (state.has_ended ≡ false → HasRead text state.reader)
     × (state.is_at_code ≡ true → IsAtCode text state.reader)
 
 -- So it is of the state's own text.
-abbrev pub IsLexing : LexerState → Type 0
-IsLexing state = IsLexingIn state.reader.text.now state
+abbrev pub IsLexing : Course → LexerState → Type 0
+IsLexing course state = IsLexingIn course state.reader.text.now state
 
 -- Lexing a text has begun, and nothing was looked at yet: the reader has all of any text ahead.
 pub record IsBegun (text : Text) (state : LexerState) : Type 0 where
   pub view : view_of state ≡ record { text = text; yielded_count = 0; has_ended = false; reads = 0 }
-  pub ahead : (any : Text) → IsAhead any state.reader state.reader.stage (map shown_lexeme (outcome any).lexemes) (outcome any).fault
+  pub ahead : (any : Text) → IsAhead Start any state.reader state.reader.stage (map shown_lexeme (outcome any).lexemes) (outcome any).fault
   pub reads : (any : Text) → HasRead any state.reader
   pub outside : state.is_at_code ≡ false
 
 -- What a call answers: the first lexeme that is left, or nothing where none is; or out of memory in the place of a lexeme or
 -- the fault.
-abbrev pub HasAnswered : LexerState → Option (Result (ℕ × Token × ℕ) (OrMemory (Diagnosed ErrorKind))) → LexerState → Type 0
-HasAnswered old (Some (Ok lexeme)) new = IsAheadAfter old.reader.text.now (Some lexeme) new.reader (left_in old) (outcome old.reader.text.now).fault
-HasAnswered old (Some (Err (Error exception))) new = ⊥
-HasAnswered old (Some (Err Memory)) new = IsSomething (left_in old) (outcome old.reader.text.now).fault
-HasAnswered old None new = IsAtEnd old.reader.text.now new.reader
+abbrev pub HasAnswered : Course → LexerState → Option (Result (ℕ × Token × ℕ) (OrMemory (Diagnosed ErrorKind))) → LexerState → Type 0
+HasAnswered course old (Some (Ok lexeme)) new = IsAheadAfter course.origin old.reader.text.now (Some lexeme) new.reader (left_in course old) course.fault
+HasAnswered course old (Some (Err (Error exception))) new = ⊥
+HasAnswered course old (Some (Err Memory)) new = IsSomething (left_in course old) course.fault
+HasAnswered course old None new = IsAtEnd old.reader.text.now new.reader
 
 -- whether a fault was reached, and isn't taken yet
 abbrev pub has_fault : LexerState → Bool
@@ -95,45 +121,64 @@ has_fault state = not state.has_ended && is_fault state.reader.stage
 
 -- The fault of a text was taken, and all lexemes before it were yielded. The reader stores what is open there, and its reads
 -- leave those of the fault's repair.
-pub record IsAtFault (text : Text) (fault : Spanned Fault) (state : LexerState) : Type 0 where
+pub record IsAtFault (course : Course) (text : Text) (fault : Spanned Fault) (state : LexerState) : Type 0 where
   pub fits : length text < 2 ^ 32
-  pub has : (outcome text).fault ≡ Some fault
-  pub counted : state.yielded_count ≡ length (outcome text).lexemes + 1
-  pub stores : IsStateAtFault text state.reader
+  pub has : course.fault ≡ Some fault
+  pub counted : state.yielded_count ≡ length course.lexemes + 1
+  pub stores : IsStateAtFault course.origin text state.reader
+  pub before : state.reader.at ≤ fault.begin
   pub least : more_reads 0 fault.begin ≤ state.reader.reads
   pub leaves : LeavesRepair text fault state.reader.reads
 
+-- What is lexed from byte `at` of a text on, after a history.
+abbrev pub course_from : History → (at : ℕ) → Text → Course
+course_from history at text = record { origin = From history at; lexemes = (remaining_outcome history at (drop at text)).lexemes; fault = (remaining_outcome history at (drop at text)).fault }
+
+-- At a fault all that is open stays open: reading goes on at byte `end`, after the history `next`.
+pub record KeepsOpen (course : Course) (text : Text) (fault : Spanned Fault) (next : History) (begin end : ℕ) : Type 0 where
+  pub begins : begin ≡ fault.begin
+  pub ends : end ≡ repair_end text fault
+  pub may : may_keep fault.node ≡ true
+  pub inside : is_margin_tab text fault ≡ false
+  pub untabbed : course.origin ≡ Start → begins_with_tab text ≡ false
+  pub boundary : IsCharBoundary text end
+  pub kept : HasKept (history_since course.origin text) next
+
+-- At a fault each byte before it was read, and at most so many, with those that find where lexing begins again.
+abbrev pub AreReadsTo : Text → Spanned Fault → ℕ → Type 0
+AreReadsTo text fault reads = (fault.begin ≤ reads) × (reads + search_reads text fault ≤ 16 * (restart text fault + 1))
+
 -- What was read up to the fault of a text, which is all that is left of it.
-pub record HasReachedFault (old : LexerState) (fault : Spanned Fault) (new : LexerState) : Type 0 where
-  pub none : left_in old ≡ []
-  pub has : (outcome old.reader.text.now).fault ≡ Some fault
-  pub tab : has_read_none new.reader ≡ begins_with_tab old.reader.text.now
+pub record HasReachedFault (course : Course) (old : LexerState) (fault : Spanned Fault) (new : LexerState) : Type 0 where
+  pub none : left_in course old ≡ []
+  pub has : course.fault ≡ Some fault
+  pub tab : course.origin ≡ Start → has_read_none new.reader ≡ begins_with_tab old.reader.text.now
   pub most : new.reader.reads ≤ most_reads old.reader.text.now
-  pub reads : HasReadToFault old.reader.text.now new.reader.reads
-  pub here : IsAtFault old.reader.text.now fault new
+  pub reads : AreReadsTo old.reader.text.now fault new.reader.reads
+  pub here : IsAtFault course old.reader.text.now fault new
 
 -- What is taken after the last lexeme: the fault, between two offsets, or nothing where the text has none.
-abbrev pub HasTakenLast : LexerState → Option (ℕ × LexemeError × ℕ) → LexerState → Type 0
-HasTakenLast old (Some found) new = (fault : Spanned Fault) × HasReachedFault old fault new × IsRaw fault found
-HasTakenLast old None new =
-    (left_in old ≡ []) × ((outcome old.reader.text.now).fault ≡ None) × IsStateAfter old.reader.text.now (history_of old.reader.text.now) new.reader
+abbrev pub HasTakenLast : Course → LexerState → Option (ℕ × LexemeError × ℕ) → LexerState → Type 0
+HasTakenLast course old (Some found) new = (fault : Spanned Fault) × HasReachedFault course old fault new × IsRaw fault found
+HasTakenLast course old None new =
+    (left_in course old ≡ []) × (course.fault ≡ None) × IsStateAfter course.origin old.reader.text.now (history_since course.origin old.reader.text.now) new.reader
     × (more_reads 0 (length old.reader.text.now) ≤ new.reader.reads) × (new.reader.reads < most_reads old.reader.text.now)
 
 -- What a call finds next in a text: the first lexeme that is left, after the last one the fault, or nothing where there is
 -- none; or out of memory in the place of either.
-abbrev pub HasFound : Text → LexerState → Option (Result (ℕ × Token × ℕ) (OrMemory (ℕ × LexemeError × ℕ))) → LexerState → Type 0
-HasFound text old (Some (Ok lexeme)) new =
-    (more : List (Spanned TokenView)) × (drop old.yielded_count (map shown_lexeme (outcome text).lexemes) ≡ lexeme_view lexeme ∷ more) × (new.reader.reads ≤ most_reads text)
-HasFound text old (Some (Err Memory)) new = IsSomething (drop old.yielded_count (map shown_lexeme (outcome text).lexemes)) (outcome text).fault
-HasFound text old (Some (Err (Error found))) new =
-    (fault : Spanned Fault) × (drop old.yielded_count (map shown_lexeme (outcome text).lexemes) ≡ []) × IsAtFault text fault new × HasReadToFault text new.reader.reads × IsRaw fault found
-HasFound text old None new =
-    (drop old.yielded_count (map shown_lexeme (outcome text).lexemes) ≡ []) × ((outcome text).fault ≡ None) × (length text ≤ new.reader.reads) × (new.reader.reads ≤ most_reads text)
+abbrev pub HasFound : Course → Text → LexerState → Option (Result (ℕ × Token × ℕ) (OrMemory (ℕ × LexemeError × ℕ))) → LexerState → Type 0
+HasFound course text old (Some (Ok lexeme)) new =
+    (more : List (Spanned TokenView)) × (drop old.yielded_count (map shown_lexeme course.lexemes) ≡ lexeme_view lexeme ∷ more) × (new.reader.reads ≤ most_reads text)
+HasFound course text old (Some (Err Memory)) new = IsSomething (drop old.yielded_count (map shown_lexeme course.lexemes)) course.fault
+HasFound course text old (Some (Err (Error found))) new =
+    (fault : Spanned Fault) × (drop old.yielded_count (map shown_lexeme course.lexemes) ≡ []) × IsAtFault course text fault new × AreReadsTo text fault new.reader.reads × IsRaw fault found
+HasFound course text old None new =
+    (drop old.yielded_count (map shown_lexeme course.lexemes) ≡ []) × (course.fault ≡ None) × (length text ≤ new.reader.reads) × (new.reader.reads ≤ most_reads text)
 
 -- The exception of the fault after the last lexeme, or out of memory in its place.
-abbrev pub HasThrown : SourceFile → LexerState → OrMemory (Diagnosed ErrorKind) → LexerState → Type 0
-HasThrown file old (Error exception) new = (fault : Spanned Fault) × HasReachedFault old fault new × IsException file fault exception
-HasThrown file old Memory new = IsSomething (left_in old) (outcome old.reader.text.now).fault
+abbrev pub HasThrown : Course → SourceFile → LexerState → OrMemory (Diagnosed ErrorKind) → LexerState → Type 0
+HasThrown course file old (Error exception) new = (fault : Spanned Fault) × HasReachedFault course old fault new × IsException file fault exception
+HasThrown course file old Memory new = IsSomething (left_in course old) course.fault
 
 -- how many items it is
 abbrev pub thrown_count : OrMemory (Diagnosed ErrorKind) → ℕ
@@ -145,22 +190,22 @@ taken_count (Some found) = 1
 taken_count None = 0
 
 -- The reader took the first lexeme that is left, which the lexer hasn't counted yet, or ran out of memory in its place.
-pub record IsTakenNext {E : Type 0} (state : LexerState) (taken : Result (ℕ × Token × ℕ) E) : Type 0 where
-  pub text : IsText state.reader.text.now
+pub record IsTakenNext {E : Type 0} (course : Course) (state : LexerState) (taken : Result (ℕ × Token × ℕ) E) : Type 0 where
+  pub text : IsCourse course state.reader.text.now
   pub going : state.has_ended ≡ false
-  pub few : state.yielded_count ≤ length (outcome state.reader.text.now).lexemes
-  pub ahead : IfOk taken (λ lexeme. IsAheadAfter state.reader.text.now (Some lexeme) state.reader (left_in state) (outcome state.reader.text.now).fault)
-  pub memory : OnErr taken (IsSomething (left_in state) (outcome state.reader.text.now).fault)
+  pub few : state.yielded_count ≤ length course.lexemes
+  pub ahead : IfOk taken (λ lexeme. IsAheadAfter course.origin state.reader.text.now (Some lexeme) state.reader (left_in course state) course.fault)
+  pub memory : OnErr taken (IsSomething (left_in course state) course.fault)
 
 -- The reader read what comes next: the first lexeme that is left, or nothing at a fault and at the text's end; or it ran out
 -- of memory in the place of either.
-pub record IsReadNext {E : Type 0} (state : LexerState) (read : Result (Option (ℕ × Token × ℕ)) E) : Type 0 where
-  pub text : IsText state.reader.text.now
+pub record IsReadNext {E : Type 0} (course : Course) (state : LexerState) (read : Result (Option (ℕ × Token × ℕ)) E) : Type 0 where
+  pub text : IsCourse course state.reader.text.now
   pub going : state.has_ended ≡ false
-  pub few : state.yielded_count ≤ length (outcome state.reader.text.now).lexemes
-  pub ahead : IfOk read (λ given. IsAheadAfter state.reader.text.now given state.reader (left_in state) (outcome state.reader.text.now).fault)
+  pub few : state.yielded_count ≤ length course.lexemes
+  pub ahead : IfOk read (λ given. IsAheadAfter course.origin state.reader.text.now given state.reader (left_in course state) course.fault)
   pub end : IfOk read (λ given. given ≡ None → IsAtEnd state.reader.text.now state.reader)
-  pub memory : OnErr read (IsSomething (left_in state) (outcome state.reader.text.now).fault)
+  pub memory : OnErr read (IsSomething (left_in course state) course.fault)
   pub reads : OnOk read (HasRead state.reader.text.now state.reader)
 
 -- how many lexemes a kind is
@@ -188,20 +233,20 @@ made_view passed token = record { begin = passed.begin; node = token_view token;
 
 -- What a step passed, by its kind: the first lexeme that is left; nothing where none is; or out of memory in the place of an
 -- item.
-abbrev pub HasPassedAs : LexerState → Kind → Passed → LexerState → Type 0
-HasPassedAs old kind.Layout passed new = ⊥
-HasPassedAs old kind.Last passed new = IsAtEnd old.reader.text.now new.reader
-HasPassedAs old kind.OutOfMemory passed new = IsSomething (left_in old) (outcome old.reader.text.now).fault
-HasPassedAs old kind.Made passed new = IsAheadPast old.reader.text.now (made_view passed new.token) new.reader (left_in old) (outcome old.reader.text.now).fault
-HasPassedAs old it passed new = IsPlainIn old.reader.text.now passed × IsAheadPast old.reader.text.now (plain_view old.reader.text.now passed) new.reader (left_in old) (outcome old.reader.text.now).fault
+abbrev pub HasPassedAs : Course → LexerState → Kind → Passed → LexerState → Type 0
+HasPassedAs course old kind.Layout passed new = ⊥
+HasPassedAs course old kind.Last passed new = IsAtEnd old.reader.text.now new.reader
+HasPassedAs course old kind.OutOfMemory passed new = IsSomething (left_in course old) course.fault
+HasPassedAs course old kind.Made passed new = IsAheadPast course.origin old.reader.text.now (made_view passed new.token) new.reader (left_in course old) course.fault
+HasPassedAs course old it passed new = IsPlainIn old.reader.text.now passed × IsAheadPast course.origin old.reader.text.now (plain_view old.reader.text.now passed) new.reader (left_in course old) course.fault
 
-abbrev pub HasPassed : LexerState → Passed → LexerState → Type 0
-HasPassed old passed new = HasPassedAs old passed.kind passed new
+abbrev pub HasPassed : Course → LexerState → Passed → LexerState → Type 0
+HasPassed course old passed new = HasPassedAs course old passed.kind passed new
 
 -- A step passed it, where no error had ended the lexer.
-pub record HasPassedNext (old : LexerState) (what : Passed) (new : LexerState) : Type 0 where
-  pub passed : HasPassed old what new
-  pub lexing : IsLexing new
+pub record HasPassedNext (course : Course) (old : LexerState) (what : Passed) (new : LexerState) : Type 0 where
+  pub passed : HasPassed course old what new
+  pub lexing : IsLexing course new
   pub after : view_of new ≡ record (view_of old) { yielded_count = old.yielded_count + passed_count what.kind; has_ended = is_out_of_memory what.kind; reads = new.reader.reads }
 
 -- how much is left to look at, before code
@@ -214,59 +259,59 @@ abbrev pub left_to_pass : LexerState → ℕ
 left_to_pass state = 2 * left_to_read state.reader.text.now state.reader state.reader.stage + left_to_look state.is_at_code
 
 -- What has no lexeme was passed.
-pub record HasGoneOn (old new : LexerState) : Type 0 where
-  pub lexing : IsLexing new
+pub record HasGoneOn (course : Course) (old new : LexerState) : Type 0 where
+  pub lexing : IsLexing course new
   pub after : view_of new ≡ record (view_of old) { reads = new.reader.reads }
   pub less : left_to_pass new < left_to_pass old
 
 -- What was passed: what has no lexeme, or else; its offsets are the state's.
-abbrev pub HasAdvanced : LexerState → Kind → LexerState → Type 0
-HasAdvanced old kind.Layout new = HasGoneOn old new
-HasAdvanced old it new = HasPassedNext old (passed_of new it) new
+abbrev pub HasAdvanced : Course → LexerState → Kind → LexerState → Type 0
+HasAdvanced course old kind.Layout new = HasGoneOn course old new
+HasAdvanced course old it new = HasPassedNext course old (passed_of new it) new
 
 -- The lexer is at a word in code, which was found by at most so many reads, and all that was read before is paid for.
-pub record IsAtWord (state : LexerState) (word : Word) (most : ℕ) : Type 0 where
-  pub text : IsText state.reader.text.now
+pub record IsAtWord (course : Course) (state : LexerState) (word : Word) (most : ℕ) : Type 0 where
+  pub text : IsCourse course state.reader.text.now
   pub going : state.has_ended ≡ false
-  pub few : state.yielded_count ≤ length (outcome state.reader.text.now).lexemes
-  pub ahead : IsAhead state.reader.text.now state.reader state.reader.stage (left_in state) (outcome state.reader.text.now).fault
+  pub few : state.yielded_count ≤ length course.lexemes
+  pub ahead : IsAhead course.origin state.reader.text.now state.reader state.reader.stage (left_in course state) course.fault
   pub stands : IsWordHere state.reader.text.now state.reader word
   pub code : state.is_at_code ≡ true
   pub read : HasPeeked state.reader.text.now word.len most state.reader
 
 -- The lexer is at the opener of a literal, after which a run without escapes was looked at.
-pub record IsAtLiteral (state : LexerState) (opener : Word) (run : ℕ) : Type 0 where
-  pub text : IsText state.reader.text.now
+pub record IsAtLiteral (course : Course) (state : LexerState) (opener : Word) (run : ℕ) : Type 0 where
+  pub text : IsCourse course state.reader.text.now
   pub going : state.has_ended ≡ false
-  pub few : state.yielded_count ≤ length (outcome state.reader.text.now).lexemes
-  pub ahead : IsAhead state.reader.text.now state.reader state.reader.stage (left_in state) (outcome state.reader.text.now).fault
+  pub few : state.yielded_count ≤ length course.lexemes
+  pub ahead : IsAhead course.origin state.reader.text.now state.reader state.reader.stage (left_in course state) course.fault
   pub stands : IsLiteralHere state.reader.text.now state.reader opener run
 
 -- The lexer is at the text of an f-string, whose first bytes were looked at.
-pub record IsAtText (state : LexerState) (run : ℕ) : Type 0 where
-  pub text : IsText state.reader.text.now
+pub record IsAtText (course : Course) (state : LexerState) (run : ℕ) : Type 0 where
+  pub text : IsCourse course state.reader.text.now
   pub going : state.has_ended ≡ false
-  pub few : state.yielded_count ≤ length (outcome state.reader.text.now).lexemes
-  pub ahead : IsAhead state.reader.text.now state.reader state.reader.stage (left_in state) (outcome state.reader.text.now).fault
+  pub few : state.yielded_count ≤ length course.lexemes
+  pub ahead : IsAhead course.origin state.reader.text.now state.reader state.reader.stage (left_in course state) course.fault
   pub stands : IsTextRun state.reader.text.now run state.reader
   pub read : HasPeeked state.reader.text.now run (8 * run + 4) state.reader
 
 -- The lexer is in code where no word begins.
-pub record IsAtWordless (state : LexerState) : Type 0 where
-  pub text : IsText state.reader.text.now
+pub record IsAtWordless (course : Course) (state : LexerState) : Type 0 where
+  pub text : IsCourse course state.reader.text.now
   pub going : state.has_ended ≡ false
-  pub few : state.yielded_count ≤ length (outcome state.reader.text.now).lexemes
-  pub ahead : IsAhead state.reader.text.now state.reader state.reader.stage (left_in state) (outcome state.reader.text.now).fault
+  pub few : state.yielded_count ≤ length course.lexemes
+  pub ahead : IsAhead course.origin state.reader.text.now state.reader state.reader.stage (left_in course state) course.fault
   pub code : IsAtCode state.reader.text.now state.reader
   pub none : language_front (drop state.reader.at state.reader.text.now) ≡ None
   pub read : HasPeeked state.reader.text.now 0 3 state.reader
 
 -- The lexer is in code, where the first two bytes tell no word, and none begins with a letter.
-pub record IsUnnamed (state : LexerState) : Type 0 where
-  pub text : IsText state.reader.text.now
+pub record IsUnnamed (course : Course) (state : LexerState) : Type 0 where
+  pub text : IsCourse course state.reader.text.now
   pub going : state.has_ended ≡ false
-  pub few : state.yielded_count ≤ length (outcome state.reader.text.now).lexemes
-  pub ahead : IsAhead state.reader.text.now state.reader state.reader.stage (left_in state) (outcome state.reader.text.now).fault
+  pub few : state.yielded_count ≤ length course.lexemes
+  pub ahead : IsAhead course.origin state.reader.text.now state.reader state.reader.stage (left_in course state) course.fault
   pub code : IsAtCode state.reader.text.now state.reader
   pub unnamed : begins is_name_start (drop state.reader.at state.reader.text.now) ≡ false
   pub marks : begins_mark (drop state.reader.at state.reader.text.now) ≡ false

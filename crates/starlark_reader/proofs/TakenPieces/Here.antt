@@ -10,7 +10,7 @@ use Rattle.starlark_token.specs.TokenViews.{Whole, token_view}
 use Rattle.starlark_token.specs.declared.tokens.Token.{Token}
 use Rattle.starlark_grammar.specs.Pieces.{Before, Piece, Stands, Fails}
 use Rattle.starlark_grammar.specs.Reading.{History}
-use Rattle.starlark_reader.specs.Inner.Reader.{IsStateAfter, before_view, history_from, step_here}
+use Rattle.starlark_reader.specs.Inner.Reader.{IsStateAfter, Origin, before_view, history_from, step_here}
 use Rattle.starlark_reader.specs.declared.reader.Before as code
 use Rattle.starlark_reader.specs.declared.reader.Before.TheVariants as sort
 use Rattle.starlark_reader.specs.declared.reader.Reader.{Reader}
@@ -36,7 +36,7 @@ pub record IsHere (old new : Reader) : Type 0 where
   pub levels : new.levels ≡ old.levels
   pub before : new.before ≡ old.before
 
-pub kept_here : (text : Text) (history : History) (old new : Reader) → IsHere old new → IsStateAfter text history old → IsStateAfter text history new
+pub kept_here : {origin : Origin} → (text : Text) (history : History) (old new : Reader) → IsHere old new → IsStateAfter origin text history old → IsStateAfter origin text history new
 kept_here text history old new here kept = record {
   nesting = rw here.nesting kept.nesting;
   levels = rw here.levels kept.levels;
@@ -45,17 +45,17 @@ kept_here text history old new here kept = record {
   boundary = rw here.at kept.boundary;
   few = rw (here.nesting, here.at) kept.few;
   onward = ap (λ at. history_from history (drop at text)) here.at ∙ kept.onward;
-  read = rw here.at kept.read;
+  read = λ start. rw here.at (kept.read start);
 }
 
 -- a piece here is not empty, and is in the text
-pub piece_here : (text : Text) (history : History) (reader : Reader) (piece : Piece) → IsStateAfter text history reader → step_here text history reader ≡ Stands piece → (1 ≤ piece.len) × (reader.at + piece.len ≤ length text)
+pub piece_here : {origin : Origin} → (text : Text) (history : History) (reader : Reader) (piece : Piece) → IsStateAfter origin text history reader → step_here text history reader ≡ Stands piece → (1 ≤ piece.len) × (reader.at + piece.len ≤ length text)
 piece_here text history reader piece kept stands =
     let fits = piece_fits language history (drop reader.at text) piece stands in
     (omega (arith, (after_some reader.before history.before kept.before).1, fits.some), omega (arith, fits.inside, length-drop reader.at text, kept.inside))
 
 -- a fault here is in the text
-pub fault_here : (text : Text) (history : History) (reader : Reader) (fault : Spanned Fault) → IsStateAfter text history reader → step_here text history reader ≡ Fails fault → (fault.begin ≤ fault.end) × (reader.at + fault.end ≤ length text)
+pub fault_here : {origin : Origin} → (text : Text) (history : History) (reader : Reader) (fault : Spanned Fault) → IsStateAfter origin text history reader → step_here text history reader ≡ Fails fault → (fault.begin ≤ fault.end) × (reader.at + fault.end ≤ length text)
 fault_here text history reader fault kept fails = search (rules, fault_fits, length-drop)
 
 -- a token that begins no f-string is shown as it is

@@ -46,7 +46,7 @@ use Rattle.starlark_token.specs.declared.lexeme_error.LexemeError.{LexemeError}
 use Rattle.starlark_token.specs.declared.tokens.Token.{Token}
 use Rattle.starlark_words.specs.declared.scanner.word.Word.{Word}
 use Rattle.starlark_reader.specs.Inner.PieceViews.{IsAfter, is_code, nothing_of}
-use Rattle.starlark_reader.specs.Inner.Reader.{IsAhead, IsAheadAfter, IsAheadPast, IsAtStep, IsBangHere, IsPlainTextHere, IsStateAfter, IsRead, IsReadPast, IsReady, IsTokenOf, IsWordHere, Takes, before_view, left_here, silent_sort, step_here}
+use Rattle.starlark_reader.specs.Inner.Reader.{IsAhead, IsAheadAfter, IsAheadPast, IsAtStep, IsBangHere, IsPlainTextHere, IsRead, IsReadPast, IsReady, IsStateAfter, IsTokenOf, IsWordHere, Origin, Takes, before_view, left_here, silent_sort, step_here}
 use Rattle.starlark_reader.specs.Inner.StepViews.{IsDigitAt}
 use Rattle.starlark_token.specs.TokenViews.{TokenView, Whole, token_view}
 use Rattle.starlark_reader.specs.declared.nesting.LexerMode.{LexerMode}
@@ -93,7 +93,7 @@ chunk_braces opening text = by (body_at (record { kind = OfFString; opening = op
     by body stop = tt
 
 -- a token that opens a brace is in code
-pub brace_in_code : (text : Text) (history : History) (reader : Reader) (len : ℕ) (node : Tokens.Token) → IsStateAfter text history reader → step_here text history reader ≡ pieces.token len node → is_opening Curly node ≡ true → is_code (mode_after history.tokens) ≡ true
+pub brace_in_code : {origin : Origin} → (text : Text) (history : History) (reader : Reader) (len : ℕ) (node : Tokens.Token) → IsStateAfter origin text history reader → step_here text history reader ≡ pieces.token len node → is_opening Curly node ≡ true → is_code (mode_after history.tokens) ≡ true
 unfolding next_step situation
 brace_in_code text history reader len node kept stands brace = go (mode_after history.tokens) refl
   where
@@ -106,7 +106,7 @@ brace_in_code text history reader len node kept stands brace = go (mode_after hi
     go mode e = refl
 
 -- the f-string text without escapes that was read is the step at the reader's offset
-plain_read : (text rest : Text) (history : History) (reader : Reader) (opening : Opening) (found : Chunk) → rest ≡ drop reader.at text → IsStateAfter text history reader → mode_after history.tokens ≡ InText (opening_view opening)
+plain_read : {origin : Origin} → (text rest : Text) (history : History) (reader : Reader) (opening : Opening) (found : Chunk) → rest ≡ drop reader.at text → IsStateAfter origin text history reader → mode_after history.tokens ≡ InText (opening_view opening)
     → IsPlainText opening rest found → step_here text history reader ≡ text_step (take found.len (drop reader.at text)) found
 unfolding next_step situation
 plain_read text rest history reader opening found e kept mode is =
@@ -120,30 +120,30 @@ plain_here text rest reader mode opening (Ok found) e on idle in_text here is = 
   stage = on;
   idle = idle;
   boundary = subst (λ (t : Text). IsCharBoundary t found.len) e is.boundary;
-  stands = λ history kept. plain_read text rest history reader opening found e kept (sym (here history.tokens kept.nesting) ∙ ap mode_view in_text) is;
+  stands = λ origin history kept. plain_read text rest history reader opening found e kept (sym (here history.tokens kept.nesting) ∙ ap mode_view in_text) is;
 }
 
 -- the step of a word at the reader's offset
-pub word_read : (text : Text) (history : History) (reader : Reader) (word : Word) → IsStateAfter text history reader → IsWordHere text reader word
+pub word_read : {origin : Origin} → (text : Text) (history : History) (reader : Reader) (word : Word) → IsStateAfter origin text history reader → IsWordHere text reader word
     → step_here text history reader ≡ pieces.word_step (situation history) word.class (take word.len (drop reader.at text)) (drop word.len (drop reader.at text))
 unfolding next_step situation
 word_read text history reader word kept here =
     word_at (is_gap_sort reader.before) (situation history) (drop reader.at text) (mode_after history.tokens) word.class word.len (here.code history.tokens kept.nesting) (after_sort reader.before history.before kept.before) refl (sym here.front) here.bang
 
-pub name_here : (text : Text) (history : History) (reader : Reader) (len : ℕ) → IsStateAfter text history reader → IsWordHere text reader (record { class = class.Identifier; len = len }) → step_here text history reader ≡ pieces.token len (Tokens.Identifier (take len (drop reader.at text)))
+pub name_here : {origin : Origin} → (text : Text) (history : History) (reader : Reader) (len : ℕ) → IsStateAfter origin text history reader → IsWordHere text reader (record { class = class.Identifier; len = len }) → step_here text history reader ≡ pieces.token len (Tokens.Identifier (take len (drop reader.at text)))
 name_here text history reader len kept here =
     word_read text history reader (record { class = class.Identifier; len = len }) kept here ∙ ap (λ n. pieces.token n (Tokens.Identifier (take len (drop reader.at text)))) (word_len (drop reader.at text) class.Identifier len (sym here.front))
 
 -- a word has a byte at least, and lies inside of the text
-pub word_within : (text : Text) (history : History) (reader : Reader) (it : Class) (len : ℕ) → IsStateAfter text history reader → IsWordHere text reader (record { class = it; len = len }) → (1 ≤ len) × (reader.at + len ≤ length text)
+pub word_within : {origin : Origin} → (text : Text) (history : History) (reader : Reader) (it : Class) (len : ℕ) → IsStateAfter origin text history reader → IsWordHere text reader (record { class = it; len = len }) → (1 ≤ len) × (reader.at + len ≤ length text)
 word_within text history reader it len kept here =
     let rest = drop reader.at text in
     (word_some rest it len (sym here.front), omega (arith, word_len rest it len (sym here.front), length-take len rest, length-drop reader.at text, kept.inside))
 
-pub gap_here : (text : Text) (history : History) (reader : Reader) (len : ℕ) → IsStateAfter text history reader → IsWordHere text reader (record { class = class.Skipped; len = len }) → step_here text history reader ≡ pieces.gap len
+pub gap_here : {origin : Origin} → (text : Text) (history : History) (reader : Reader) (len : ℕ) → IsStateAfter origin text history reader → IsWordHere text reader (record { class = class.Skipped; len = len }) → step_here text history reader ≡ pieces.gap len
 gap_here text history reader len kept here = word_read text history reader (record { class = class.Skipped; len = len }) kept here ∙ ap pieces.gap (word_len (drop reader.at text) class.Skipped len (sym here.front))
 
-pub comment_here : (text : Text) (history : History) (reader : Reader) (len : ℕ) → IsStateAfter text history reader → IsWordHere text reader (record { class = class.Comment; len = len })
+pub comment_here : {origin : Origin} → (text : Text) (history : History) (reader : Reader) (len : ℕ) → IsStateAfter origin text history reader → IsWordHere text reader (record { class = class.Comment; len = len })
     → step_here text history reader ≡ pieces.token len (Tokens.Comment (take (reader.at + len - (reader.at + 1)) (drop (reader.at + 1) text)))
 comment_here text history reader len kept here =
     let rest = drop reader.at text in
@@ -155,7 +155,7 @@ comment_here text history reader len kept here =
     word_read text history reader (record { class = class.Comment; len = len }) kept here ∙ ap (λ n. pieces.token n (Tokens.Comment (drop 1 (take len rest)))) (word_len rest class.Comment len (sym here.front)) ∙ ap (λ t. pieces.token len (Tokens.Comment t)) value
 
 -- the value of a comment begins at a character boundary
-pub comment_cut : (text : Text) (history : History) (reader : Reader) (len : ℕ) → IsUtf8 text → IsStateAfter text history reader → IsWordHere text reader (record { class = class.Comment; len = len }) → IsCharBoundary text (reader.at + 1)
+pub comment_cut : {origin : Origin} → (text : Text) (history : History) (reader : Reader) (len : ℕ) → IsUtf8 text → IsStateAfter origin text history reader → IsWordHere text reader (record { class = class.Comment; len = len }) → IsCharBoundary text (reader.at + 1)
 comment_cut text history reader len utf8 kept here =
     let rest = drop reader.at text in
     let within = word_within text history reader class.Comment len kept here in
@@ -171,7 +171,7 @@ comment_cut text history reader len utf8 kept here =
 digit_word : (s : Situation) (digit : ℕ) (word remainder : Text) → word ≡ (digit + 48) ∷ [] → pieces.word_step s class.Decimal word remainder ≡ pieces.token 1 (Tokens.Int (integer_of 10 word))
 digit_word s digit word remainder e = rw e (rw (and-false (digit + 48 == 48)) refl)
 
-pub digit_step : (text : Text) (history : History) (reader : Reader) (digit : ℕ) (found : Token) → IsStateAfter text history reader → IsWordHere text reader (record { class = class.Decimal; len = 1 })
+pub digit_step : {origin : Origin} → (text : Text) (history : History) (reader : Reader) (digit : ℕ) (found : Token) → IsStateAfter origin text history reader → IsWordHere text reader (record { class = class.Decimal; len = 1 })
     → IsDigitAt digit (drop reader.at text) → token_view found ≡ Whole (Tokens.Int (integer_of 10 ((digit + 48) ∷ []))) → IsStep (step_here text history reader) (step.Token found 1)
 digit_step text history reader digit found kept here at view = (
   Tokens.Int (integer_of 10 (take 1 (drop reader.at text))),
@@ -191,9 +191,9 @@ bang_read text history reader top remainder bang = bang_at false (situation hist
     takes pieces.Gap after = cc
     takes pieces.Other after = refl
 
-pub bang_step : (text : Text) (history : History) (reader : Reader) → IsStateAfter text history reader → IsBangHere text reader → IsStep (step_here text history reader) (step.Token token.FStringBang 1)
+pub bang_step : {origin : Origin} → (text : Text) (history : History) (reader : Reader) → IsStateAfter origin text history reader → IsBangHere text reader → IsStep (step_here text history reader) (step.Token token.FStringBang 1)
 unfolding token_view
-bang_step text history reader kept here = (Tokens.FStringBang, refl, refl, here.stands history kept)
+bang_step {origin = origin} text history reader kept here = (Tokens.FStringBang, refl, refl, here.stands origin history kept)
 
 -- a literal without escapes that one quote closes
 plain_opener : (mode : Mode) (kind : LiteralKind) (is_raw : Bool) (quote : Quote) (begin count : ℕ) (remainder : Text) → kind ≢ OfFString → IsPlainBody kind is_raw quote remainder count
@@ -210,19 +210,19 @@ plain_opener mode kind is_raw quote begin count remainder other plain =
     closed : pieces.literal mode kind single begin remainder ≡ pieces.token (begin + count + 1) (pieces.literal_token kind (take count remainder))
     closed = rw (plain.stop, plain.len, plain.value) refl
 
-plain_front : (text : Text) (history : History) (reader : Reader) (kind : LiteralKind) (is_raw : Bool) (quote : Quote) (len count : ℕ) → kind ≢ OfFString → IsStateAfter text history reader
+plain_front : {origin : Origin} → (text : Text) (history : History) (reader : Reader) (kind : LiteralKind) (is_raw : Bool) (quote : Quote) (len count : ℕ) → kind ≢ OfFString → IsStateAfter origin text history reader
     → IsWordHere text reader (record { class = class.Opener kind is_raw quote; len = len }) → IsPlainBody kind is_raw quote (drop len (drop reader.at text)) count
     → step_here text history reader ≡ pieces.token (len + count + 1) (pieces.literal_token kind (take count (drop len (drop reader.at text))))
 unfolding situation
 plain_front text history reader kind is_raw quote len count other kept here plain =
     rw (word_read text history reader (record { class = class.Opener kind is_raw quote; len = len }) kept here, word_len (drop reader.at text) (class.Opener kind is_raw quote) len (sym here.front)) (plain_opener (mode_after history.tokens) kind is_raw quote len count (drop len (drop reader.at text)) other plain)
 
-pub text_here : (text : Text) (history : History) (reader : Reader) (is_raw : Bool) (quote : Quote) (len count : ℕ) → IsStateAfter text history reader
+pub text_here : {origin : Origin} → (text : Text) (history : History) (reader : Reader) (is_raw : Bool) (quote : Quote) (len count : ℕ) → IsStateAfter origin text history reader
     → IsWordHere text reader (record { class = class.Opener OfText is_raw quote; len = len }) → IsPlainBody OfText is_raw quote (drop len (drop reader.at text)) count
     → step_here text history reader ≡ pieces.token (len + count + 1) (Tokens.String (take count (drop len (drop reader.at text))))
 text_here text history reader is_raw quote len count kept here plain = plain_front text history reader OfText is_raw quote len count (λ e. cc) kept here plain
 
-pub bytes_step : (text : Text) (history : History) (reader : Reader) (is_raw : Bool) (quote : Quote) (len count : ℕ) (value : Vec ℕ Global) → IsStateAfter text history reader
+pub bytes_step : {origin : Origin} → (text : Text) (history : History) (reader : Reader) (is_raw : Bool) (quote : Quote) (len count : ℕ) (value : Vec ℕ Global) → IsStateAfter origin text history reader
     → IsWordHere text reader (record { class = class.Opener OfBytes is_raw quote; len = len }) → IsPlainBody OfBytes is_raw quote (drop len (drop reader.at text)) count
     → value.items ≡ take count (drop len (drop reader.at text)) → IsStep (step_here text history reader) (step.Token (token.Bytes value) (len + count + 1))
 unfolding token_view situation
@@ -233,7 +233,7 @@ bytes_step text history reader is_raw quote len count value kept here plain is =
   plain_front text history reader OfBytes is_raw quote len count (λ e. cc) kept here plain,
 )
 
-pub terminal_step : (text : Text) (history : History) (reader : Reader) (terminal : Terminal) (len : ℕ) (found : Token) → IsStateAfter text history reader → IsWordHere text reader (record { class = class.Fixed terminal; len = len })
+pub terminal_step : {origin : Origin} → (text : Text) (history : History) (reader : Reader) (terminal : Terminal) (len : ℕ) (found : Token) → IsStateAfter origin text history reader → IsWordHere text reader (record { class = class.Fixed terminal; len = len })
     → token_view found ≡ Whole (pieces.terminal_token (mode_after history.tokens) terminal) → IsStep (step_here text history reader) (step.Token found len)
 unfolding situation
 terminal_step text history reader terminal len found kept here view = (
@@ -260,7 +260,7 @@ brace_deeper modes.AtTop other = absurd (other refl)
 brace_deeper modes.Deeper other = refl
 
 -- the step of an f-string's start, from its opener and the text after that
-pub fstring_step : (text : Text) (history : History) (reader : Reader) (is_raw : Bool) (quote : Quote) (opening : Tokens.Opening) (word len : ℕ) → IsStateAfter text history reader → IsWordHere text reader (record { class = class.Opener OfFString is_raw quote; len = word })
+pub fstring_step : {origin : Origin} → (text : Text) (history : History) (reader : Reader) (is_raw : Bool) (quote : Quote) (opening : Tokens.Opening) (word len : ℕ) → IsStateAfter origin text history reader → IsWordHere text reader (record { class = class.Opener OfFString is_raw quote; len = word })
     → opening ≡ pieces.opening_of is_raw quote (drop word (drop reader.at text)) → len ≡ word + pieces.more_quotes opening
     → step_here text history reader ≡ pieces.token len (Tokens.FStringStart opening)
 unfolding situation
@@ -268,7 +268,7 @@ fstring_step text history reader is_raw quote opening word len kept here is whol
     rw (word_read text history reader (record { class = class.Opener OfFString is_raw quote; len = word }) kept here, word_len (drop reader.at text) (class.Opener OfFString is_raw quote) word (sym here.front), whole, is) refl
 
 -- the step of a newline at the reader's offset, by whether it counts
-pub line_end_step : (text : Text) (history : History) (reader : Reader) (len : ℕ) (counts : Bool) → IsStateAfter text history reader → IsWordHere text reader (record { class = class.LineEnd; len = len })
+pub line_end_step : {origin : Origin} → (text : Text) (history : History) (reader : Reader) (len : ℕ) (counts : Bool) → IsStateAfter origin text history reader → IsWordHere text reader (record { class = class.LineEnd; len = len })
     → ((before : List Tokens.Token) → Represents before reader.nesting → counts ≡ pieces.counts (mode_after before) (is_balanced before))
     → step_here text history reader ≡ (if counts then pieces.line_end len (open_widths history.widths) (drop len (drop reader.at text)) else pieces.piece len [])
 unfolding situation
@@ -281,27 +281,27 @@ line_end_step text history reader len counts kept here is =
 module _ (old : Reader) (begin end : ℕ) (fault : LexemeError) where
   pub refused_fits : IsAtStep old (λ history found. IsStep found (step.Fault begin fault end)) → (old.at + begin < 2 ^ 64) × (old.at + end < 2 ^ 64)
   refused_fits here =
-      let inside = fault_here old.text.now here.stands.0 old (record { begin = begin; node = here.stands.2.0; end = end }) here.stands.1 here.stands.2.2 in
+      let inside = fault_here old.text.now here.stands.1 old (record { begin = begin; node = here.stands.3.0; end = end }) here.stands.2 here.stands.3.2 in
       (omega (arith, inside.0, inside.1, here.text.fits), omega (arith, inside.1, here.text.fits))
 
   pub refused_read : IsIdle old.text.now old.pending → Takes old (λ history found. IsStep found (step.Fault begin fault end)) None (record old { stage = stage.Fault (old.at + begin) fault (old.at + end) })
-  refused_read idle = λ history kept stands.
+  refused_read idle = λ origin history kept stands.
       failed old.text.now history old _ (record { begin = begin; node = stands.0; end = end }) fault kept stands.2 stands.1 refl (hands_none old.text.now old.pending idle) (record { at = refl; nesting = refl; levels = refl; before = refl })
 
 -- what is left after the reader's offset
-pub left_onward : (text : Text) (reader : Reader) (lexemes : List (Spanned TokenView)) (fault : Option (Spanned Fault)) → reader.stage ≡ stage.Onward → IsAhead text reader reader.stage lexemes fault → IsAhead text reader stage.Onward lexemes fault
-left_onward text reader lexemes fault on ahead = subst (λ (s : Stage). IsAhead text reader s lexemes fault) on ahead
+pub left_onward : {origin : Origin} → (text : Text) (reader : Reader) (lexemes : List (Spanned TokenView)) (fault : Option (Spanned Fault)) → reader.stage ≡ stage.Onward → IsAhead origin text reader reader.stage lexemes fault → IsAhead origin text reader stage.Onward lexemes fault
+left_onward {origin = origin} text reader lexemes fault on ahead = subst (λ (s : Stage). IsAhead origin text reader s lexemes fault) on ahead
 
 -- what is ahead once one lexeme was passed here, whatever the history
-pub onward_past : (text : Text) (old : Reader) (lexeme : Spanned TokenView) (new : Reader) (lexemes : List (Spanned TokenView)) (fault : Option (Spanned Fault)) → ((history : History) → IsStateAfter text history old → IsReadPast text (left_here text history old) (lexeme ∷ []) new)
-    → IsIdle text old.pending → IsAhead text old stage.Onward lexemes fault → IsAheadPast text lexeme new lexemes fault
+pub onward_past : {origin : Origin} → (text : Text) (old : Reader) (lexeme : Spanned TokenView) (new : Reader) (lexemes : List (Spanned TokenView)) (fault : Option (Spanned Fault)) → ((history : History) → IsStateAfter origin text history old → IsReadPast origin text (left_here text history old) (lexeme ∷ []) new)
+    → IsIdle text old.pending → IsAhead origin text old stage.Onward lexemes fault → IsAheadPast origin text lexeme new lexemes fault
 onward_past text old lexeme new lexemes fault read idle ahead =
     let both = none_before text old stage.Onward lexemes fault (left_here text ahead.is_left.0 old) idle ahead ahead.is_left.2 in
     past_ahead text (left_here text ahead.is_left.0 old) lexeme new lexemes fault (read ahead.is_left.0 ahead.is_left.1) both.0 both.1
 
 -- what is ahead is still ahead after the piece here is read, whatever the history
-pub onward_ahead : (text : Text) (old : Reader) (given : Option (ℕ × Token × ℕ)) (new : Reader) (lexemes : List (Spanned TokenView)) (fault : Option (Spanned Fault)) → ((history : History) → IsStateAfter text history old → IsRead text (left_here text history old) given new)
-    → IsIdle text old.pending → IsAhead text old stage.Onward lexemes fault → IsAheadAfter text given new lexemes fault
+pub onward_ahead : {origin : Origin} → (text : Text) (old : Reader) (given : Option (ℕ × Token × ℕ)) (new : Reader) (lexemes : List (Spanned TokenView)) (fault : Option (Spanned Fault)) → ((history : History) → IsStateAfter origin text history old → IsRead origin text (left_here text history old) given new)
+    → IsIdle text old.pending → IsAhead origin text old stage.Onward lexemes fault → IsAheadAfter origin text given new lexemes fault
 onward_ahead text old given new lexemes fault read idle ahead = search (rules, none_before, read_ahead)
 
 abbrev pub nothing_piece : ℕ → Bool → Piece
@@ -309,8 +309,8 @@ nothing_piece len true = record { len = len; lexemes = []; width = None; sort = 
 nothing_piece len false = record { len = len; lexemes = []; width = None; sort = pieces.Other }
 
 -- a piece without lexemes changes only the offset and the kind of the piece before it
-pub nothing_taken : (text : Text) (history : History) (old new : Reader) (len : ℕ) (is_gap : Bool) → IsUtf8 text → IsStateAfter text history old → step_here text history old ≡ nothing_of len is_gap → IsIdle text old.pending
-    → new ≡ record old { at = old.at + len; before = silent_sort is_gap; stage = stage.Onward } → IsRead text (left_here text history old) None new
+pub nothing_taken : {origin : Origin} → (text : Text) (history : History) (old new : Reader) (len : ℕ) (is_gap : Bool) → IsUtf8 text → IsStateAfter origin text history old → step_here text history old ≡ nothing_of len is_gap → IsIdle text old.pending
+    → new ≡ record old { at = old.at + len; before = silent_sort is_gap; stage = stage.Onward } → IsRead origin text (left_here text history old) None new
 nothing_taken text history old new len true utf8 kept stands idle is =
     let here = piece_here text history old (nothing_piece len true) kept stands in
     rw is (took_past text history old _ _ (nothing_piece len true) utf8 kept stands refl kept.nesting (kept.levels ∙ ap open_widths (sym (append-nil history.widths))) refl refl (omega (arith, kept.few, here.0)) refl (hands_none text old.pending idle))
@@ -322,11 +322,11 @@ nothing_taken text history old new len false utf8 kept stands idle is =
 abbrev pub one_token : ℕ → Tokens.Token → Piece
 one_token len node = record { len = len; lexemes = record { begin = 0; node = node; end = len } ∷ []; width = None; sort = pieces.Other }
 
-pub token_inside : (text : Text) (history : History) (reader : Reader) (len : ℕ) (node : Tokens.Token) → IsStateAfter text history reader → step_here text history reader ≡ pieces.token len node → (1 ≤ len) × (reader.at + len ≤ length text)
+pub token_inside : {origin : Origin} → (text : Text) (history : History) (reader : Reader) (len : ℕ) (node : Tokens.Token) → IsStateAfter origin text history reader → step_here text history reader ≡ pieces.token len node → (1 ≤ len) × (reader.at + len ≤ length text)
 token_inside text history reader len node kept stands = piece_here text history reader (one_token len node) kept stands
 
-pub token_passed : (text : Text) (history : History) (old new : Reader) (len : ℕ) (node : Tokens.Token) → IsUtf8 text → IsStateAfter text history old → step_here text history old ≡ pieces.token len node → IsIdle text old.pending → is_fstring_start node ≡ false
-    → keeps_nesting (Whole node) ≡ true → new ≡ record old { at = old.at + len; before = before.Other; stage = stage.Onward } → IsReadPast text (left_here text history old) (record { begin = old.at; node = Whole node; end = old.at + len } ∷ []) new
+pub token_passed : {origin : Origin} → (text : Text) (history : History) (old new : Reader) (len : ℕ) (node : Tokens.Token) → IsUtf8 text → IsStateAfter origin text history old → step_here text history old ≡ pieces.token len node → IsIdle text old.pending → is_fstring_start node ≡ false
+    → keeps_nesting (Whole node) ≡ true → new ≡ record old { at = old.at + len; before = before.Other; stage = stage.Onward } → IsReadPast origin text (left_here text history old) (record { begin = old.at; node = Whole node; end = old.at + len } ∷ []) new
 token_passed text history old new len node utf8 kept stands idle own keeps is =
     let here = piece_here text history old (one_token len node) kept stands in
     let start : old.at + 0 ≡ old.at = omega arith in
@@ -344,5 +344,5 @@ terminal_shown mode terminal view is = rw is refl
 -- a word at the reader's offset ends at a character boundary
 pub word_boundary : (text : Text) (reader : Reader) (word : Word) → IsUtf8 text → IsReady text reader reader.stage → IsWordHere text reader word → IsCharBoundary text (reader.at + word.len)
 word_boundary text reader word utf8 ready here =
-    let left = (left_onward text reader ready.0 ready.1 here.stage ready.2).is_left in
+    let left = (left_onward text reader ready.1 ready.2 here.stage ready.3).is_left in
     boundary_shift text reader.at word.len left.1.boundary (word_cut (drop reader.at text) word.class word.len (IsUtf8-drop text reader.at utf8 left.1.boundary) (sym here.front))

@@ -11,7 +11,7 @@ use Rattle.starlark_grammar.specs.declared.class.LiteralKind.{LiteralKind}
 use Rattle.starlark_grammar.specs.declared.class.Opening as code
 use Rattle.starlark_grammar.specs.declared.class.Quote.{Quote}
 use Rattle.starlark_token.specs.TokenViews.{TokenView}
-use Rattle.starlark_reader.specs.Inner.Reader.{IsAhead, IsLeft, IsStateAfter, history_of, step_here}
+use Rattle.starlark_reader.specs.Inner.Reader.{IsAhead, IsLeft, IsStateAfter, Origin, history_since, step_here}
 use Rattle.starlark_words.specs.Inner.LiteralViews.{fstring_literal, single_literal}
 use Rattle.starlark_words.specs.Inner.PlainRuns.{IsRun}
 use Rattle.starlark_words.specs.Inner.Reads.{AreReads, more_reads}
@@ -40,7 +40,7 @@ onward_reads text len before old new has read passed =
     subst (HasReadAt text new) (sym passed.1) (omega (arith, has.0, read.0, passed.0.0, passed.0.1), omega (arith, has.1, read.1, passed.0.0, passed.0.1, passed.0.2))
 
 -- the reads after a token or an f-string text, or at a fault
-pub step_reads : (text : Text) (before : ℕ) (history : History) (step : ReadStep) (old new : Reader) → IsStateAfter text history old → IsStep (step_here text history old) step
+pub step_reads : {origin : Origin} → (text : Text) (before : ℕ) (history : History) (step : ReadStep) (old new : Reader) → IsStateAfter origin text history old → IsStep (step_here text history old) step
     → IsReadBefore before old.at (owed old.pending) → AreStepReads 0 10 (next_line (drop old.at text) 0) 10 step before old.reads → LeavesReads 0 (drop old.at text) step before old.reads → IsPassed old step new → HasRead text new
 step_reads text before history (steps.Token token len) old new kept stands has read leaves passed = onward_reads text len before old new has (omega (arith, read.0.0), omega (arith, read.0.1)) passed
 step_reads text before history (steps.Text value chunk) old new kept stands has read leaves passed = onward_reads text (chunk.len + chunk.stop_len) before old new has (omega (arith, read.0.0), omega (arith, read.0.1)) passed
@@ -80,17 +80,17 @@ text_run text rest reads reader opening (Err run) e onward idle inside other =
     (record { opening = opening; stage = onward; idle = idle; inside = inside; run = subst (λ (t : Text). IsRun (fstring_literal (opening_view opening)) t run) e other.0 }, (refl, refl, omega arith, other.1))
 
 -- a state doesn't depend on the number of reads
-pub state_reads : (text : Text) (history : History) (reader : Reader) (reads : ℕ) → IsStateAfter text history reader → IsStateAfter text history (record reader { reads = reads })
+pub state_reads : {origin : Origin} → (text : Text) (history : History) (reader : Reader) (reads : ℕ) → IsStateAfter origin text history reader → IsStateAfter origin text history (record reader { reads = reads })
 state_reads text history reader reads state =
     record { nesting = state.nesting; levels = state.levels; before = state.before; inside = state.inside; boundary = state.boundary; few = state.few; onward = state.onward; read = state.read }
 
-pub reads_ahead : (text : Text) (reader : Reader) (reads : ℕ) (stage : Stage) (lexemes : List (Spanned TokenView)) (fault : Option (Spanned Fault)) → IsAhead text reader stage lexemes fault
-    → IsAhead text (record reader { reads = reads }) stage lexemes fault
-reads_ahead text reader reads stage lexemes fault ahead =
+pub reads_ahead : {origin : Origin} → (text : Text) (reader : Reader) (reads : ℕ) (stage : Stage) (lexemes : List (Spanned TokenView)) (fault : Option (Spanned Fault)) → IsAhead origin text reader stage lexemes fault
+    → IsAhead origin text (record reader { reads = reads }) stage lexemes fault
+reads_ahead {origin = origin} text reader reads stage lexemes fault ahead =
     record { left = ahead.left; is_left = by_stage stage ahead.is_left; is_pending = ahead.is_pending; ahead = ahead.ahead; those_after = ahead.those_after; cut = ahead.cut; cuts = ahead.cuts }
   where
-    by_stage : (stage : Stage) → IsLeft text reader stage ahead.left → IsLeft text (record reader { reads = reads }) stage ahead.left
+    by_stage : (stage : Stage) → IsLeft origin text reader stage ahead.left → IsLeft origin text (record reader { reads = reads }) stage ahead.left
     by_stage stages.Begin left = left
     by_stage stages.Onward left = (left.0, state_reads text left.0 reader reads left.1, left.2)
-    by_stage (stages.Fault begin fault end) left = (left.0, left.1, left.2, left.3, left.4, λ untabbed. state_reads text (history_of text) reader reads (left.5 untabbed))
-    by_stage stages.Closed left = (left.0, state_reads text (history_of text) reader reads left.1)
+    by_stage (stages.Fault begin fault end) left = (left.0, left.1, left.2, left.3, left.4, λ untabbed. state_reads text (history_since origin text) reader reads (left.5 untabbed), left.6)
+    by_stage stages.Closed left = (left.0, state_reads text (history_since origin text) reader reads left.1)

@@ -1,4 +1,4 @@
--- A reader that goes on after a repair, in the repaired text.
+-- Reading on after a fault that keeps its line, and the reading of the repaired text.
 use Rattle.std.proofs.Common.{◌≡◌, ℕ, zero, suc, ◌-◌, ◌≤◌, true, false, None, Some, List, [], ◌++◌, map, length, drop, replicate, refl, ap, ◌∙◌, sym, subst, arith}
 use Rattle.std.proofs.lemmas.Bool.{and_parts, false_from_ne_true}
 use Rattle.starlark_grammar.specs.AfterFaults.{is_margin_tab}
@@ -27,7 +27,7 @@ use Rattle.starlark_grammar.proofs.Repairs.Readings.{IsRepaired, closes, is_repa
 use Rattle.starlark_grammar.proofs.Repairs.Semicolons.{is_in_text, semicolon, semicolons_len}
 use Rattle.starlark_reader.specs.Inner.Nesting.{Represents, bracket_count}
 use Rattle.starlark_reader.specs.Inner.Pending.{IsIdle}
-use Rattle.starlark_reader.specs.Inner.Reader.{IsAhead, IsLeft, IsStateAfter, before_view, begins_with_tab, history_from, history_of, outcome_along, remaining_outcome}
+use Rattle.starlark_reader.specs.Inner.Reader.{HasKept, begins_with_tab, history_from, history_of, outcome_along, remaining_outcome}
 use Rattle.starlark_reader.specs.declared.nesting.Nesting.{Nesting}
 use Rattle.starlark_reader.specs.declared.reader.Before.TheVariants as sort
 use Rattle.starlark_reader.specs.declared.reader.Reader.{Reader}
@@ -54,9 +54,13 @@ left_same history at text = by (read_from language history 0 text).pieces (read_
     by pieces (Fails fault) = refl
     by pieces last = refl
 
-module _ (text : Text) (fault : Spanned Fault) (keeps : KeepsLine text fault) (old new : Reader) where
+module _ (text : Text) (fault : Spanned Fault) (keeps : KeepsLine text fault) where
   abbrev is : IsRepaired text fault
   is = is_repaired text fault keeps
+
+  -- the history after the repair
+  abbrev pub history_there : History
+  history_there = is.history
 
   begun : is_nothing (after_all nothing is.pieces).before ≡ false
   unfolding situation
@@ -66,66 +70,33 @@ module _ (text : Text) (fault : Spanned Fault) (keeps : KeepsLine text fault) (o
   unfolding history_of
   history_is = is.past ∙ ap (after_all nothing) is.whole ∙ past_append nothing (read language text).pieces (replicate (repair_end text fault - fault.begin) semicolon)
 
-  -- what a reader had read is before the end of the repair
-  earlier : IsStateAfter text (history_of text) old → is_nothing (history_of text).before ≡ false → old.at ≤ repair_end text fault
-  earlier kept some =
-      let to = kept.read in
-      omega (
-        arith,
-        to.reach,
-        is.reach,
-        is.bytes,
-        ap pieces_len (reading_prefix text to.pieces to.reads (ap (λ (h : History). is_nothing h.before) to.is_history ∙ some)),
-        pieces_append to.pieces ((read_from language (after_all nothing to.pieces) 0 (drop (pieces_len to.pieces) text)).pieces),
-        ap pieces_len is.whole,
-        pieces_append (read language text).pieces (replicate (repair_end text fault - fault.begin) semicolon),
-        semicolons_len (repair_end text fault - fault.begin),
-      )
+  -- what was open at the fault is open
+  pub kept_there : HasKept (history_of text) history_there
+  unfolding situation history_of
+  kept_there = record {
+    nesting = λ nesting same. subst (λ (h : History). Represents h.tokens nesting) (sym history_is) (semicolons_represented (repair_end text fault - fault.begin) (history_of text) nesting same);
+    levels = ap (λ (h : History). open_widths h.widths) is.past ∙ ap (λ (s : Situation). s.levels) is.state;
+    before = ap (λ (h : History). h.before) is.past ∙ ap (λ (s : Situation). s.before) is.state;
+  }
 
-  pub state_repaired : IsStateAfter text (history_of text) old → is_nothing (history_of text).before ≡ false → IsCharBoundary (repaired text fault) (repair_end text fault)
-      → new.nesting ≡ old.nesting → new.levels ≡ old.levels → new.before ≡ sort.Other → new.at ≡ repair_end text fault → IsStateAfter (repaired text fault) is.history new
-  unfolding situation history_of history_from
-  state_repaired kept some boundary nesting levels before at =
-      record {
-        nesting = rw nesting (subst (λ (h : History). Represents h.tokens old.nesting) (sym history_is) (semicolons_represented (repair_end text fault - fault.begin) (history_of text) old.nesting kept.nesting));
-        levels = levels ∙ kept.levels ∙ sym (ap (λ (h : History). open_widths h.widths) is.past ∙ ap (λ (s : Situation). s.levels) is.state);
-        before = ap before_view before ∙ sym (ap (λ (h : History). h.before) is.past ∙ ap (λ (s : Situation). s.before) is.state);
-        inside = omega (arith, at, is.inside, repaired_len text fault keeps);
-        boundary = rw at boundary;
-        few = let few = kept.few in omega (arith, few, ap bracket_count nesting, at, earlier kept some);
-        onward =
-            ap (λ n. history_from is.history (drop n (repaired text fault))) (at ∙ sym is.reach)
-            ∙ ap (λ (h : History). history_from h (drop (pieces_len is.pieces) (repaired text fault))) is.past
-            ∙ sym (past_append nothing is.pieces (read_from language (after_all nothing is.pieces) 0 (drop (pieces_len is.pieces) (repaired text fault))).pieces)
-            ∙ ap (after_all nothing) (sym (reading_prefix (repaired text fault) is.pieces is.reads begun));
-        read = record { pieces = is.pieces; reads = is.reads; is_history = sym is.past; reach = is.reach ∙ sym at };
-      }
+  -- reading on from there leads to the history at the end of the repaired text
+  pub onward_there : history_from history_there (drop (repair_end text fault) (repaired text fault)) ≡ history_of (repaired text fault)
+  unfolding history_of history_from
+  onward_there =
+      ap (λ n. history_from is.history (drop n (repaired text fault))) (sym is.reach)
+      ∙ ap (λ (h : History). history_from h (drop (pieces_len is.pieces) (repaired text fault))) is.past
+      ∙ sym (past_append nothing is.pieces (read_from language (after_all nothing is.pieces) 0 (drop (pieces_len is.pieces) (repaired text fault))).pieces)
+      ∙ ap (after_all nothing) (sym (reading_prefix (repaired text fault) is.pieces is.reads begun))
 
-  pub ahead_repaired : IsStateAfter text (history_of text) old → is_nothing (history_of text).before ≡ false → IsCharBoundary (repaired text fault) (repair_end text fault)
-      → new.nesting ≡ old.nesting → new.levels ≡ old.levels → new.before ≡ sort.Other → new.at ≡ repair_end text fault → new.stage ≡ stage.Onward → IsIdle (repaired text fault) new.pending
-      → IsAhead (repaired text fault) new new.stage (map shown_lexeme (drop (passed_count text fault) (outcome (repaired text fault)).lexemes)) (outcome (repaired text fault)).fault
-  ahead_repaired kept some boundary nesting levels before at is_onward idle =
-      record {
-        left = left;
-        is_left = subst (λ now. IsLeft (repaired text fault) new now left) (sym is_onward) (is.history, state_repaired kept some boundary nesting levels before at, sym (ap (λ n. remaining_outcome is.history n (drop n (repaired text fault))) at));
-        is_pending = idle.0;
-        ahead = ap (map shown_lexeme) lexemes ∙ ap (λ ls. map shown_lexeme ls ++ map shown_lexeme left.lexemes) (sym idle.1);
-        those_after = is.later ∙ ap (λ (o : Outcome). o.fault) same;
-        cut = λ on layout flat inside. let wrong : sort.Other ≡ sort.Layout = sym before ∙ layout in cc;
-        cuts = λ x remainder cut least most. absurd (omega (arith, least, most, count));
-      }
-    where
-      left : Outcome
-      left = remaining_outcome is.history (repair_end text fault) (drop (repair_end text fault) (repaired text fault))
+  -- the lexemes and the fault after the repair
+  pub lexemes_there : drop (passed_count text fault) (outcome (repaired text fault)).lexemes ≡ (remaining_outcome history_there (repair_end text fault) (drop (repair_end text fault) text)).lexemes
+  lexemes_there = repaired_rest text fault keeps ∙ ap (λ (o : Outcome). o.lexemes) (left_same is.history (repair_end text fault) (drop (repair_end text fault) text))
 
-      same : outcome_from is.history (repair_end text fault) (drop (repair_end text fault) text) ≡ left
-      same = left_same is.history (repair_end text fault) (drop (repair_end text fault) text) ∙ ap (remaining_outcome is.history (repair_end text fault)) (sym (repaired_left text fault keeps))
+  pub fault_there : (outcome (repaired text fault)).fault ≡ (remaining_outcome history_there (repair_end text fault) (drop (repair_end text fault) text)).fault
+  fault_there = is.later ∙ ap (λ (o : Outcome). o.fault) (left_same is.history (repair_end text fault) (drop (repair_end text fault) text))
 
-      lexemes : drop (passed_count text fault) (outcome (repaired text fault)).lexemes ≡ left.lexemes
-      lexemes = repaired_rest text fault keeps ∙ ap (λ (o : Outcome). o.lexemes) same
-
-      count : length (map shown_lexeme (drop (passed_count text fault) (outcome (repaired text fault)).lexemes)) ≡ length left.lexemes
-      count = ap (λ (ls : List Lexeme). length (map shown_lexeme ls)) lexemes ∙ length-map left.lexemes shown_lexeme
+  pub inside_there : repair_end text fault ≤ length text
+  inside_there = is.inside
 
 -- a text whose first margin fails by a tab keeps no line
 pub untabbed : (text : Text) (fault : Spanned Fault) → KeepsLine text fault → begins_with_tab text ≡ false

@@ -21,7 +21,7 @@ use Rattle.starlark_reader.specs.Inner.Pending.{IsIdle, IsPending, pending_lexem
 use Rattle.starlark_reader.specs.Inner.Nesting.{Represents, bracket_count, keeps_nesting}
 use Rattle.starlark_reader.specs.Inner.MarginCuts.{IsAfterLines, IsCutBefore}
 use Rattle.starlark_reader.specs.Inner.MarginLines.{IsOfMargin}
-use Rattle.starlark_reader.specs.Inner.Reader.{HoldsCuts, IsAhead, IsAheadAfter, IsAheadPast, IsCutAhead, IsInFlatMargin, IsLeft, IsReached, IsRead, IsReadPast, IsReadTo, IsStateAfter, IsStateAtFault, before_view, begins_with_tab, has_read_none, history_from, history_of, left_here, left_to_read, remaining_outcome, step_here}
+use Rattle.starlark_reader.specs.Inner.Reader.{HoldsCuts, IsAhead, IsAheadAfter, IsAheadPast, IsCutAhead, IsInFlatMargin, IsLeft, IsReached, IsRead, IsReadPast, IsReadTo, IsStateAfter, IsStateAtFault, Origin, Start, before_view, begins_with_tab, has_read_none, history_from, history_of, history_since, left_here, left_to_read, remaining_outcome, step_here}
 use Rattle.starlark_token.specs.TokenViews.{TokenView, Whole, token_view}
 use Rattle.starlark_token.specs.declared.lexeme_error.LexemeError.{LexemeError}
 use Rattle.starlark_reader.specs.declared.nesting.Nesting.{Nesting}
@@ -48,7 +48,7 @@ use Rattle.starlark_grammar.proofs.Joining.LaidCuts.{AfterComments, First, Margi
 use Rattle.starlark_reader.proofs.TakenMargins.PendingLexemes.{Hands, HandsPast, hands_first, hands_later}
 
 -- a state is always after the first margin of the text
-begun : (text : Text) (history : History) (reader : Reader) → IsStateAfter text history reader → is_nothing history.before ≡ false
+begun : {origin : Origin} → (text : Text) (history : History) (reader : Reader) → IsStateAfter origin text history reader → is_nothing history.before ≡ false
 begun text history reader kept = (after_some reader.before history.before kept.before).0
 
 -- Layout
@@ -113,9 +113,9 @@ first_is_quiet text piece e = subst (Each IsLayout (λ fault. ⊤)) e (margin_is
 -- A piece
 
 -- the state after one more piece
-kept_after : (text : Text) (history : History) (at : ℕ) (new : Reader) (piece : Piece) → IsUtf8 text → IsCharBoundary text at → next_step language history (drop at text) ≡ Stands piece
+kept_after : {origin : Origin} → (text : Text) (history : History) (at : ℕ) (new : Reader) (piece : Piece) → IsUtf8 text → IsCharBoundary text at → next_step language history (drop at text) ≡ Stands piece
     → Represents (tokens_onto history.tokens piece.lexemes) new.nesting → new.levels ≡ open_widths (history.widths ++ option_to_list piece.width) → before_view new.before ≡ piece.sort → new.at ≡ at + piece.len → bracket_count new.nesting ≤ new.at
-    → history_from (after history piece) (drop piece.len (drop at text)) ≡ history_of text → IsReadTo text (after history piece) new.at → IsStateAfter text (after history piece) new
+    → history_from (after history piece) (drop piece.len (drop at text)) ≡ history_since origin text → (origin ≡ Start → IsReadTo text (after history piece) new.at) → IsStateAfter origin text (after history piece) new
 unfolding after
 kept_after text history at new piece utf8 here stands nesting levels before is_at few onward read =
     let end : IsCharBoundary text (at + piece.len) = boundary_shift text at piece.len here (piece_bounded history (drop at text) piece (IsUtf8-drop text at utf8 here) stands).1 in
@@ -130,38 +130,38 @@ kept_after text history at new piece utf8 here stands nesting levels before is_a
       read = read;
     }
 
--- the cuts after a piece that was read: whether its offset is one, and where each is
-pub record AreCutsBehind (text : Text) (history : History) (at : ℕ) (piece : Piece) (new : Reader) : Type 0 where
-  pub cut : IsCutAhead text new stage.Onward (length (pending_lexemes text new.pending) + length (remaining_outcome (after history piece) (at + piece.len) (drop piece.len (drop at text))).lexemes)
-  pub cuts : HoldsCuts text new stage.Onward (length (remaining_outcome (after history piece) (at + piece.len) (drop piece.len (drop at text))).lexemes) (length piece.lexemes + length (remaining_outcome (after history piece) (at + piece.len) (drop piece.len (drop at text))).lexemes)
+-- the cuts after a piece that was read from the text's start on: whether its offset is one, and where each is
+pub record AreCutsBehind (origin : Origin) (text : Text) (history : History) (at : ℕ) (piece : Piece) (new : Reader) : Type 0 where
+  pub cut : origin ≡ Start → IsCutAhead text new stage.Onward (length (pending_lexemes text new.pending) + length (remaining_outcome (after history piece) (at + piece.len) (drop piece.len (drop at text))).lexemes)
+  pub cuts : origin ≡ Start → HoldsCuts text new stage.Onward (length (remaining_outcome (after history piece) (at + piece.len) (drop piece.len (drop at text))).lexemes) (length piece.lexemes + length (remaining_outcome (after history piece) (at + piece.len) (drop piece.len (drop at text))).lexemes)
       (length (pending_lexemes text new.pending) + length (remaining_outcome (after history piece) (at + piece.len) (drop piece.len (drop at text))).lexemes)
 
 -- a piece was read, and the rest is left after it
-read_piece : (text : Text) (whole : Outcome) (history : History) (at : ℕ) (given : List (Spanned TokenView)) (new : Reader) (piece : Piece) → GoesOn at piece whole (remaining_outcome (after history piece) (at + piece.len) (drop piece.len (drop at text)))
-    → IsStateAfter text (after history piece) new → new.at ≡ at + piece.len → new.stage ≡ stage.Onward → HandsPast text given new.pending (map (moved at) piece.lexemes) → AreCutsBehind text history at piece new → IsReadPast text whole given new
-read_piece text whole history at given new piece goes kept is_at is_onward hands cuts =
+read_piece : {origin : Origin} → (text : Text) (whole : Outcome) (history : History) (at : ℕ) (given : List (Spanned TokenView)) (new : Reader) (piece : Piece) → GoesOn at piece whole (remaining_outcome (after history piece) (at + piece.len) (drop piece.len (drop at text)))
+    → IsStateAfter origin text (after history piece) new → new.at ≡ at + piece.len → new.stage ≡ stage.Onward → HandsPast text given new.pending (map (moved at) piece.lexemes) → AreCutsBehind origin text history at piece new → IsReadPast origin text whole given new
+read_piece {origin = origin} text whole history at given new piece goes kept is_at is_onward hands cuts =
     let remainder : drop piece.len (drop at text) ≡ drop new.at text = sym (drop-sum at piece.len text) ∙ ap (λ n. drop n text) (sym is_at) in
     let rest = remaining_outcome (after history piece) (at + piece.len) (drop piece.len (drop at text)) in
     let left : rest ≡ remaining_outcome (after history piece) new.at (drop new.at text) = ap (λ n. remaining_outcome (after history piece) n (drop piece.len (drop at text))) (sym is_at) ∙ ap (remaining_outcome (after history piece) new.at) remainder in
     record {
       lexemes = map (moved at) piece.lexemes;
       left = rest;
-      is_left = subst (λ now. IsLeft text new now rest) (sym is_onward) (after history piece, kept, left);
+      is_left = subst (λ now. IsLeft origin text new now rest) (sym is_onward) (after history piece, kept, left);
       parts = goes.lexemes;
       fault = goes.fault;
       is_pending = hands.0;
       yielded_count = hands.1;
-      cut = subst (λ now. IsCutAhead text new now (length (pending_lexemes text new.pending) + length rest.lexemes)) (sym is_onward) cuts.cut;
-      cuts = subst (λ now. HoldsCuts text new now (length rest.lexemes) (length (map (moved at) piece.lexemes) + length rest.lexemes) (length (pending_lexemes text new.pending) + length rest.lexemes)) (sym is_onward)
-          (subst (λ n. HoldsCuts text new stage.Onward (length rest.lexemes) (n + length rest.lexemes) (length (pending_lexemes text new.pending) + length rest.lexemes)) (sym (length-map piece.lexemes (moved at))) cuts.cuts);
+      cut = λ start. subst (λ now. IsCutAhead text new now (length (pending_lexemes text new.pending) + length rest.lexemes)) (sym is_onward) (cuts.cut start);
+      cuts = λ start. subst (λ now. HoldsCuts text new now (length rest.lexemes) (length (map (moved at) piece.lexemes) + length rest.lexemes) (length (pending_lexemes text new.pending) + length rest.lexemes)) (sym is_onward)
+          (subst (λ n. HoldsCuts text new stage.Onward (length rest.lexemes) (n + length rest.lexemes) (length (pending_lexemes text new.pending) + length rest.lexemes)) (sym (length-map piece.lexemes (moved at))) (cuts.cuts start));
     }
 
-took_by : (text : Text) (history : History) (old : Reader) (given : List (Spanned TokenView)) (new : Reader) (piece : Piece) → IsUtf8 text → IsStateAfter text history old → step_here text history old ≡ Stands piece → AreCutsBehind text history old.at piece new
+took_by : {origin : Origin} → (text : Text) (history : History) (old : Reader) (given : List (Spanned TokenView)) (new : Reader) (piece : Piece) → IsUtf8 text → IsStateAfter origin text history old → step_here text history old ≡ Stands piece → AreCutsBehind origin text history old.at piece new
     → Represents (tokens_onto history.tokens piece.lexemes) new.nesting → new.levels ≡ open_widths (history.widths ++ option_to_list piece.width) → before_view new.before ≡ piece.sort → new.at ≡ old.at + piece.len → bracket_count new.nesting ≤ new.at
-    → new.stage ≡ stage.Onward → HandsPast text given new.pending (map (moved old.at) piece.lexemes) → IsReadPast text (left_here text history old) given new
+    → new.stage ≡ stage.Onward → HandsPast text given new.pending (map (moved old.at) piece.lexemes) → IsReadPast origin text (left_here text history old) given new
 took_by text history old given new piece utf8 kept stands cuts nesting levels before is_at few is_onward hands =
     read_piece text (left_here text history old) history old.at given new piece (onward_stands history old.at (drop old.at text) piece (begun text history old kept) stands)
-    (kept_after text history old.at new piece utf8 kept.boundary stands nesting levels before is_at few (sym (history_onward history (drop old.at text) piece (begun text history old kept) stands) ∙ kept.onward) (read_more text history old.at new.at piece kept.read stands is_at)) is_at is_onward hands cuts
+    (kept_after text history old.at new piece utf8 kept.boundary stands nesting levels before is_at few (sym (history_onward history (drop old.at text) piece (begun text history old kept) stands) ∙ kept.onward) (λ start. read_more text history old.at new.at piece (kept.read start) stands is_at)) is_at is_onward hands cuts
 
 -- no cut is in a piece that is no margin
 no_cut_in : (text : Text) (history : History) (at : ℕ) (piece : Piece) (read : IsReadTo text history at) → is_nothing history.before ≡ false → next_step language history (drop at text) ≡ Stands piece → is_layout piece.sort ≡ false
@@ -177,31 +177,31 @@ no_cut_in text history at piece read begun stands other x found = by found.n fou
         cc
 
 -- a piece that is no margin
-pub took_past : (text : Text) (history : History) (old : Reader) (passed : List (Spanned TokenView)) (new : Reader) (piece : Piece) → IsUtf8 text → IsStateAfter text history old → step_here text history old ≡ Stands piece → is_layout piece.sort ≡ false
+pub took_past : {origin : Origin} → (text : Text) (history : History) (old : Reader) (passed : List (Spanned TokenView)) (new : Reader) (piece : Piece) → IsUtf8 text → IsStateAfter origin text history old → step_here text history old ≡ Stands piece → is_layout piece.sort ≡ false
     → Represents (tokens_onto history.tokens piece.lexemes) new.nesting → new.levels ≡ open_widths (history.widths ++ option_to_list piece.width) → before_view new.before ≡ piece.sort → new.at ≡ old.at + piece.len → bracket_count new.nesting ≤ new.at
-    → new.stage ≡ stage.Onward → HandsPast text passed new.pending (map (moved old.at) piece.lexemes) → IsReadPast text (left_here text history old) passed new
+    → new.stage ≡ stage.Onward → HandsPast text passed new.pending (map (moved old.at) piece.lexemes) → IsReadPast origin text (left_here text history old) passed new
 took_past text history old passed new piece utf8 kept stands other nesting levels before =
     took_by text history old passed new piece utf8 kept stands
     (record {
-      cut = λ on layout flat inside. let both : true ≡ false = ap is_layout (sym (ap before_view layout) ∙ before) ∙ other in cc;
-      cuts = λ x remainder cut least most.
-          absurd (no_cut_in text history old.at piece kept.read (begun text history old kept) stands other x (cut_of_piece text history old.at piece kept.read (begun text history old kept) stands x remainder cut least most));
+      cut = λ start on layout flat inside. let both : true ≡ false = ap is_layout (sym (ap before_view layout) ∙ before) ∙ other in cc;
+      cuts = λ start x remainder cut least most.
+          absurd (no_cut_in text history old.at piece (kept.read start) (begun text history old kept) stands other x (cut_of_piece text history old.at piece (kept.read start) (begun text history old kept) stands x remainder cut least most));
     })
     nesting levels before
 
-pub took : (text : Text) (history : History) (old : Reader) (given : Option (ℕ × Token × ℕ)) (new : Reader) (piece : Piece) → IsUtf8 text → IsStateAfter text history old → step_here text history old ≡ Stands piece → is_layout piece.sort ≡ false
+pub took : {origin : Origin} → (text : Text) (history : History) (old : Reader) (given : Option (ℕ × Token × ℕ)) (new : Reader) (piece : Piece) → IsUtf8 text → IsStateAfter origin text history old → step_here text history old ≡ Stands piece → is_layout piece.sort ≡ false
     → Represents (tokens_onto history.tokens piece.lexemes) new.nesting → new.levels ≡ open_widths (history.widths ++ option_to_list piece.width) → before_view new.before ≡ piece.sort → new.at ≡ old.at + piece.len → bracket_count new.nesting ≤ new.at
-    → new.stage ≡ stage.Onward → Hands text given new.pending (map (moved old.at) piece.lexemes) → IsRead text (left_here text history old) given new
+    → new.stage ≡ stage.Onward → Hands text given new.pending (map (moved old.at) piece.lexemes) → IsRead origin text (left_here text history old) given new
 took text history old given new piece = took_past text history old (map lexeme_view (option_to_list given)) new piece
 
-took_first : (text : Text) (new : Reader) (piece : Piece) → IsUtf8 text → first_margin text ≡ Stands piece → AreCutsBehind text nothing 0 piece new
+took_first : (text : Text) (new : Reader) (piece : Piece) → IsUtf8 text → first_margin text ≡ Stands piece → AreCutsBehind Start text nothing 0 piece new
     → Represents (tokens_onto [] piece.lexemes) new.nesting → new.levels ≡ open_widths ([] ++ option_to_list piece.width) → before_view new.before ≡ piece.sort → new.at ≡ 0 + piece.len → bracket_count new.nesting ≤ new.at
-    → new.stage ≡ stage.Onward → Hands text None new.pending (map (moved 0) piece.lexemes) → IsRead text (outcome text) None new
+    → new.stage ≡ stage.Onward → Hands text None new.pending (map (moved 0) piece.lexemes) → IsRead Start text (outcome text) None new
 took_first text new piece utf8 stands cuts nesting levels before is_at few is_onward hands =
     read_piece text (outcome text) nothing 0 [] new piece (first_stands text piece stands)
-    (kept_after text nothing 0 new piece utf8 (IsCharBoundary-start text utf8) (margin_first text ∙ stands) nesting levels before is_at few (sym (history_first text piece stands)) (read_first text new.at piece stands is_at)) is_at is_onward hands cuts
+    (kept_after text nothing 0 new piece utf8 (IsCharBoundary-start text utf8) (margin_first text ∙ stands) nesting levels before is_at few (sym (history_first text piece stands)) (λ start. read_first text new.at piece stands is_at)) is_at is_onward hands cuts
 
-pub piece_inside : (text : Text) (history : History) (old : Reader) (piece : Piece) → IsStateAfter text history old → step_here text history old ≡ Stands piece → (old.at < old.at + piece.len) × (old.at + piece.len ≤ length text)
+pub piece_inside : {origin : Origin} → (text : Text) (history : History) (old : Reader) (piece : Piece) → IsStateAfter origin text history old → step_here text history old ≡ Stands piece → (old.at < old.at + piece.len) × (old.at + piece.len ≤ length text)
 piece_inside text history old piece kept stands =
     let fits = piece_fits language history (drop old.at text) piece stands in
     (omega (arith, one_least history.before (begun text history old kept), fits.some), omega (arith, fits.inside, kept.inside, length-drop old.at text))
@@ -216,9 +216,9 @@ no_tab text piece stands = false_from_ne_true (begins_with_tab text) (λ e.
     cc)
 
 -- where something was read, the first margin has no tab before content
-state_begun : (text : Text) (history : History) (reader : Reader) → IsStateAfter text history reader → has_read_none reader ≡ begins_with_tab text
+state_begun : {origin : Origin} → (text : Text) (history : History) (reader : Reader) → IsStateAfter origin text history reader → origin ≡ Start → has_read_none reader ≡ begins_with_tab text
 unfolding after
-state_begun text history reader kept = go kept.read.pieces kept.read.reads kept.read.is_history kept.read.reach
+state_begun text history reader kept start = let read = kept.read start in go read.pieces read.reads read.is_history read.reach
   where
     unread : (piece : Piece) (pieces : List Piece) → IsReading language nothing text (piece ∷ pieces) → after_all nothing (piece ∷ pieces) ≡ history → pieces_len (piece ∷ pieces) ≡ reader.at → has_read_none reader ≡ false
     unread piece [] reads same reach =
@@ -239,53 +239,53 @@ same_place old new at before = ap (λ n. n == 0 && not (is_layout (before_view n
 -- A fault
 
 -- a fault was read, by the lexemes before it
-read_fault : (text : Text) (whole : Outcome) (at : ℕ) (lexemes : List Lexeme) (new : Reader) (fault : Spanned grammar.Fault) (error : LexemeError) → whole ≡ record { lexemes = lexemes; fault = Some (moved at fault) }
-    → fault_view error ≡ Some fault.node → new.stage ≡ stage.Fault (at + fault.begin) error (at + fault.end) → Hands text None new.pending lexemes → has_read_none new ≡ begins_with_tab text
-    → new.at ≤ length text → IsStateAtFault text new → ((x remainder : ℕ) → IsCutBefore text x remainder → remainder < length lexemes → ⊥) → IsRead text whole None new
-read_fault text whole at lexemes new fault error left view is hands place inside state none = record {
+read_fault : {origin : Origin} → (text : Text) (whole : Outcome) (at : ℕ) (lexemes : List Lexeme) (new : Reader) (fault : Spanned grammar.Fault) (error : LexemeError) → whole ≡ record { lexemes = lexemes; fault = Some (moved at fault) }
+    → fault_view error ≡ Some fault.node → new.stage ≡ stage.Fault (at + fault.begin) error (at + fault.end) → Hands text None new.pending lexemes → (origin ≡ Start → has_read_none new ≡ begins_with_tab text)
+    → new.at ≤ length text → IsStateAtFault origin text new → new.at ≤ at + fault.begin → ((x remainder : ℕ) → IsCutBefore text x remainder → remainder < length lexemes → ⊥) → IsRead origin text whole None new
+read_fault {origin = origin} text whole at lexemes new fault error left view is hands place inside state before none = record {
   lexemes = lexemes;
   left = record { lexemes = []; fault = Some (moved at fault) };
-  is_left = subst (λ now. IsLeft text new now (record { lexemes = []; fault = Some (moved at fault) })) (sym is) (fault.node, view, refl, place, inside, state);
+  is_left = subst (λ now. IsLeft origin text new now (record { lexemes = []; fault = Some (moved at fault) })) (sym is) (fault.node, view, refl, place, inside, state, before);
   parts = ap (λ (o : Outcome). o.lexemes) left ∙ sym (append-nil lexemes);
   fault = ap (λ (o : Outcome). o.fault) left;
   is_pending = hands.0;
   yielded_count = hands.1;
-  cut = λ on. let over : stage.Fault (at + fault.begin) error (at + fault.end) ≡ stage.Onward = sym is ∙ on in cc;
-  cuts = λ x remainder cut least most. absurd (none x remainder cut (omega (arith, most)));
+  cut = λ start on. let over : stage.Fault (at + fault.begin) error (at + fault.end) ≡ stage.Onward = sym is ∙ on in cc;
+  cuts = λ start x remainder cut least most. absurd (none x remainder cut (omega (arith, most)));
 }
 
-pub failed : (text : Text) (history : History) (old new : Reader) (fault : Spanned grammar.Fault) (error : LexemeError) → IsStateAfter text history old → step_here text history old ≡ Fails fault → fault_view error ≡ Some fault.node
-    → new.stage ≡ stage.Fault (old.at + fault.begin) error (old.at + fault.end) → Hands text None new.pending [] → IsHere old new → IsRead text (left_here text history old) None new
-failed text history old new fault error kept fails view is hands here =
+pub failed : {origin : Origin} → (text : Text) (history : History) (old new : Reader) (fault : Spanned grammar.Fault) (error : LexemeError) → IsStateAfter origin text history old → step_here text history old ≡ Fails fault → fault_view error ≡ Some fault.node
+    → new.stage ≡ stage.Fault (old.at + fault.begin) error (old.at + fault.end) → Hands text None new.pending [] → IsHere old new → IsRead origin text (left_here text history old) None new
+failed {origin = origin} text history old new fault error kept fails view is hands here =
     let whole = sym (history_fails history (drop old.at text) fault (begun text history old kept) fails) ∙ kept.onward in
     let now = kept_here text history old new here kept in
     read_fault text (left_here text history old) old.at [] new fault error (onward_fails history old.at (drop old.at text) fault (begun text history old kept) fails) view is hands
-    (same_place old new here.at here.before ∙ state_begun text history old kept) now.inside (λ untabbed. subst (λ (h : History). IsStateAfter text h new) whole now) (λ x remainder cut most. omega (arith, most))
+    (λ start. same_place old new here.at here.before ∙ state_begun text history old kept start) now.inside (λ untabbed. subst (λ (h : History). IsStateAfter origin text h new) whole now) (omega (arith, here.at)) (λ x remainder cut most. omega (arith, most))
 
 pub failed_first : (text : Text) (new : Reader) (fault : Spanned grammar.Fault) (error : LexemeError) → first_margin text ≡ Fails fault → fault_view error ≡ Some fault.node
-    → new.stage ≡ stage.Fault (0 + fault.begin) error (0 + fault.end) → Hands text None new.pending (margin_of text).comments → new.at ≡ 0 → new.before ≡ sort.Other → IsRead text (outcome text) None new
+    → new.stage ≡ stage.Fault (0 + fault.begin) error (0 + fault.end) → Hands text None new.pending (margin_of text).comments → new.at ≡ 0 → new.before ≡ sort.Other → IsRead Start text (outcome text) None new
 failed_first text new fault error fails view is hands at before =
     let has = tab_of (margin_of text) fault fails in
     let tabbed : begins_with_tab text ≡ true = rw (has.content, has.is) refl in
     let none : has_read_none new ≡ true = rw (at, before) refl in
-    read_fault text (outcome text) 0 (margin_of text).comments new fault error (first_fails text fault fails) view is hands (none ∙ sym tabbed) (omega (arith, at)) (λ untabbed. absurd (both_ways _ untabbed tabbed)) (λ x remainder cut most. none_at_fault text fault fails x remainder cut)
+    read_fault text (outcome text) 0 (margin_of text).comments new fault error (first_fails text fault fails) view is hands (λ start. none ∙ sym tabbed) (omega (arith, at)) (λ untabbed. absurd (both_ways _ (untabbed refl) tabbed)) (omega (arith, at)) (λ x remainder cut most. none_at_fault text fault fails x remainder cut)
 
 -- The text's end
 
-pub closed : (text : Text) (history : History) (old : Reader) (given : Option (ℕ × Token × ℕ)) (new : Reader) → IsHere old new → IsStateAfter text history old → step_here text history old ≡ Ends → Hands text given new.pending (closing old.at history) → new.stage ≡ stage.Closed → IsRead text (left_here text history old) given new
-closed text history old given new here kept ends hands is =
+pub closed : {origin : Origin} → (text : Text) (history : History) (old : Reader) (given : Option (ℕ × Token × ℕ)) (new : Reader) → IsHere old new → IsStateAfter origin text history old → step_here text history old ≡ Ends → Hands text given new.pending (closing old.at history) → new.stage ≡ stage.Closed → IsRead origin text (left_here text history old) given new
+closed {origin = origin} text history old given new here kept ends hands is =
     let whole = sym (history_ends history (drop old.at text) (begun text history old kept) ends) ∙ kept.onward in
     let left = onward_ends history old.at (drop old.at text) (begun text history old kept) ends in
     record {
       lexemes = closing old.at history;
       left = record { lexemes = []; fault = None };
-      is_left = subst (λ now. IsLeft text new now (record { lexemes = []; fault = None })) (sym is) (refl, subst (λ (h : History). IsStateAfter text h new) whole (kept_here text history old new here kept));
+      is_left = subst (λ now. IsLeft origin text new now (record { lexemes = []; fault = None })) (sym is) (refl, subst (λ (h : History). IsStateAfter origin text h new) whole (kept_here text history old new here kept));
       parts = ap (λ (o : Outcome). o.lexemes) left ∙ sym (append-nil (closing old.at history));
       fault = ap (λ (o : Outcome). o.fault) left;
       is_pending = hands.0;
       yielded_count = hands.1;
-      cut = λ on. let over : stage.Closed ≡ stage.Onward = sym is ∙ on in cc;
-      cuts = λ x remainder cut least most. absurd (none_at_end text history old.at kept.read (begun text history old kept) ends x remainder cut (omega (arith, most, ap (λ (o : Outcome). length o.lexemes) left)));
+      cut = λ start on. let over : stage.Closed ≡ stage.Onward = sym is ∙ on in cc;
+      cuts = λ start x remainder cut least most. absurd (none_at_end text history old.at (kept.read start) (begun text history old kept) ends x remainder cut (omega (arith, most, ap (λ (o : Outcome). length o.lexemes) left)));
     }
 
 -- the lexemes that close a text
@@ -303,8 +303,8 @@ both_count : (one other : List Lexeme) → length one + length other ≡ length 
 both_count one other = omega (arith, length-append (map shown_lexeme one) (map shown_lexeme other), length-map one shown_lexeme, length-map other shown_lexeme)
 
 -- what is ahead after one lexeme was passed
-pub past_ahead : (text : Text) (whole : Outcome) (lexeme : Spanned TokenView) (new : Reader) (lexemes : List (Spanned TokenView)) (fault : Option (Spanned grammar.Fault)) → IsReadPast text whole (lexeme ∷ []) new
-    → lexemes ≡ map shown_lexeme whole.lexemes → fault ≡ whole.fault → IsAheadPast text lexeme new lexemes fault
+pub past_ahead : {origin : Origin} → (text : Text) (whole : Outcome) (lexeme : Spanned TokenView) (new : Reader) (lexemes : List (Spanned TokenView)) (fault : Option (Spanned grammar.Fault)) → IsReadPast origin text whole (lexeme ∷ []) new
+    → lexemes ≡ map shown_lexeme whole.lexemes → fault ≡ whole.fault → IsAheadPast origin text lexeme new lexemes fault
 past_ahead text whole lexeme new lexemes fault read ahead remainder = (
   map shown_lexeme (pending_lexemes text new.pending) ++ map shown_lexeme read.left.lexemes,
   parts ∙ ap (λ vs. vs ++ map shown_lexeme read.left.lexemes) read.yielded_count,
@@ -314,15 +314,15 @@ past_ahead text whole lexeme new lexemes fault read ahead remainder = (
     is_pending = read.is_pending;
     ahead = refl;
     those_after = remainder ∙ read.fault;
-    cut = subst (IsCutAhead text new new.stage) (both_count (pending_lexemes text new.pending) read.left.lexemes) read.cut;
-    cuts = subst (λ n. HoldsCuts text new new.stage (length read.left.lexemes) n n) (both_count (pending_lexemes text new.pending) read.left.lexemes)
-        (λ at remainder cut least most. read.cuts at remainder cut least (omega (arith, most, one_first)));
+    cut = λ start. subst (IsCutAhead text new new.stage) (both_count (pending_lexemes text new.pending) read.left.lexemes) (read.cut start);
+    cuts = λ start. subst (λ n. HoldsCuts text new new.stage (length read.left.lexemes) n n) (both_count (pending_lexemes text new.pending) read.left.lexemes)
+        (λ at remainder cut least most. read.cuts start at remainder cut least (omega (arith, most, one_first)));
   },
-  λ at cut.
+  λ start at cut.
       let count = both_count (pending_lexemes text new.pending) read.left.lexemes in
       reached_by text new at (length (map shown_lexeme (pending_lexemes text new.pending) ++ map shown_lexeme read.left.lexemes))
       (subst (λ n. IsInFlatMargin new new.stage × IsAfterLines text new.pending at (length (map shown_lexeme (pending_lexemes text new.pending) ++ map shown_lexeme read.left.lexemes)) n) count
-      (read.cuts at _ cut (omega (arith, count)) (omega (arith, count, one_first)))),
+      (read.cuts start at _ cut (omega (arith, count)) (omega (arith, count, one_first)))),
 )
   where
     parts : lexemes ≡ map shown_lexeme read.lexemes ++ map shown_lexeme read.left.lexemes
@@ -331,8 +331,8 @@ past_ahead text whole lexeme new lexemes fault read ahead remainder = (
     one_first : length read.lexemes ≡ 1 + length (pending_lexemes text new.pending)
     one_first = omega (arith, ap length read.yielded_count, length-map read.lexemes shown_lexeme, length-map (pending_lexemes text new.pending) shown_lexeme)
 
-pub read_ahead : (text : Text) (whole : Outcome) (given : Option (ℕ × Token × ℕ)) (new : Reader) (lexemes : List (Spanned TokenView)) (fault : Option (Spanned grammar.Fault)) → IsRead text whole given new
-    → lexemes ≡ map shown_lexeme whole.lexemes → fault ≡ whole.fault → IsAheadAfter text given new lexemes fault
+pub read_ahead : {origin : Origin} → (text : Text) (whole : Outcome) (given : Option (ℕ × Token × ℕ)) (new : Reader) (lexemes : List (Spanned TokenView)) (fault : Option (Spanned grammar.Fault)) → IsRead origin text whole given new
+    → lexemes ≡ map shown_lexeme whole.lexemes → fault ≡ whole.fault → IsAheadAfter origin text given new lexemes fault
 read_ahead text whole (Some found) new lexemes fault read ahead remainder = past_ahead text whole (lexeme_view found) new lexemes fault read ahead remainder
 read_ahead text whole None new lexemes fault read ahead remainder =
     let all : lexemes ≡ map shown_lexeme (pending_lexemes text new.pending) ++ map shown_lexeme read.left.lexemes =
@@ -343,19 +343,19 @@ read_ahead text whole None new lexemes fault read ahead remainder =
       is_pending = read.is_pending;
       ahead = all;
       those_after = remainder ∙ read.fault;
-      cut = subst (IsCutAhead text new new.stage) (both_count (pending_lexemes text new.pending) read.left.lexemes ∙ ap length (sym all)) read.cut;
-      cuts = subst (λ n. HoldsCuts text new new.stage (length read.left.lexemes) n n) (both_count (pending_lexemes text new.pending) read.left.lexemes ∙ ap length (sym all))
-          (λ x remainder cut least most. read.cuts x remainder cut least (omega (arith, most, ap length read.yielded_count, length-map read.lexemes shown_lexeme, length-map (pending_lexemes text new.pending) shown_lexeme)));
+      cut = λ start. subst (IsCutAhead text new new.stage) (both_count (pending_lexemes text new.pending) read.left.lexemes ∙ ap length (sym all)) (read.cut start);
+      cuts = λ start. subst (λ n. HoldsCuts text new new.stage (length read.left.lexemes) n n) (both_count (pending_lexemes text new.pending) read.left.lexemes ∙ ap length (sym all))
+          (λ x remainder cut least most. read.cuts start x remainder cut least (omega (arith, most, ap length read.yielded_count, length-map read.lexemes shown_lexeme, length-map (pending_lexemes text new.pending) shown_lexeme)));
     }
 
 -- Less is left to read
 
-pub less_taken : (text : Text) (history : History) (old new : Reader) (piece : Piece) → IsStateAfter text history old → step_here text history old ≡ Stands piece → new.stage ≡ stage.Onward → new.at ≡ old.at + piece.len → left_to_read text new new.stage < left_to_read text old stage.Onward
+pub less_taken : {origin : Origin} → (text : Text) (history : History) (old new : Reader) (piece : Piece) → IsStateAfter origin text history old → step_here text history old ≡ Stands piece → new.stage ≡ stage.Onward → new.at ≡ old.at + piece.len → left_to_read text new new.stage < left_to_read text old stage.Onward
 less_taken text history old new piece kept stands is is_at = search (rules, piece_inside)
 
 -- Margins, as they were read
 
-module _ (text : Text) (history : History) (old : Reader) (len : ℕ) (kept : IsStateAfter text history old)
+module _ {origin : Origin} (text : Text) (history : History) (old : Reader) (len : ℕ) (kept : IsStateAfter origin text history old)
     (here : step_here text history old ≡ line_end len (open_widths history.widths) (drop len (drop old.at text))) where
   -- the lexeme of the newline
   abbrev given_line : List Lexeme
@@ -370,7 +370,7 @@ module _ (text : Text) (history : History) (old : Reader) (len : ℕ) (kept : Is
   line_less new taken is is_at = less_taken text history old new taken.piece kept (line_here ∙ taken.stands) is (is_at ∙ ap (λ n. old.at + n) (sym taken.whole))
 
   pub line_taken : (new : Reader) (whole : ℕ) (found : Token) → token_view found ≡ Whole grammar.Newline → IsUtf8 text → IsTaken text old.at (line_end len (open_widths history.widths) (drop (old.at + len) text)) given_line history.widths new.levels new.pending whole
-      → IsOfMargin (old.at + len) (margin_of (drop (old.at + len) text)).at old.levels new.pending → new.nesting ≡ old.nesting → new.before ≡ sort.Layout → new.at ≡ old.at + whole → new.stage ≡ stage.Onward → IsRead text (left_here text history old) (Some (old.at, found, old.at + len)) new
+      → IsOfMargin (old.at + len) (margin_of (drop (old.at + len) text)).at old.levels new.pending → new.nesting ≡ old.nesting → new.before ≡ sort.Layout → new.at ≡ old.at + whole → new.stage ≡ stage.Onward → IsRead origin text (left_here text history old) (Some (old.at, found, old.at + len)) new
   line_taken new whole found is utf8 taken of nesting before is_at is_onward =
       let stands : step_here text history old ≡ Stands taken.piece = line_here ∙ taken.stands in
       let layout = line_is_quiet len (open_widths history.widths) (drop (old.at + len) text) taken.piece taken.stands in
@@ -378,18 +378,18 @@ module _ (text : Text) (history : History) (old : Reader) (len : ℕ) (kept : Is
       let hands : Hands text (Some (old.at, found, old.at + len)) new.pending (map (moved old.at) taken.piece.lexemes) =
       rw taken.lexemes (hands_first text new.pending (old.at, found, old.at + len) (record { begin = old.at; node = grammar.Newline; end = old.at + len }) (pending_lexemes text new.pending) taken.is_pending
       (ap (λ view. record { begin = old.at; node = view; end = old.at + len }) is) refl) in
-      let cuts : AreCutsBehind text history old.at taken.piece new = record {
-        cut = λ on layout_now flat inside.
-            line_ahead_cut text history old.at len taken.piece kept.read (begun text history old kept) stands taken.stands (ap is_layout layout.sort) (sym kept.levels ∙ nil_from_length old.levels (eqb-true (length old.levels) 0 (sym of.flat ∙ flat))) old.levels (record { begin = old.at; node = grammar.Newline; end = old.at + len }) new.pending of taken.lexemes;
-        cuts = λ x remainder cut least most.
-            let lies = line_cut text history old.at len taken.piece kept.read (begun text history old kept) stands taken.stands (ap is_layout layout.sort) old.levels (record { begin = old.at; node = grammar.Newline; end = old.at + len }) new.pending of taken.lexemes x remainder cut least most in
+      let cuts : AreCutsBehind origin text history old.at taken.piece new = record {
+        cut = λ start on layout_now flat inside.
+            line_ahead_cut text history old.at len taken.piece (kept.read start) (begun text history old kept) stands taken.stands (ap is_layout layout.sort) (sym kept.levels ∙ nil_from_length old.levels (eqb-true (length old.levels) 0 (sym of.flat ∙ flat))) old.levels (record { begin = old.at; node = grammar.Newline; end = old.at + len }) new.pending of taken.lexemes;
+        cuts = λ start x remainder cut least most.
+            let lies = line_cut text history old.at len taken.piece (kept.read start) (begun text history old kept) stands taken.stands (ap is_layout layout.sort) old.levels (record { begin = old.at; node = grammar.Newline; end = old.at + len }) new.pending of taken.lexemes x remainder cut least most in
             ((refl, before, of.flat ∙ ap (λ (levels : List ℕ). length levels == 0) (kept.levels ∙ lies.0)), lies.1);
       } in
       took_by text history old (lexeme_view (old.at, found, old.at + len) ∷ []) new taken.piece utf8 kept stands cuts
       (rw nesting (quiet_kept taken.piece.lexemes history.tokens old.nesting layout.tokens kept.nesting)) taken.open_now (ap before_view before ∙ sym layout.sort) (is_at ∙ ap (λ n. old.at + n) (sym taken.whole)) (rw nesting few) is_onward hands
 
   pub line_refused : (new : Reader) (error : LexemeError) (end : ℕ) → IsRefused text (line_end len (open_widths history.widths) (drop (old.at + len) text)) [] history.widths new.levels new.pending error end
-      → new.stage ≡ stage.Fault (old.at + 0) error (old.at + end) → new.at ≡ old.at → new.nesting ≡ old.nesting → new.before ≡ old.before → IsRead text (left_here text history old) None new
+      → new.stage ≡ stage.Fault (old.at + 0) error (old.at + end) → new.at ≡ old.at → new.nesting ≡ old.nesting → new.before ≡ old.before → IsRead origin text (left_here text history old) None new
   line_refused new error end refused is at nesting before =
       failed text history old new (record { begin = 0; node = refused.node; end = end }) error kept (line_here ∙ refused.stands) refused.is is (hands_later text new.pending [] refused.is_pending refused.lexemes)
       (record { at = at; nesting = nesting; levels = refused.open_now ∙ sym kept.levels; before = before })
@@ -404,34 +404,34 @@ pub record IsNew (reader : Reader) : Type 0 where
 
 module _ (text : Text) (old new : Reader) (is_new : IsNew old) where
   pub margin_taken : (whole : ℕ) → IsUtf8 text → IsTaken text 0 (first_margin text) [] [] new.levels new.pending whole
-      → IsOfMargin 0 (margin_of (drop 0 text)).at old.levels new.pending → new.nesting ≡ old.nesting → new.before ≡ sort.Layout → new.at ≡ old.at + whole → new.stage ≡ stage.Onward → IsRead text (outcome text) None new
+      → IsOfMargin 0 (margin_of (drop 0 text)).at old.levels new.pending → new.nesting ≡ old.nesting → new.before ≡ sort.Layout → new.at ≡ old.at + whole → new.stage ≡ stage.Onward → IsRead Start text (outcome text) None new
   margin_taken whole utf8 taken of nesting before is_at is_onward =
       let layout = first_is_quiet text taken.piece taken.stands in
       let few : bracket_count old.nesting ≤ new.at = omega (arith, is_new.few) in
       let end : new.at ≡ 0 + taken.piece.len = omega (arith, is_at, is_new.at, taken.whole) in
-      let cuts : AreCutsBehind text nothing 0 taken.piece new = record {
-        cut = λ on layout_now flat inside. first_ahead_cut text old.levels taken.piece new.pending taken.stands of taken.lexemes;
-        cuts = λ x remainder cut least most.
+      let cuts : AreCutsBehind Start text nothing 0 taken.piece new = record {
+        cut = λ start on layout_now flat inside. first_ahead_cut text old.levels taken.piece new.pending taken.stands of taken.lexemes;
+        cuts = λ start x remainder cut least most.
             ((refl, before, of.flat ∙ ap (λ (levels : List ℕ). length levels == 0) is_new.levels), first_cut text old.levels taken.piece new.pending taken.stands of taken.lexemes x remainder cut least most);
       } in
       took_first text new taken.piece utf8 taken.stands cuts
       (rw nesting (quiet_kept taken.piece.lexemes [] old.nesting layout.tokens is_new.nesting)) taken.open_now (ap before_view before ∙ sym layout.sort) end (rw nesting few) is_onward (hands_later text new.pending _ taken.is_pending taken.lexemes)
 
   pub margin_refused : (error : LexemeError) (end : ℕ) → IsRefused text (first_margin text) (margin_of text).comments [] new.levels new.pending error end
-      → new.stage ≡ stage.Fault (old.at + 0) error (old.at + end) → new.at ≡ old.at → new.before ≡ old.before → IsRead text (outcome text) None new
+      → new.stage ≡ stage.Fault (old.at + 0) error (old.at + end) → new.at ≡ old.at → new.before ≡ old.before → IsRead Start text (outcome text) None new
   margin_refused error end refused is at before =
       failed_first text new (record { begin = 0; node = refused.node; end = end }) error refused.stands refused.is (is ∙ ap (λ n. stage.Fault (n + 0) error (n + end)) is_new.at) (hands_later text new.pending _ refused.is_pending refused.lexemes) (at ∙ is_new.at) (before ∙ is_new.before)
 
 -- what is ahead where no lexeme is pending
-pub none_before : (text : Text) (reader : Reader) (now : Stage) (lexemes : List (Spanned TokenView)) (fault : Option (Spanned grammar.Fault)) (left : Outcome) → IsIdle text reader.pending → (ahead : IsAhead text reader now lexemes fault) → ahead.left ≡ left
+pub none_before : {origin : Origin} → (text : Text) (reader : Reader) (now : Stage) (lexemes : List (Spanned TokenView)) (fault : Option (Spanned grammar.Fault)) (left : Outcome) → IsIdle text reader.pending → (ahead : IsAhead origin text reader now lexemes fault) → ahead.left ≡ left
     → (lexemes ≡ map shown_lexeme left.lexemes) × (fault ≡ left.fault)
 none_before text reader now lexemes fault left idle ahead e = search rules
 
 -- the outcome of a text is ahead, where something was read from its start on
-pub first_ahead : (text : Text) (old new : Reader) (lexemes : List (Spanned TokenView)) (fault : Option (Spanned grammar.Fault)) → IsRead text (outcome text) None new → IsIdle text old.pending → IsAhead text old stage.Begin lexemes fault → IsAhead text new new.stage lexemes fault
+pub first_ahead : {origin : Origin} → (text : Text) (old new : Reader) (lexemes : List (Spanned TokenView)) (fault : Option (Spanned grammar.Fault)) → IsRead Start text (outcome text) None new → IsIdle text old.pending → IsAhead origin text old stage.Begin lexemes fault → IsAhead origin text new new.stage lexemes fault
 first_ahead text old new lexemes fault read idle ahead =
     let both = none_before text old stage.Begin lexemes fault (outcome text) idle ahead ahead.is_left.0 in
-    read_ahead text (outcome text) None new lexemes fault read both.0 both.1
+    subst (λ (o : Origin). IsAhead o text new new.stage lexemes fault) (sym ahead.is_left.6) (read_ahead {origin = Start} text (outcome text) None new lexemes fault read both.0 both.1)
 
-pub new_ahead : (text : Text) (old : Reader) (lexemes : List (Spanned TokenView)) (fault : Option (Spanned grammar.Fault)) → IsAhead text old stage.Begin lexemes fault → IsNew old
+pub new_ahead : {origin : Origin} → (text : Text) (old : Reader) (lexemes : List (Spanned TokenView)) (fault : Option (Spanned grammar.Fault)) → IsAhead origin text old stage.Begin lexemes fault → IsNew old
 new_ahead text old lexemes fault ahead = record { at = ahead.is_left.1; nesting = ahead.is_left.2; levels = ahead.is_left.3; few = ahead.is_left.4; before = ahead.is_left.5 }

@@ -16,7 +16,7 @@ use Rattle.starlark_token.specs.declared.tokens.Token.{Token}
 use Rattle.starlark_words.specs.Inner.ScannedWords.{is_number}
 use Rattle.starlark_words.specs.declared.scanner.word.Word.{Word}
 use Rattle.starlark_reader.specs.Inner.Nesting.{is_fstring_start, keeps_nesting}
-use Rattle.starlark_reader.specs.Inner.Reader.{IsStateAfter, IsWordHere, step_here}
+use Rattle.starlark_reader.specs.Inner.Reader.{IsStateAfter, IsWordHere, Origin, step_here}
 use Rattle.starlark_reader.specs.Inner.StepViews.{IsDigitAt, IsStep, number_of}
 use Rattle.starlark_reader.specs.Inner.StepViews as step
 use Rattle.starlark_reader.specs.declared.reader.Reader.{Reader}
@@ -50,7 +50,7 @@ number_changes class.Identifier word found view = ap keeps_nesting view
 number_changes (class.Fixed terminal) word found view = ap keeps_nesting view
 
 -- the step of a number that isn't a 0 before more digits
-pub number_step : (text : Text) (history : History) (reader : Reader) (word : Word) (found : Token) → IsStateAfter text history reader → IsWordHere text reader word → is_number word.class ≡ true
+pub number_step : {origin : Origin} → (text : Text) (history : History) (reader : Reader) (word : Word) (found : Token) → IsStateAfter origin text history reader → IsWordHere text reader word → is_number word.class ≡ true
     → (word.class ≡ class.Decimal → starts_zero (take word.len (drop reader.at text)) ≡ false) → token_view found ≡ Whole (number_of word.class (take word.len (drop reader.at text))) → IsStep (step_here text history reader) (step.Token found word.len)
 number_step text history reader word found kept here number plain view =
     let rest = drop reader.at text in

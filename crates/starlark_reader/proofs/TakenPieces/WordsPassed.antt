@@ -23,7 +23,7 @@ use Rattle.starlark_words.specs.Inner.LiteralViews.{IsPlainBody}
 use Rattle.starlark_words.specs.declared.scanner.word.Word.{Word}
 use Rattle.starlark_reader.specs.Inner.Pending.{comment_lexeme, owed}
 use Rattle.starlark_reader.specs.Inner.ReadBounds.{IsTaken}
-use Rattle.starlark_reader.specs.Inner.Reader.{IsAtCode, IsAtStep, IsPlainTextHere, IsReadPast, IsSound, IsStateAfter, IsWordHere, KeepsAhead, PassesNext, Takes, TakesNext, chunk_lexemes, fstring_text_lexeme, left_here, name_lexeme, step_here, text_lexeme}
+use Rattle.starlark_reader.specs.Inner.Reader.{IsAtCode, IsAtStep, IsPlainTextHere, IsReadPast, IsSound, IsStateAfter, IsWordHere, KeepsAhead, Origin, PassesNext, Takes, TakesNext, chunk_lexemes, fstring_text_lexeme, left_here, name_lexeme, step_here, text_lexeme}
 use Rattle.starlark_reader.specs.declared.reader.Before.{Before}
 use Rattle.starlark_reader.specs.declared.reader.Before.TheVariants as before
 use Rattle.starlark_reader.specs.declared.reader.Reader.{Reader}
@@ -40,7 +40,7 @@ stepped old len sort = record old { at = old.at + len; before = sort; stage = st
 pub word_inside_text : (old : Reader) (word : Word) → IsSound old → IsWordHere old.text.now old word → (1 ≤ word.len) × (old.at + word.len < 2 ^ 64)
 word_inside_text old word sound stands =
     let left = state_here old sound stands.stage in
-    let within = word_within old.text.now left.0 old word.class word.len left.1 stands in
+    let within = word_within old.text.now left.1 old word.class word.len left.2 stands in
     (within.0, omega (arith, within.1, sound.text.fits))
 
 pub step_taken : (old new : Reader) (len : ℕ) (sort : Before) → 1 ≤ len → new ≡ stepped old len sort → IsTaken len old new
@@ -52,7 +52,7 @@ step_in_code old new word len sort stands is = rw is (record { stage = refl; idl
 
 pub gap_passed : (old new : Reader) (len : ℕ) → IsSound old → IsWordHere old.text.now old (record { class = class.Skipped; len = len }) → new ≡ stepped old len before.Gap → TakesNext old None new
 gap_passed old new len sound stands is =
-    taken_here old None new stands.stage stands.idle (λ history kept. nothing_taken old.text.now history old new len true sound.text.utf8 kept (gap_here old.text.now history old len kept stands) stands.idle is)
+    taken_here old None new stands.stage stands.idle (λ origin history kept. nothing_taken old.text.now history old new len true sound.text.utf8 kept (gap_here old.text.now history old len kept stands) stands.idle is)
 
 -- spaces at the offset, if there are any
 pub spaces_word : (old : Reader) (gap : ℕ) (rest : Text) → IsAtCode old.text.now old → rest ≡ drop old.at old.text.now → language_front rest ≡ Some (class.Skipped, gap) → is_bang rest ≡ false → IsWordHere old.text.now old (record { class = class.Skipped; len = gap })
@@ -62,18 +62,18 @@ pub spaces_passed : (old mid : Reader) (gap : ℕ) → IsSound old → IsWordHer
 spaces_passed old mid gap sound stands is = (gap_passed old mid gap sound stands is, ap (λ (reader : Reader). reader.stage) is, ap (λ (reader : Reader). reader.text) is)
 
 pub spaces_none : (old mid : Reader) → old.stage ≡ stage.Onward → mid ≡ old → KeepsAhead old mid × (mid.stage ≡ stage.Onward) × (mid.text ≡ old.text)
-spaces_none old mid onward is = rw is ((λ lexemes fault ahead. ahead), onward, refl)
+spaces_none old mid onward is = rw is ((λ origin lexemes fault ahead. ahead), onward, refl)
 
 pub name_stepped : (old new : Reader) (len : ℕ) → IsSound old → IsWordHere old.text.now old (record { class = class.Identifier; len = len }) → new ≡ stepped old len before.Other → PassesNext old (name_lexeme old.text.now old.at len) new
 name_stepped old new len sound stands is =
-    passed_here old _ new stands.stage stands.idle (λ history kept. token_passed old.text.now history old new len _ sound.text.utf8 kept (name_here old.text.now history old len kept stands) stands.idle refl refl is)
+    passed_here old _ new stands.stage stands.idle (λ origin history kept. token_passed old.text.now history old new len _ sound.text.utf8 kept (name_here old.text.now history old len kept stands) stands.idle refl refl is)
 
 pub comment_stepped : (old new : Reader) (len : ℕ) → IsSound old → IsWordHere old.text.now old (record { class = class.Comment; len = len }) → new ≡ stepped old len before.Other
     → PassesNext old (comment_lexeme old.text.now old.at (old.at + len)) new × IsCharBoundary old.text.now (old.at + 1)
 comment_stepped old new len sound stands is =
     let left = state_here old sound stands.stage in (
-      passed_here old _ new stands.stage stands.idle (λ history kept. token_passed old.text.now history old new len _ sound.text.utf8 kept (comment_here old.text.now history old len kept stands) stands.idle refl refl is),
-      comment_cut old.text.now left.0 old len sound.text.utf8 left.1 stands,
+      passed_here old _ new stands.stage stands.idle (λ origin history kept. token_passed old.text.now history old new len _ sound.text.utf8 kept (comment_here old.text.now history old len kept stands) stands.idle refl refl is),
+      comment_cut old.text.now left.1 old len sound.text.utf8 left.2 stands,
     )
 
 -- a string literal without escapes, whose opener has `len` bytes
@@ -81,20 +81,20 @@ module _ (old : Reader) (is_raw : Bool) (quote : Quote) (len body : ℕ) (sound 
   pub string_inside : old.at + (len + body + 1) < 2 ^ 32
   string_inside =
       let left = state_here old sound stands.stage in
-      let here = token_inside old.text.now left.0 old (len + body + 1) _ left.1 (text_here old.text.now left.0 old is_raw quote len body left.1 stands plain) in
+      let here = token_inside old.text.now left.1 old (len + body + 1) _ left.2 (text_here old.text.now left.1 old is_raw quote len body left.2 stands plain) in
       omega (arith, here.1, sound.text.fits)
 
   pub string_stepped : (new : Reader) → new ≡ stepped old (len + body + 1) before.Other → PassesNext old (text_lexeme old.text.now old.at len body) new
   string_stepped new is =
       passed_here old _ new stands.stage stands.idle
-      (λ history kept. token_passed old.text.now history old new (len + body + 1) _ sound.text.utf8 kept (text_here old.text.now history old is_raw quote len body kept stands plain) stands.idle refl refl is)
+      (λ origin history kept. token_passed old.text.now history old new (len + body + 1) _ sound.text.utf8 kept (text_here old.text.now history old is_raw quote len body kept stands plain) stands.idle refl refl is)
 
   -- its value lies between character boundaries
   pub string_value : IsCharBoundary old.text.now (old.at + len) × IsCharBoundary old.text.now (old.at + len + body)
   string_value =
       let left = state_here old sound stands.stage in
-      let word = word_cut (drop old.at old.text.now) (class.Opener kind.Text is_raw quote) len (IsUtf8-drop old.text.now old.at sound.text.utf8 left.1.boundary) (sym stands.front) in
-      let first = boundary_shift old.text.now old.at len left.1.boundary word in
+      let word = word_cut (drop old.at old.text.now) (class.Opener kind.Text is_raw quote) len (IsUtf8-drop old.text.now old.at sound.text.utf8 left.2.boundary) (sym stands.front) in
+      let first = boundary_shift old.text.now old.at len left.2.boundary word in
       (first, boundary_shift old.text.now (old.at + len) body first (rw (drop-sum old.at len old.text.now) plain.boundary))
 
 -- a text of an f-string without escapes
@@ -102,23 +102,23 @@ module _ (old : Reader) (found : Chunk) (sound : IsSound old) (stands : IsPlainT
   -- its end, where it is empty
   pub text_end_here : found.len ≡ 0 → IsAtStep old (λ history step. step ≡ text_step [] found)
   text_end_here none =
-      at_step old _ sound stands.stage stands.idle (λ history kept. stands.stands history kept ∙ ap (λ n. text_step (take n (drop old.at old.text.now)) found) none)
+      at_step old _ sound stands.stage stands.idle (λ origin history kept. stands.stands origin history kept ∙ ap (λ n. text_step (take n (drop old.at old.text.now)) found) none)
 
   pub text_end_taken : (given : Option (ℕ × Token × ℕ)) (new : Reader) → found.len ≡ 0 → Takes old (λ history step. step ≡ text_step [] found) given new → TakesNext old given new
   text_end_taken given new none read =
-      taken_here old given new stands.stage stands.idle (λ history kept. read history kept (stands.stands history kept ∙ ap (λ n. text_step (take n (drop old.at old.text.now)) found) none))
+      taken_here old given new stands.stage stands.idle (λ origin history kept. read origin history kept (stands.stands origin history kept ∙ ap (λ n. text_step (take n (drop old.at old.text.now)) found) none))
 
   pub text_here_step : IsAtStep old (λ history step. step ≡ text_step (take found.len (drop old.at old.text.now)) found)
   text_here_step = at_step old _ sound stands.stage stands.idle stands.stands
 
-  pub text_stepped : (new : Reader) → 0 < found.len → ((history : History) → IsStateAfter old.text.now history old → step_here old.text.now history old ≡ text_step (take found.len (drop old.at old.text.now)) found
-      → IsReadPast old.text.now (left_here old.text.now history old) (chunk_lexemes old.at found.len (take found.len (drop old.at old.text.now))) new) → PassesNext old (fstring_text_lexeme old.text.now old.at found.len) new
+  pub text_stepped : (new : Reader) → 0 < found.len → ((origin : Origin) (history : History) → IsStateAfter origin old.text.now history old → step_here old.text.now history old ≡ text_step (take found.len (drop old.at old.text.now)) found
+      → IsReadPast origin old.text.now (left_here old.text.now history old) (chunk_lexemes old.at found.len (take found.len (drop old.at old.text.now))) new) → PassesNext old (fstring_text_lexeme old.text.now old.at found.len) new
   text_stepped new some read =
       let value = take found.len (drop old.at old.text.now) in
       let count : 0 < length value = omega (arith, length-take found.len (drop old.at old.text.now), stands.boundary.0, some) in
       let full : (length value == 0) ≡ false = grind (arith, count) in
-      passed_here old _ new stands.stage stands.idle (λ history kept.
-      subst (λ (passed : List (Spanned TokenView)). IsReadPast old.text.now (left_here old.text.now history old) passed new) (chunk_some old.at found.len value full) (read history kept (stands.stands history kept)))
+      passed_here old _ new stands.stage stands.idle (λ origin history kept.
+      subst (λ (passed : List (Spanned TokenView)). IsReadPast origin old.text.now (left_here old.text.now history old) passed new) (chunk_some old.at found.len value full) (read origin history kept (stands.stands origin history kept)))
 
   pub text_edges : IsCharBoundary old.text.now old.at × IsCharBoundary old.text.now (old.at + found.len)
-  text_edges = let left = state_here old sound stands.stage in (left.1.boundary, boundary_shift old.text.now old.at found.len left.1.boundary stands.boundary)
+  text_edges = let left = state_here old sound stands.stage in (left.2.boundary, boundary_shift old.text.now old.at found.len left.2.boundary stands.boundary)

@@ -1,4 +1,4 @@
--- What is ahead of a reader in its text, as the grammar sees it.
+-- What is ahead of a reader in its text, as the grammar sees it, wherever its reading began.
 use Rattle.std.specs.Prelude.{◌≡◌, ◌==◌, ◌&&◌, not, Bool, true, false, ℕ, ◌+◌, ◌-◌, ◌≤◌, ◌<◌, ◌^◌, List, [], ◌∷◌, ◌++◌, map, length, drop, take, Option, Some, None, option_to_list, ⊤}
 use Rattle.std.specs.Str.{IsCharBoundary, IsUtf8}
 use Rattle.starlark_grammar.specs.Words.{Text, language}
@@ -25,6 +25,7 @@ use Rattle.starlark_grammar.specs.declared.class.Terminal.{Terminal}
 use Rattle.starlark_token.specs.declared.lexeme_error.LexemeError.{LexemeError}
 use Rattle.starlark_token.specs.declared.tokens.Token.{Token}
 use Rattle.starlark_token.specs.declared.tokens.Token.TheVariants as token
+use Rattle.starlark_reader.specs.declared.nesting.Nesting.{Nesting}
 use Rattle.starlark_reader.specs.declared.reader.Reader.{Reader}
 use Rattle.starlark_reader.specs.declared.reader.Before as code
 use Rattle.starlark_reader.specs.declared.reader.Before.TheVariants as before
@@ -53,6 +54,21 @@ history_of text = after_all nothing (read language text).pieces
 unfoldable pub history_from : History → Text → History
 history_from history text = after_all history (read_from language history 0 text).pieces
 
+-- Where the reading of a text began: at its start, or at an offset, where what was read before is a history.
+pub data Origin : Type 0 where
+  Start : Origin
+  From : (history : History) (at : ℕ) → Origin
+
+-- the outcome of a text from there on
+abbrev pub outcome_since : Origin → Text → grammar.Outcome
+outcome_since Start text = outcome text
+outcome_since (From history at) text = remaining_outcome history at (drop at text)
+
+-- the history after all pieces from there on
+abbrev pub history_since : Origin → Text → History
+history_since Start text = history_of text
+history_since (From history at) text = history_from history (drop at text)
+
 -- the kind of the last piece, as the grammar names it
 abbrev pub before_view : code.Before → Before
 before_view before.Layout = Layout
@@ -73,23 +89,29 @@ pub record IsReadTo (text : Text) (history : History) (at : ℕ) : Type 0 where
 
 -- the reader stores what the history says at its offset: tokens, widths and last piece; reading on
 -- from there leads to the history at the text's end
-pub record IsStateAfter (text : Text) (history : History) (reader : Reader) : Type 0 where
+pub record IsStateAfter (origin : Origin) (text : Text) (history : History) (reader : Reader) : Type 0 where
   pub nesting : Represents history.tokens reader.nesting
   pub levels : reader.levels ≡ open_widths history.widths
   pub before : before_view reader.before ≡ history.before
   pub inside : reader.at ≤ length text
   pub boundary : IsCharBoundary text reader.at
   pub few : bracket_count reader.nesting ≤ reader.at
-  pub onward : history_from history (drop reader.at text) ≡ history_of text
-  pub read : IsReadTo text history reader.at
+  pub onward : history_from history (drop reader.at text) ≡ history_since origin text
+  pub read : origin ≡ Start → IsReadTo text history reader.at
 
 -- whether a text's first margin has a tab before content, which is a fault
 abbrev pub begins_with_tab : Text → Bool
 begins_with_tab text = is_content (margin_of text).remainder && has_tab (margin_of text)
 
 -- at a fault the reader stores what the history of all pieces says, unless the fault is in the first margin
-abbrev pub IsStateAtFault : Text → Reader → Type 0
-IsStateAtFault text reader = begins_with_tab text ≡ false → IsStateAfter text (history_of text) reader
+abbrev pub IsStateAtFault : Origin → Text → Reader → Type 0
+IsStateAtFault origin text reader = (origin ≡ Start → begins_with_tab text ≡ false) → IsStateAfter origin text (history_since origin text) reader
+
+-- after one history all is open that was open after another, and its last piece was neither a margin nor a gap
+pub record HasKept (history next : History) : Type 0 where
+  pub nesting : (nesting : Nesting) → Represents history.tokens nesting → Represents next.tokens nesting
+  pub levels : open_widths next.widths ≡ open_widths history.widths
+  pub before : next.before ≡ Other
 
 -- whether no piece of a text was read
 abbrev pub has_read_none : Reader → Bool
@@ -97,11 +119,12 @@ has_read_none reader = reader.at == 0 && not (is_layout (before_view reader.befo
 
 -- what is still to be read at a stage: the whole text, the rest from the reader's offset on, a
 -- fault, or nothing; the offset is in the text
-abbrev pub IsLeft : Text → Reader → Stage → grammar.Outcome → Type 0
-IsLeft text reader stage.Begin left = (left ≡ outcome text) × (reader.at ≡ 0) × (Represents [] reader.nesting) × (reader.levels ≡ []) × (bracket_count reader.nesting ≡ 0) × (reader.before ≡ before.Other)
-IsLeft text reader stage.Onward left = (history : History) × IsStateAfter text history reader × (left ≡ remaining_outcome history reader.at (drop reader.at text))
-IsLeft text reader (stage.Fault begin fault end) left = (node : grammar.Fault) × (fault_view fault ≡ Some node) × (left ≡ record { lexemes = []; fault = Some (record { begin = begin; node = node; end = end }) }) × (has_read_none reader ≡ begins_with_tab text) × (reader.at ≤ length text) × IsStateAtFault text reader
-IsLeft text reader stage.Closed left = (left ≡ record { lexemes = []; fault = None }) × IsStateAfter text (history_of text) reader
+abbrev pub IsLeft : Origin → Text → Reader → Stage → grammar.Outcome → Type 0
+IsLeft origin text reader stage.Begin left = (left ≡ outcome text) × (reader.at ≡ 0) × (Represents [] reader.nesting) × (reader.levels ≡ []) × (bracket_count reader.nesting ≡ 0) × (reader.before ≡ before.Other) × (origin ≡ Start)
+IsLeft origin text reader stage.Onward left = (history : History) × IsStateAfter origin text history reader × (left ≡ remaining_outcome history reader.at (drop reader.at text))
+IsLeft origin text reader (stage.Fault begin fault end) left =
+    (node : grammar.Fault) × (fault_view fault ≡ Some node) × (left ≡ record { lexemes = []; fault = Some (record { begin = begin; node = node; end = end }) }) × (origin ≡ Start → has_read_none reader ≡ begins_with_tab text) × (reader.at ≤ length text) × IsStateAtFault origin text reader × (reader.at ≤ begin)
+IsLeft origin text reader stage.Closed left = (left ≡ record { lexemes = []; fault = None }) × IsStateAfter origin text (history_since origin text) reader
 
 -- in a flat margin, if `pending.from` isn't the text's end: all lexemes before that byte were
 -- yielded, and `ahead` are left
@@ -125,19 +148,19 @@ abbrev pub IsReached : Reader → ℕ → Type 0
 IsReached reader at = IsInFlatMargin reader reader.stage × (at ≡ reader.pending.from)
 
 -- the lexemes and the fault that are still to be yielded: pending lexemes, those still to be read,
--- and the fault after them
-pub record IsAhead (text : Text) (reader : Reader) (stage : Stage) (lexemes : List (grammar.Spanned TokenView)) (fault : Option (grammar.Spanned grammar.Fault)) : Type 0 where
+-- and the fault after them; cuts are known where the reading began at the text's start
+pub record IsAhead (origin : Origin) (text : Text) (reader : Reader) (stage : Stage) (lexemes : List (grammar.Spanned TokenView)) (fault : Option (grammar.Spanned grammar.Fault)) : Type 0 where
   pub left : grammar.Outcome
-  pub is_left : IsLeft text reader stage left
+  pub is_left : IsLeft origin text reader stage left
   pub is_pending : IsPending text reader.pending
   pub ahead : lexemes ≡ map shown_lexeme (pending_lexemes text reader.pending) ++ map shown_lexeme left.lexemes
   pub those_after : fault ≡ left.fault
-  pub cut : IsCutAhead text reader stage (length lexemes)
-  pub cuts : HoldsCuts text reader stage (length left.lexemes) (length lexemes) (length lexemes)
+  pub cut : origin ≡ Start → IsCutAhead text reader stage (length lexemes)
+  pub cuts : origin ≡ Start → HoldsCuts text reader stage (length left.lexemes) (length lexemes) (length lexemes)
 
 -- something is still to be yielded, if only the end
 abbrev pub IsReady : Text → Reader → Stage → Type 0
-IsReady text reader stage = (lexemes : List (grammar.Spanned TokenView)) × (fault : Option (grammar.Spanned grammar.Fault)) × IsAhead text reader stage lexemes fault
+IsReady text reader stage = (origin : Origin) × (lexemes : List (grammar.Spanned TokenView)) × (fault : Option (grammar.Spanned grammar.Fault)) × IsAhead origin text reader stage lexemes fault
 
 -- a text is UTF-8, and short enough for offsets of 32 bits
 pub record IsText (text : Text) : Type 0 where
@@ -150,30 +173,31 @@ pub record IsSound (reader : Reader) : Type 0 where
   pub ready : IsReady reader.text.now reader reader.stage
 
 -- what is ahead after a lexeme was passed; a kept cut right after it is reached
-abbrev pub IsAheadPast : Text → grammar.Spanned TokenView → Reader → List (grammar.Spanned TokenView) → Option (grammar.Spanned grammar.Fault) → Type 0
-IsAheadPast text lexeme reader lexemes fault = (more : List (grammar.Spanned TokenView)) × (lexemes ≡ lexeme ∷ more) × IsAhead text reader reader.stage more fault × ((at : ℕ) → IsCutBefore text at (length more) → IsReached reader at)
+abbrev pub IsAheadPast : Origin → Text → grammar.Spanned TokenView → Reader → List (grammar.Spanned TokenView) → Option (grammar.Spanned grammar.Fault) → Type 0
+IsAheadPast origin text lexeme reader lexemes fault =
+    (more : List (grammar.Spanned TokenView)) × (lexemes ≡ lexeme ∷ more) × IsAhead origin text reader reader.stage more fault × (origin ≡ Start → (at : ℕ) → IsCutBefore text at (length more) → IsReached reader at)
 
 -- what is ahead after a lexeme was yielded, if one was
-abbrev pub IsAheadAfter : Text → Option (ℕ × Token × ℕ) → Reader → List (grammar.Spanned TokenView) → Option (grammar.Spanned grammar.Fault) → Type 0
-IsAheadAfter text None reader lexemes fault = IsAhead text reader reader.stage lexemes fault
-IsAheadAfter text (Some lexeme) reader lexemes fault = IsAheadPast text (lexeme_view lexeme) reader lexemes fault
+abbrev pub IsAheadAfter : Origin → Text → Option (ℕ × Token × ℕ) → Reader → List (grammar.Spanned TokenView) → Option (grammar.Spanned grammar.Fault) → Type 0
+IsAheadAfter origin text None reader lexemes fault = IsAhead origin text reader reader.stage lexemes fault
+IsAheadAfter origin text (Some lexeme) reader lexemes fault = IsAheadPast origin text (lexeme_view lexeme) reader lexemes fault
 
 -- lexemes of an outcome were read: first those passed, the others are pending, and the rest of the
 -- outcome is still to be read
-pub record IsReadPast (text : Text) (whole : grammar.Outcome) (passed : List (grammar.Spanned TokenView)) (new : Reader) : Type 0 where
+pub record IsReadPast (origin : Origin) (text : Text) (whole : grammar.Outcome) (passed : List (grammar.Spanned TokenView)) (new : Reader) : Type 0 where
   pub lexemes : List grammar.Lexeme
   pub left : grammar.Outcome
-  pub is_left : IsLeft text new new.stage left
+  pub is_left : IsLeft origin text new new.stage left
   pub parts : whole.lexemes ≡ lexemes ++ left.lexemes
   pub fault : whole.fault ≡ left.fault
   pub is_pending : IsPending text new.pending
   pub yielded_count : map shown_lexeme lexemes ≡ passed ++ map shown_lexeme (pending_lexemes text new.pending)
-  pub cut : IsCutAhead text new new.stage (length (pending_lexemes text new.pending) + length left.lexemes)
-  pub cuts : HoldsCuts text new new.stage (length left.lexemes) (length lexemes + length left.lexemes) (length (pending_lexemes text new.pending) + length left.lexemes)
+  pub cut : origin ≡ Start → IsCutAhead text new new.stage (length (pending_lexemes text new.pending) + length left.lexemes)
+  pub cuts : origin ≡ Start → HoldsCuts text new new.stage (length left.lexemes) (length lexemes + length left.lexemes) (length (pending_lexemes text new.pending) + length left.lexemes)
 
 -- lexemes of an outcome were read, of which the first may be the one given
-abbrev pub IsRead : Text → grammar.Outcome → Option (ℕ × Token × ℕ) → Reader → Type 0
-IsRead text whole given new = IsReadPast text whole (map lexeme_view (option_to_list given)) new
+abbrev pub IsRead : Origin → Text → grammar.Outcome → Option (ℕ × Token × ℕ) → Reader → Type 0
+IsRead origin text whole given new = IsReadPast origin text whole (map lexeme_view (option_to_list given)) new
 
 -- the step at the reader's offset, after a history
 abbrev pub step_here : Text → History → Reader → Step
@@ -187,7 +211,7 @@ left_here text history reader = remaining_outcome history reader.at (drop reader
 pub record IsAtStep (reader : Reader) (P : History → Step → Type 0) : Type 0 where
   pub text : IsText reader.text.now
   pub stage : reader.stage ≡ stage.Onward
-  pub stands : (history : History) × IsStateAfter reader.text.now history reader × P history (step_here reader.text.now history reader)
+  pub stands : (origin : Origin) × (history : History) × IsStateAfter origin reader.text.now history reader × P history (step_here reader.text.now history reader)
   pub idle : IsIdle reader.text.now reader.pending
 
 -- the step is that of a newline of `len` bytes, with the margin after it
@@ -202,19 +226,19 @@ pub record IsAtLineEnd (reader : Reader) (len : ℕ) : Type 0 where
 -- the step at the old offset, if it is as `P` says, was read: of its lexemes the first may be the one given
 abbrev pub Takes : Reader → (History → Step → Type 0) → Option (ℕ × Token × ℕ) → Reader → Type 0
 Takes old P given new =
-    (history : History) → IsStateAfter old.text.now history old → P history (step_here old.text.now history old) → IsRead old.text.now (left_here old.text.now history old) given new
+    (origin : Origin) (history : History) → IsStateAfter origin old.text.now history old → P history (step_here old.text.now history old) → IsRead origin old.text.now (left_here old.text.now history old) given new
 
 -- the same is ahead as before
 abbrev pub KeepsAhead : Reader → Reader → Type 0
-KeepsAhead old new = (lexemes : List (grammar.Spanned TokenView)) (fault : Option (grammar.Spanned grammar.Fault)) → IsAhead old.text.now old old.stage lexemes fault → IsAhead old.text.now new new.stage lexemes fault
+KeepsAhead old new = (origin : Origin) (lexemes : List (grammar.Spanned TokenView)) (fault : Option (grammar.Spanned grammar.Fault)) → IsAhead origin old.text.now old old.stage lexemes fault → IsAhead origin old.text.now new new.stage lexemes fault
 
 -- of what was ahead the first lexeme was passed, …
 abbrev pub PassesNext : Reader → grammar.Spanned TokenView → Reader → Type 0
-PassesNext old lexeme new = (lexemes : List (grammar.Spanned TokenView)) (fault : Option (grammar.Spanned grammar.Fault)) → IsAhead old.text.now old old.stage lexemes fault → IsAheadPast old.text.now lexeme new lexemes fault
+PassesNext old lexeme new = (origin : Origin) (lexemes : List (grammar.Spanned TokenView)) (fault : Option (grammar.Spanned grammar.Fault)) → IsAhead origin old.text.now old old.stage lexemes fault → IsAheadPast origin old.text.now lexeme new lexemes fault
 
 -- … or yielded, if one was
 abbrev pub TakesNext : Reader → Option (ℕ × Token × ℕ) → Reader → Type 0
-TakesNext old given new = (lexemes : List (grammar.Spanned TokenView)) (fault : Option (grammar.Spanned grammar.Fault)) → IsAhead old.text.now old old.stage lexemes fault → IsAheadAfter old.text.now given new lexemes fault
+TakesNext old given new = (origin : Origin) (lexemes : List (grammar.Spanned TokenView)) (fault : Option (grammar.Spanned grammar.Fault)) → IsAhead origin old.text.now old old.stage lexemes fault → IsAheadAfter origin old.text.now given new lexemes fault
 
 -- a measure that decreases with each piece
 abbrev pub left_to_read : Text → Reader → Stage → ℕ
@@ -244,16 +268,17 @@ IsSomething lexemes fault = lexemes ≡ [] → fault ≡ None → ⊥
 
 -- something was ahead
 abbrev pub HasSomething : Reader → Type 0
-HasSomething old = (lexemes : List (grammar.Spanned TokenView)) (fault : Option (grammar.Spanned grammar.Fault)) → IsAhead old.text.now old old.stage lexemes fault → IsSomething lexemes fault
+HasSomething old = (origin : Origin) (lexemes : List (grammar.Spanned TokenView)) (fault : Option (grammar.Spanned grammar.Fault)) → IsAhead origin old.text.now old old.stage lexemes fault → IsSomething lexemes fault
 
 -- the fault of the text, between two offsets
 abbrev pub IsRaw : grammar.Spanned grammar.Fault → ℕ × LexemeError × ℕ → Type 0
 IsRaw fault found = (found.0 ≡ fault.begin) × (fault_view found.1 ≡ Some fault.node) × (found.2 ≡ fault.end)
 
 -- what is returned after the last lexeme: the fault, if there is one
-abbrev pub IsLast : Text → List (grammar.Spanned TokenView) → Option (grammar.Spanned grammar.Fault) → Option (ℕ × LexemeError × ℕ) → Reader → Type 0
-IsLast text lexemes fault (Some found) reader = (lexemes ≡ []) × ((it : grammar.Spanned grammar.Fault) × (fault ≡ Some it) × IsRaw it found) × (has_read_none reader ≡ begins_with_tab text) × IsStateAtFault text reader
-IsLast text lexemes fault None reader = (lexemes ≡ []) × (fault ≡ None) × IsAhead text reader reader.stage [] None × IsStateAfter text (history_of text) reader
+abbrev pub IsLast : Origin → Text → List (grammar.Spanned TokenView) → Option (grammar.Spanned grammar.Fault) → Option (ℕ × LexemeError × ℕ) → Reader → Type 0
+IsLast origin text lexemes fault (Some found) reader =
+    (lexemes ≡ []) × ((it : grammar.Spanned grammar.Fault) × (fault ≡ Some it) × IsRaw it found) × (origin ≡ Start → has_read_none reader ≡ begins_with_tab text) × IsStateAtFault origin text reader × (reader.at ≤ found.0)
+IsLast origin text lexemes fault None reader = (lexemes ≡ []) × (fault ≡ None) × IsAhead origin text reader reader.stage [] None × IsStateAfter origin text (history_since origin text) reader
 
 -- the reader is in code or in an f-string expression
 abbrev pub IsInCode : Reader → Type 0
@@ -278,14 +303,14 @@ pub record IsBangHere (text : Text) (reader : Reader) : Type 0 where
   pub stage : reader.stage ≡ stage.Onward
   pub idle : IsIdle text reader.pending
   pub code : IsInCode reader
-  pub stands : (history : History) → IsStateAfter text history reader → step_here text history reader ≡ pieces.token 1 grammar.FStringBang
+  pub stands : (origin : Origin) (history : History) → IsStateAfter origin text history reader → step_here text history reader ≡ pieces.token 1 grammar.FStringBang
 
 -- an f-string text without escapes is at the reader's offset, and no lexeme is pending
 pub record IsPlainTextHere (text : Text) (reader : Reader) (found : Chunk) : Type 0 where
   pub stage : reader.stage ≡ stage.Onward
   pub idle : IsIdle text reader.pending
   pub boundary : IsCharBoundary (drop reader.at text) found.len
-  pub stands : (history : History) → IsStateAfter text history reader → step_here text history reader ≡ text_step (take found.len (drop reader.at text)) found
+  pub stands : (origin : Origin) (history : History) → IsStateAfter origin text history reader → step_here text history reader ≡ text_step (take found.len (drop reader.at text)) found
 
 -- the `Newline` of a newline of `len` bytes at byte `at`, if its margin has no fault
 abbrev pub newline_if : Bool → ℕ → ℕ → Option (ℕ × Token × ℕ)

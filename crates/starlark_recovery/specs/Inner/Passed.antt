@@ -1,6 +1,7 @@
 -- Faults that are passed.
-use Rattle.std.specs.Prelude.{◌≡◌, ◌+◌, ℕ, Bool, true, false, drop}
-use Rattle.std.specs.Str.{IsCharBoundary}
+use Rattle.std.specs.Prelude.{◌≡◌, ◌+◌, ◌==◌, ◌&&◌, ◌||◌, ℕ, Bool, true, false, not, codes, drop, string_bytes}
+use Rattle.std.specs.Str.{IsCharBoundary, bytes_eq}
+use Rattle.starlark_grammar.specs.Margins.{begins_with_line_end}
 use Rattle.starlark_base.specs.Sources.{SourceFile}
 use Rattle.starlark_grammar.specs.Tokens.{Fault, Spanned, moved}
 use Rattle.starlark_grammar.specs.Words.{Text}
@@ -10,12 +11,20 @@ use Rattle.starlark_recovery.specs.declared.passed_faults.Passed.{Passed}
 use Rattle.starlark_errors.specs.Exceptions.{IsException}
 use Rattle.starlark_words.specs.Inner.Reads.{AreReads}
 use Rattle.starlark_token.specs.declared.lexeme_error.LexemeError.{LexemeError}
-use Rattle.starlark_token.specs.declared.lexeme_error.LexemeError.TheVariants.{InvalidTab}
+use Rattle.starlark_token.specs.declared.lexeme_error.LexemeError.TheVariants as error
 
 -- the error is that of a tab
 abbrev pub is_tab_error : LexemeError → Bool
-is_tab_error InvalidTab = true
-is_tab_error error = false
+is_tab_error error.InvalidTab = true
+is_tab_error it = false
+
+-- whether an error at byte `begin` of a text keeps its line
+abbrev pub error_keeps_line : Text → (begin : ℕ) → LexemeError → (follows_comment : Bool) → Bool
+error_keeps_line text begin (error.ReservedKeyword word) follows_comment = true
+error_keeps_line text begin (error.StartsZero word) follows_comment = true
+error_keeps_line text begin (error.InvalidInput character) follows_comment = not (bytes_eq (string_bytes character) (codes "}")) && not follows_comment
+error_keeps_line text begin error.InvalidTab follows_comment = not (begin == 0 || begins_with_line_end (drop begin text))
+error_keeps_line text begin it follows_comment = false
 
 -- a fault of a text's part from byte `begin` on was passed: its exception is moved, and lexing goes on after its line, which
 -- was searched for

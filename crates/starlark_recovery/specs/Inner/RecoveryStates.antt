@@ -1,5 +1,5 @@
 -- The state of a lexer that goes on after faults, and what is left to it.
-use Rattle.std.specs.Prelude.{◌≡◌, ◌≤◌, ◌<◌, ◌^◌, ◌+◌, ◌==◌, ◌&&◌, ◌||◌, ℕ, Bool, true, false, List, [], map, length, drop, take, if◌then◌else◌, Option, None, Some, IfSome, Result}
+use Rattle.std.specs.Prelude.{◌≡◌, ◌≤◌, ◌<◌, ◌^◌, ◌+◌, ◌==◌, ◌&&◌, ◌||◌, ℕ, zero, suc, Bool, true, false, List, [], ◌∷◌, map, length, drop, take, if◌then◌else◌, Option, None, Some, IfSome, Result}
 use Rattle.std.specs.List.{AllByRecursion}
 use Rattle.std.specs.Str.{IsCharBoundary, IsUtf8}
 use Rattle.starlark_base.specs.Diagnostics.{Diagnosed}
@@ -10,11 +10,11 @@ use Rattle.starlark_grammar.specs.Tokens as grammar
 use Rattle.starlark_grammar.specs.Tokens.{Fault, Lexeme, Spanned, moved}
 use Rattle.starlark_grammar.specs.Words.{Text}
 use Rattle.starlark_errors.specs.Exceptions.{IsException}
-use Rattle.starlark_lexemes.specs.Inner.LexerStates.{HasFound, IsAtFault, IsLexingIn}
-use Rattle.starlark_recovery.specs.Inner.MendedTexts.{bytes_of}
+use Rattle.starlark_lexemes.specs.Inner.LexerStates.{AreReadsTo, Course, HasFound, IsAtFault, IsLexingIn}
 use Rattle.starlark_lexemes.specs.Inner.RawItems.{OffsetsHold}
-use Rattle.starlark_lexemes.specs.Lexer.{Given, HasReadToFault, LexerItem, Refused, is_ended_by, yielded_by}
-use Rattle.starlark_recovery.specs.RecoveringLexer.{AreReadsOn, RecoveringView, most_reads_on, shown_item}
+use Rattle.starlark_lexemes.specs.Lexer.{Given, LexerItem, Refused, is_ended_by, yielded_by}
+use Rattle.starlark_reader.specs.Inner.Reader.{Origin, Start, history_of, history_since}
+use Rattle.starlark_recovery.specs.RecoveringLexer.{AreReadsOn, RecoveringView, all_items, most_reads_on, shown_item}
 use Rattle.starlark_errors.specs.declared.error.kinds.ErrorKind.{ErrorKind}
 use Rattle.starlark_recovery.specs.declared.recovery_state.RecoveryState.{RecoveryState}
 use Rattle.starlark_text.specs.declared.or_memory.OrMemory.{OrMemory}
@@ -37,18 +37,25 @@ items_past passed text = map shown_item (found_past passed text)
 abbrev pub items_after : Text → Spanned Fault → List LexerItem
 items_after text fault = map shown_item (found_after text fault (keeps_line text (outcome text).lexemes fault) found_past)
 
--- the part of the text that is lexed now, with its repairs
-abbrev pub part_of : RecoveryState → Text
-part_of state = drop state.begin (bytes_of state.mended)
+-- the items after so many faults
+abbrev pub after_faults : ℕ → List LexerItem → List LexerItem
+after_faults zero items = items
+after_faults (suc n) [] = []
+after_faults (suc n) (Given lexeme ∷ items) = after_faults (suc n) items
+after_faults (suc n) (Refused fault ∷ items) = after_faults n items
 
--- the items that are left
+-- the part of the text that is lexed now
+abbrev pub part_of : RecoveryState → Text
+part_of state = drop state.begin state.text.now
+
+-- the items that are left: those after the faults that were told, but for the lexemes that were yielded since
 abbrev pub left_of : RecoveryState → List LexerItem
-left_of state = if state.state.has_ended then [] else map (moved_item state.begin) (items_past state.state.yielded_count (part_of state))
+left_of state = if state.state.has_ended then [] else drop state.state.yielded_count (after_faults state.fault_count (all_items state.text.now))
 
 -- the lexer as its users see it
 abbrev pub view_of : RecoveryState → RecoveringView
 view_of state = record {
-  text = state.mended.text.now;
+  text = state.text.now;
   code_map = state.code_map;
   left = left_of state;
   fault_count = state.fault_count;
@@ -78,61 +85,87 @@ pub record HasReadBefore (begin to fault_count reads : ℕ) : Type 0 where
   pub least : fault_count ≤ reads
   pub most : reads ≤ most_reads_on begin fault_count
 
--- the text is short, its copy has as many bytes, and the part begins between characters of both
+-- The part with all repairs so far, how many of its lexemes are before the end of the last one, and where reading began
+-- after that. No code has it.
+pub record Mended : Type 0 where
+  pub text : Text
+  pub passed : ℕ
+  pub origin : Origin
+
+-- what is lexed since the last fault
+abbrev pub course_of : Mended → Course
+course_of mended = record { origin = mended.origin; lexemes = drop mended.passed (outcome mended.text).lexemes; fault = (outcome mended.text).fault }
+
+-- whether a fault of it keeps its line
+abbrev pub mended_keeps : Mended → Spanned Fault → Bool
+mended_keeps mended fault = keeps_line mended.text (outcome mended.text).lexemes fault
+
+-- Repairs of a part are before byte `to`, and all that is left is from there on.
+pub record IsMended (part : Text) (mended : Mended) (to : ℕ) : Type 0 where
+  pub inside : to ≤ length part
+  pub same : drop to mended.text ≡ drop to part
+  pub len : length mended.text ≡ length part
+  pub utf8 : IsUtf8 mended.text
+  pub passed : mended.passed ≤ length (outcome mended.text).lexemes
+  pub lexemes : AllByRecursion (λ (lexeme : Lexeme). to ≤ lexeme.begin) (course_of mended).lexemes
+  pub fault : IfSome (outcome mended.text).fault (λ fault. (to ≤ fault.begin) × (to < length part))
+  pub history : history_since mended.origin part ≡ history_of mended.text
+  pub start : mended.origin ≡ Start → mended.text ≡ part
+
+-- the text is short, and the part, which the reader has, begins between characters
 pub record IsPart (state : RecoveryState) : Type 0 where
-  pub fits : length state.mended.text.now < 2 ^ 32
-  pub utf8 : IsUtf8 state.mended.text.now
-  pub len : length (bytes_of state.mended) ≡ length state.mended.text.now
-  pub boundary : IsCharBoundary state.mended.text.now state.begin
-  pub whole : IsCharBoundary (bytes_of state.mended) state.begin
-  pub lexing : IsLexingIn (part_of state) state.state
-  pub own : state.mended.copy ≡ None → state.state.reader.text.now ≡ part_of state
+  pub fits : length state.text.now < 2 ^ 32
+  pub utf8 : IsUtf8 state.text.now
+  pub boundary : IsCharBoundary state.text.now state.begin
+  pub own : state.state.reader.text.now ≡ part_of state
 
--- from byte `to` of the part on the text has no repair
-pub record IsMended (state : RecoveryState) (to : ℕ) : Type 0 where
-  pub inside : to ≤ length (part_of state)
-  pub same : drop to (part_of state) ≡ drop (state.begin + to) state.mended.text.now
+-- what is left, by what was told
+abbrev pub IsLeftOf : RecoveryState → Mended → Type 0
+IsLeftOf state mended = after_faults state.fault_count (all_items state.text.now) ≡ map (moved_item state.begin) (items_past mended.passed mended.text)
 
--- what is left is after all repairs
+-- lexing goes on in the part
 pub record IsOnward (state : RecoveryState) : Type 0 where
+  pub mended : Mended
   pub to : ℕ
-  pub mended : IsMended state to
-  pub lexemes : AllByRecursion (λ (lexeme : Lexeme). to ≤ lexeme.begin) (drop state.state.yielded_count (outcome (part_of state)).lexemes)
-  pub fault : IfSome (outcome (part_of state)).fault (λ fault. (to ≤ fault.begin) × (to < length (part_of state)))
-  pub comment : (at : ℕ) → ends_by_comment at (take state.state.yielded_count (outcome (part_of state)).lexemes) ≡ is_end state.comment state.state.yielded_count at
+  pub is_mended : IsMended (part_of state) mended to
+  pub lexing : IsLexingIn (course_of mended) (part_of state) state.state
+  pub left : IsLeftOf state mended
+  pub comment : (at : ℕ) → ends_by_comment at (take (mended.passed + state.state.yielded_count) (outcome mended.text).lexemes) ≡ is_end state.comment state.state.yielded_count at
   pub earlier : IfSome state.comment (λ comment. comment.0 ≤ state.state.yielded_count)
   pub reads : HasReadBefore state.begin to state.fault_count state.earlier_reads
 
 -- a lexer that goes on after faults, unless out of memory has ended it
 pub record IsRecovering (state : RecoveryState) : Type 0 where
   pub is_part : IsPart state
+  pub lexing : (course : Course) × IsLexingIn course (part_of state) state.state
   pub onward : state.state.has_ended ≡ false → IsOnward state
 
 -- the next item of the part was found
 pub record IsAdvanced (before : RecoveryState) (item : Option (Result (ℕ × Token × ℕ) (OrMemory (ℕ × LexemeError × ℕ)))) (now : RecoveryState) : Type 0 where
   pub recovering : IsRecovering before
   pub ended : before.state.has_ended ≡ true → (item ≡ None) × (now.state.reader.reads ≡ before.state.reader.reads)
-  pub found : before.state.has_ended ≡ false → HasFound (part_of before) before.state item now.state
-  pub lexing : IsLexingIn (part_of before) now.state
+  pub found : before.state.has_ended ≡ false → (course : Course) → IsLexingIn course (part_of before) before.state → HasFound course (part_of before) before.state item now.state
+  pub lexing : (course : Course) → IsLexingIn course (part_of before) before.state → IsLexingIn course (part_of before) now.state
   pub within : OffsetsHold (IsWithin (part_of before)) item
   pub between : OffsetsHold (λ from to. IsCharBoundary (part_of before) from × IsCharBoundary (part_of before) to) item
   pub count : now.state.yielded_count ≡ before.state.yielded_count + yielded_by item
   pub ends : now.state.has_ended ≡ (before.state.has_ended || is_ended_by item)
-  pub own : before.mended.copy ≡ None → now.state.reader.text.now ≡ part_of before
+  pub own : now.state.reader.text.now ≡ part_of before
   pub after : now ≡ record before { state = now.state }
 
 -- the fault of the part was taken
 pub record IsStopped (state : RecoveryState) (fault : Spanned Fault) : Type 0 where
   pub is_part : IsPart state
-  pub here : IsAtFault (part_of state) fault state.state
-  pub ended : state.state.has_ended ≡ true
+  pub lexing : (course : Course) × IsLexingIn course (part_of state) state.state
+  pub mended : Mended
   pub to : ℕ
-  pub mended : IsMended state to
-  pub after : to ≤ fault.begin
-  pub less : to < length (part_of state)
-  pub comment : (at : ℕ) → ends_by_comment at (outcome (part_of state)).lexemes ≡ is_end state.comment (length (outcome (part_of state)).lexemes) at
+  pub is_mended : IsMended (part_of state) mended to
+  pub here : IsAtFault (course_of mended) (part_of state) fault state.state
+  pub ended : state.state.has_ended ≡ true
+  pub left : IsLeftOf state mended
+  pub comment : (at : ℕ) → ends_by_comment at (outcome mended.text).lexemes ≡ is_end state.comment (length (course_of mended).lexemes) at
   pub reads : HasReadBefore state.begin to state.fault_count state.earlier_reads
-  pub paid : HasReadToFault (part_of state) state.state.reader.reads
+  pub paid : AreReadsTo (part_of state) fault state.state.reader.reads
   pub within : IsWithin (part_of state) fault.begin fault.end
   pub begins : IsCharBoundary (part_of state) fault.begin
   pub ends : IsCharBoundary (part_of state) fault.end
@@ -140,7 +173,7 @@ pub record IsStopped (state : RecoveryState) (fault : Spanned Fault) : Type 0 wh
 -- the fault was passed, or out of memory ended the lexer in its place
 abbrev pub HasPassedOn : RecoveryState → Spanned Fault → OrMemory (Diagnosed ErrorKind) → RecoveryState → Type 0
 HasPassedOn old fault (Error exception) new =
-    IsRecovering new × (new.state.has_ended ≡ false) × IsException old.code_map (moved old.begin fault) exception × (left_of new ≡ map (moved_item old.begin) (items_after (part_of old) fault))
-    × (new.fault_count ≡ old.fault_count + 1) × (new.mended.text ≡ old.mended.text) × (new.code_map ≡ old.code_map) × AreReadsOn old.mended.text.now new.fault_count (more_reads new.earlier_reads new.state.reader.reads)
+    IsRecovering new × (new.state.has_ended ≡ false) × IsException old.code_map (moved old.begin fault) exception × (new.state.yielded_count ≡ 0)
+    × (new.fault_count ≡ old.fault_count + 1) × (new.text ≡ old.text) × (new.code_map ≡ old.code_map) × AreReadsOn old.text.now new.fault_count (more_reads new.earlier_reads new.state.reader.reads)
 HasPassedOn old fault Memory new =
-    IsRecovering new × (new.state.has_ended ≡ true) × (new.fault_count ≡ old.fault_count) × (new.mended.text ≡ old.mended.text) × (new.code_map ≡ old.code_map)
+    IsRecovering new × (new.state.has_ended ≡ true) × (new.fault_count ≡ old.fault_count) × (new.text ≡ old.text) × (new.code_map ≡ old.code_map)

@@ -5,7 +5,7 @@ use Rattle.starlark_grammar.specs.Words.{Text}
 use Rattle.starlark_reader.specs.Inner.Lookaheads.{HasPeeked}
 use Rattle.starlark_reader.specs.Inner.Reader.{IsAhead, IsAheadPast, IsText, fstring_text_lexeme}
 use Rattle.starlark_lexemes.specs.Inner.LexerStates.{left_in}
-use Rattle.starlark_lexemes.proofs.FoundWords.{one_more_fits, past_lexing}
+use Rattle.starlark_lexemes.proofs.FoundWords.{one_more_fits, past_lexing, run_here}
 use Rattle.starlark_reader.proofs.TakenPieces.WordsPassed.{text_edges, text_end_here, text_end_taken, text_here_step, text_stepped}
 use Rattle.starlark_reader.proofs.TakenPieces.SameTexts.{keeps_passes, keeps_takes}
 use Rattle.starlark_lexemes.proofs.LexerStates.{lexing_sound, next_same}
@@ -18,40 +18,30 @@ use Rattle.starlark_lexemes.proofs.lexer_state.LexerState.pass_fstring_text.Goal
 
 pub plain_text-requires : goal.plain_text-requires
 plain_text-requires c = record {
-  sound = lexing_sound c.args.self.now c.requires.lexing c.requires.going;
+  sound = lexing_sound c.args.self.now c.requires.lexing.1 c.requires.going;
   stage = c.requires.stage;
   idle = c.requires.idle;
 }
 
 pub pass_decoded_text-requires : goal.pass_decoded_text-requires
 pass_decoded_text-requires c =
-    let old = c.args.self.now in
-    let text = old.reader.text.now in
-    let inv = c.requires.lexing.1 c.requires.going in
-    let mid = c.plain_text.new.self in
     let other = rw c.in-Some-Err.field-0-is at c.in-Some-Err.ensures.other in
-    let run = c.in-Some-Err.run' in
-    let now = sym (ap (λ t. t.now) c.plain_text.ensures.text) in
-    record {
-      text = subst IsText now c.requires.lexing.0;
-      going = c.requires.going;
-      few = rw c.plain_text.ensures.text inv.0;
-      ahead = subst (λ (t : Text). IsAhead t mid mid.stage (drop old.yielded_count (map shown_lexeme (outcome t).lexemes)) (outcome t).fault) now (c.plain_text.ensures.ahead _ _ inv.1);
-      stands = other.0;
-      read = subst (λ (t : Text). HasPeeked t run (8 * run + 4) mid) now (peeked_first text run (6 * run + 4) run (8 * run + 4) old.reader mid c.requires.stage (c.requires.lexing.3 c.requires.going) other.1 (omega arith) (omega arith));
-    }
+    (c.requires.lexing.0, run_here c.args.self.now c.plain_text.new.self c.in-Some-Err.run' c.plain_text.ensures.text c.requires.lexing.1 c.requires.going c.requires.stage c.plain_text.ensures.ahead other)
 
 pub returns-in-Some-Err : goal.returns-in-Some-Err
-returns-in-Some-Err c = next_advances c.args.self.now c.pass_decoded_text.result c.pass_decoded_text.new.self (next_same c.args.self.now _ _ c.pass_decoded_text.new.self (ap (λ t. t.now) c.plain_text.ensures.text, refl) c.pass_decoded_text.ensures)
+returns-in-Some-Err c = λ course lexing.
+    let other = rw c.in-Some-Err.field-0-is at c.in-Some-Err.ensures.other in
+    next_advances c.args.self.now c.pass_decoded_text.result c.pass_decoded_text.new.self
+    (next_same c.args.self.now _ _ c.pass_decoded_text.new.self (ap (λ t. t.now) c.plain_text.ensures.text, refl) (c.pass_decoded_text.ensures course (run_here c.args.self.now c.plain_text.new.self c.in-Some-Err.run' c.plain_text.ensures.text lexing c.requires.going c.requires.stage c.plain_text.ensures.ahead other)))
 
 pub put_plain-requires : goal.put_plain-requires
 put_plain-requires c =
-    let small : c.args.self.now.yielded_count + 1 ≤ 2 ^ 34 = one_more_fits c.args.self.now c.requires.lexing.0.fits (c.requires.lexing.1 c.requires.going).0 in
+    let small : c.args.self.now.yielded_count + 1 ≤ 2 ^ 34 = one_more_fits c.args.self.now c.requires.lexing.1.0 (c.requires.lexing.1.1 c.requires.going).0 in
     search (rules, small)
 
 pub put_valued-requires : goal.put_valued-requires
 put_valued-requires c =
-    let small : c.args.self.now.yielded_count + 1 ≤ 2 ^ 34 = one_more_fits c.args.self.now c.requires.lexing.0.fits (c.requires.lexing.1 c.requires.going).0 in
+    let small : c.args.self.now.yielded_count + 1 ≤ 2 ^ 34 = one_more_fits c.args.self.now c.requires.lexing.1.0 (c.requires.lexing.1.1 c.requires.going).0 in
     search (rules, small)
 
 pub take_chunk_end-begin-requires : goal.take_chunk_end-begin-requires
@@ -61,13 +51,13 @@ pub pass_chunk-requires : goal.pass_chunk-requires
 pass_chunk-requires c = (_, text_here_step c.plain_text.new.self c.in-Some-Ok.found c.plain_text.ensures.sound (rw c.in-Some-Ok.field-0-is at c.in-Some-Ok.ensures.stands))
 
 pub returns-then-found-eq0 : goal.returns-then-found-eq0
-returns-then-found-eq0 c =
-    let inv = c.requires.lexing.1 c.requires.going in
+returns-then-found-eq0 c = λ course lexing.
+    let inv = lexing.1 c.requires.going in
     let mid = c.plain_text.new.self in
     let empty : c.in-Some-Ok.found.len ≡ 0 = search rules in
     let stands = rw c.in-Some-Ok.field-0-is at c.in-Some-Ok.ensures.stands in
-    let is = keeps_takes c.args.self.now.reader mid c.take_chunk_end-begin.new.self c.plain_text.ensures.text c.plain_text.ensures.ahead (Some c.take_chunk_end-begin.result) (text_end_taken mid c.in-Some-Ok.found c.plain_text.ensures.sound stands (Some c.take_chunk_end-begin.result) c.take_chunk_end-begin.new.self empty c.take_chunk_end-begin.ensures.read) _ _ inv.1 in
-    let had = c.requires.lexing.3 c.requires.going in
+    let is = keeps_takes c.args.self.now.reader mid c.take_chunk_end-begin.new.self c.plain_text.ensures.text c.plain_text.ensures.ahead (Some c.take_chunk_end-begin.result) (text_end_taken mid c.in-Some-Ok.found c.plain_text.ensures.sound stands (Some c.take_chunk_end-begin.result) c.take_chunk_end-begin.new.self empty c.take_chunk_end-begin.ensures.read) _ _ _ inv.1 in
+    let had = lexing.3 c.requires.going in
     let plain = c.in-Some-Ok.found in
     let some = rw c.in-Some-Ok.field-0-is at c.in-Some-Ok.ensures.some in
     let scanned = rw c.in-Some-Ok.field-0-is at c.in-Some-Ok.ensures.lookahead in
@@ -79,19 +69,19 @@ returns-then-found-eq0 c =
     let kind = c.pending_kind.ensures in
     let one = plain_counts c.pending_kind.result kind.plain in
     rw (c.put_plain.ensures.0, c.put_plain.ensures.1) (plain_advances old c.pending_kind.result _ kind.plain (record {
-      passed = valueless_passed old c.pending_kind.result lexeme _ kind.plain c.requires.lexing.0.fits inv.0 c.requires.lexing.0.utf8 kind.token is;
-      lexing = past_lexing old _ new c.is_at_code-self.result lexeme.0 lexeme.2 lexeme.2 lexeme.2 old.token (c.take_chunk_end-begin.ensures.text ∙ c.plain_text.ensures.text) c.requires.lexing.0 c.requires.going is read (λ yes. c.is_at_code-self.ensures yes old.reader.text.now is.2.is_pending);
+      passed = valueless_passed course old c.pending_kind.result lexeme _ kind.plain lexing.0 kind.token is;
+      lexing = past_lexing old _ new c.is_at_code-self.result lexeme.0 lexeme.2 lexeme.2 lexeme.2 old.token (c.take_chunk_end-begin.ensures.text ∙ c.plain_text.ensures.text) lexing.0 c.requires.going is read (λ yes. c.is_at_code-self.ensures yes old.reader.text.now is.2.is_pending);
       after = rw (c.take_chunk_end-begin.ensures.text, c.plain_text.ensures.text, c.requires.going, one.0, one.1) refl;
     }))
 
 pub returns : goal.returns
-returns c =
-    let inv = c.requires.lexing.1 c.requires.going in
+returns c = λ course lexing.
+    let inv = lexing.1 c.requires.going in
     let mid = c.plain_text.new.self in
     let full : 0 < c.in-Some-Ok.found.len = search rules in
     let stands = rw c.in-Some-Ok.field-0-is at c.in-Some-Ok.ensures.stands in
-    let is = keeps_passes c.args.self.now.reader mid c.pass_chunk.new.self c.plain_text.ensures.text c.plain_text.ensures.ahead (λ text. fstring_text_lexeme text mid.at c.in-Some-Ok.found.len) (text_stepped mid c.in-Some-Ok.found c.plain_text.ensures.sound stands c.pass_chunk.new.self full (c.pass_chunk.ensures.read _)) _ _ inv.1 in
-    let had = c.requires.lexing.3 c.requires.going in
+    let is = keeps_passes c.args.self.now.reader mid c.pass_chunk.new.self c.plain_text.ensures.text c.plain_text.ensures.ahead (λ text. fstring_text_lexeme text mid.at c.in-Some-Ok.found.len) (text_stepped mid c.in-Some-Ok.found c.plain_text.ensures.sound stands c.pass_chunk.new.self full (c.pass_chunk.ensures.read _)) _ _ _ inv.1 in
+    let had = lexing.3 c.requires.going in
     let plain = c.in-Some-Ok.found in
     let some = rw c.in-Some-Ok.field-0-is at c.in-Some-Ok.ensures.some in
     let scanned = rw c.in-Some-Ok.field-0-is at c.in-Some-Ok.ensures.lookahead in
@@ -101,9 +91,9 @@ returns c =
     let edges = rw c.plain_text.ensures.text at (text_edges mid c.in-Some-Ok.found c.plain_text.ensures.sound stands) in
     rw (c.put_valued.ensures.0, c.put_valued.ensures.1) (record {
       passed = (
-        plain_inside c.args.self.now.reader.text.now kind.FStringText at (at + plain.len) at (at + plain.len) refl c.requires.lexing.0.fits (omega (arith)) (omega (arith)) edges.0 edges.1 edges.0 edges.1,
-        subst (λ (view : Spanned TokenView). IsAheadPast c.args.self.now.reader.text.now view c.pass_chunk.new.self (left_in c.args.self.now) (outcome c.args.self.now.reader.text.now).fault) (fstring_text_shown c.args.self.now.reader.text.now at plain.len) is,
+        plain_inside c.args.self.now.reader.text.now kind.FStringText at (at + plain.len) at (at + plain.len) refl lexing.0.fits (omega (arith)) (omega (arith)) edges.0 edges.1 edges.0 edges.1,
+        subst (λ (view : Spanned TokenView). IsAheadPast course.origin c.args.self.now.reader.text.now view c.pass_chunk.new.self (left_in course c.args.self.now) course.fault) (fstring_text_shown c.args.self.now.reader.text.now at plain.len) is,
       );
-      lexing = past_lexing c.args.self.now _ c.pass_chunk.new.self c.args.self.now.is_at_code at (at + plain.len) at (at + plain.len) c.args.self.now.token (c.pass_chunk.ensures.text ∙ c.plain_text.ensures.text) c.requires.lexing.0 c.requires.going is read (λ yes. cc);
+      lexing = past_lexing c.args.self.now _ c.pass_chunk.new.self c.args.self.now.is_at_code at (at + plain.len) at (at + plain.len) c.args.self.now.token (c.pass_chunk.ensures.text ∙ c.plain_text.ensures.text) lexing.0 c.requires.going is read (λ yes. cc);
       after = rw (c.pass_chunk.ensures.text, c.plain_text.ensures.text, c.requires.going) refl;
     })

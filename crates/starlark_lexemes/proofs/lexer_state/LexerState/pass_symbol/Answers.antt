@@ -5,20 +5,20 @@ use Rattle.starlark_lexemes.proofs.PlainLexemes.{plain_counts, valueless_passed}
 use Rattle.starlark_lexemes.proofs.lexer_state.LexerState.pass_symbol.Goals as goal
 
 pub overflow_add-self : goal.overflow_add-self
-overflow_add-self c = let small : c.args.self.now.yielded_count + 1 ≤ 2 ^ 34 = one_more_fits c.args.self.now c.requires.text.fits c.requires.few in search (rules, small)
+overflow_add-self c = let at = c.requires.1 in let small : c.args.self.now.yielded_count + 1 ≤ 2 ^ 34 = one_more_fits c.args.self.now at.text at.few in search (rules, small)
 
 pub returns : goal.returns
-returns c =
+returns c = λ course at.
     let old = c.args.self.now in
     let lexeme = c.take_terminal-begin.result in
-    let is = c.take_terminal-begin.ensures.ahead _ _ c.requires.ahead in
+    let is = c.take_terminal-begin.ensures.ahead _ _ _ at.ahead in
     let taken = c.take_terminal-begin.ensures.taken in
     let new = c.take_terminal-begin.new.self in
-    let read = peeked_taken old.reader.text.now c.args.len (5 * c.args.len - 2) c.args.len old.reader new c.requires.read (omega (arith)) (omega (arith)) (taken.1, taken.2) in
+    let read = peeked_taken old.reader.text.now c.args.len (5 * c.args.len - 2) c.args.len old.reader new at.read (omega (arith)) (omega (arith)) (taken.1, taken.2) in
     let kind = c.symbol_kind.ensures in
     let one = plain_counts c.symbol_kind.result kind.plain in
     rw c.valueless.ensures (record {
-      passed = valueless_passed old c.symbol_kind.result lexeme _ kind.plain c.requires.text.fits c.requires.few c.requires.text.utf8 kind.token is;
-      lexing = past_lexing old _ new c.stays_in_code-self.result old.begin old.end old.value_begin old.value_end old.token c.take_terminal-begin.ensures.text c.requires.text c.requires.going is read (λ yes. c.take_terminal-begin.ensures.code (c.stays_in_code-self.ensures yes));
-      after = rw (c.take_terminal-begin.ensures.text, c.requires.going, one.0, one.1) refl;
+      passed = valueless_passed course old c.symbol_kind.result lexeme _ kind.plain at.text kind.token is;
+      lexing = past_lexing old _ new c.stays_in_code-self.result old.begin old.end old.value_begin old.value_end old.token c.take_terminal-begin.ensures.text at.text at.going is read (λ yes. c.take_terminal-begin.ensures.code (c.stays_in_code-self.ensures yes));
+      after = rw (c.take_terminal-begin.ensures.text, at.going, one.0, one.1) refl;
     })

@@ -16,9 +16,9 @@ returns-in-AtTop-default-clause-stands c = λ yes. record {
   stage = c.requires.code.stage;
   idle = c.requires.code.idle;
   code = c.requires.code.code;
-  stands = λ history kept. bang_read c.args.self.now.text.now history (record c.args.self.now { reads = c.front-front.new.self }) (sym (c.mode.ensures history.tokens kept.nesting) ∙ ap mode_view c.in-AtTop-default.is-0)
+  stands = λ origin history kept. bang_read c.args.self.now.text.now history (record c.args.self.now { reads = c.front-front.new.self }) (sym (c.mode.ensures history.tokens kept.nesting) ∙ ap mode_view c.in-AtTop-default.is-0)
       (no_gap c.args.self.now.before history.before c.in-AtTop-default.not-Gap-1 kept.before) (front c ∙ yes);
 }
 
 pub returns-in-AtTop-default-clause-other : goal.returns-in-AtTop-default-clause-other
-returns-in-AtTop-default-clause-other c = λ no history kept. ap (λ b. takes_bang (mode_after history.tokens) history.before && b) (front c ∙ no) ∙ and-false (takes_bang (mode_after history.tokens) history.before)
+returns-in-AtTop-default-clause-other c = λ no origin history kept. ap (λ b. takes_bang (mode_after history.tokens) history.before && b) (front c ∙ no) ∙ and-false (takes_bang (mode_after history.tokens) history.before)

@@ -13,7 +13,7 @@ pub put_margin-requires-clause-within : goal.put_margin-requires-clause-within
 put_margin-requires-clause-within c = rw c.of_spaces.ensures (omega (arith, c.requires.within))
 
 pub returns-clause-read : goal.returns-clause-read
-returns-clause-read c = IfOk-weaker c.put_margin.result _ _ (λ is_laid read history kept stands. read history (state_reads c.args.self.now.text.now history c.args.self.now c.count_run.new.self kept) stands) c.put_margin.ensures.read
+returns-clause-read c = IfOk-weaker c.put_margin.result _ _ (λ is_laid read origin history kept stands. read origin history (state_reads c.args.self.now.text.now history c.args.self.now c.count_run.new.self kept) stands) c.put_margin.ensures.read
 
 pub returns-clause-reads : goal.returns-clause-reads
 returns-clause-reads c = on_ok_weaker c.put_margin.result (λ read there. read c.args.self.now.reads (rw c.of_spaces.ensures (omega (arith, c.count_run.ensures), omega (arith, c.count_run.ensures))) there) c.put_margin.ensures.reads

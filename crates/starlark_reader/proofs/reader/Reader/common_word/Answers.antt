@@ -22,7 +22,7 @@ range_from-requires-2 c = λ some.
           spaces_passed old mid c.gap_len-gap.result c.requires.sound (spaces_word old c.gap_len-gap.result c.range_from.result.now c.requires.code c.range_from.ensures.value (c.gap_len-gap.ensures.word some) (c.gap_len-gap.ensures.bang some)) (rw w.self-is w.step_over.ensures)
       | else-gap-gt0 w ↦ spaces_none old mid c.requires.code.stage w.self-is
     ] in
-    (state_here mid (sound_after old mid keeps.2 c.requires.sound keeps.0) keeps.1).1.boundary
+    (state_here mid (sound_after old mid keeps.2 c.requires.sound keeps.0) keeps.1).2.boundary
 
 pub returns-clause-ahead : goal.returns-clause-ahead
 returns-clause-ahead c =
@@ -33,7 +33,7 @@ returns-clause-ahead c =
           spaces_passed old mid c.gap_len-gap.result c.requires.sound (spaces_word old c.gap_len-gap.result c.range_from.result.now c.requires.code c.range_from.ensures.value (c.gap_len-gap.ensures.word some) (c.gap_len-gap.ensures.bang some)) (rw w.self-is w.step_over.ensures)
       | else-gap-gt0 w ↦ spaces_none old mid c.requires.code.stage w.self-is
     ] in
-    λ lexemes fault ahead. reads_ahead old.text.now mid c.word_after.new.reads mid.stage lexemes fault (keeps.0 lexemes fault ahead)
+    λ origin lexemes fault ahead. reads_ahead old.text.now mid c.word_after.new.reads mid.stage lexemes fault (keeps.0 origin lexemes fault ahead)
 
 pub returns-clause-sound : goal.returns-clause-sound
 returns-clause-sound c =

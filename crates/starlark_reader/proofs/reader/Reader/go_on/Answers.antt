@@ -1,10 +1,36 @@
-use Rattle.std.proofs.Common.{[], arith, rules}
-use Rattle.starlark_reader.proofs.TakenPieces.Here.{after_some}
-use Rattle.starlark_reader.proofs.TakenPieces.Repaired.{ahead_repaired, untabbed}
+use Rattle.std.proofs.Common.{◌++◌, List, ap, [], arith, refl, sym, ◌∙◌, drop, map}
+use Rattle.starlark_grammar.specs.Tokens.{Lexeme}
+use Rattle.starlark_reader.specs.Inner.Reader.{remaining_outcome}
+use Rattle.starlark_token.specs.Lexemes.{shown_lexeme}
 use Rattle.starlark_reader.proofs.reader.Reader.go_on.Goals as goal
 
 pub returns-clause-ahead : goal.returns-clause-ahead
-returns-clause-ahead c = search (rules, untabbed, ahead_repaired, after_some)
+returns-clause-ahead c = λ origin text history next kept order boundary has.
+    let end = c.args.end in
+    let pending = c.nothing-self.ensures text in
+    let left = remaining_outcome next end (drop end text) in
+    record {
+      left = left;
+      is_left = (
+        next,
+        record {
+          nesting = has.nesting c.args.self.now.nesting kept.nesting;
+          levels = kept.levels ∙ sym has.levels;
+          before = sym has.before;
+          inside = boundary.0;
+          boundary = boundary;
+          few = omega (arith, kept.few, order);
+          onward = refl;
+          read = λ start. cc;
+        },
+        refl,
+      );
+      is_pending = pending.1;
+      ahead = ap (λ (ls : List Lexeme). map shown_lexeme ls ++ map shown_lexeme left.lexemes) (sym pending.0);
+      those_after = refl;
+      cut = λ start. cc;
+      cuts = λ start. cc;
+    }
 
 pub returns-clause-reads : goal.returns-clause-reads
 returns-clause-reads c = λ text least most.

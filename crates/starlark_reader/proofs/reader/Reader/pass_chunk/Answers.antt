@@ -9,19 +9,19 @@ use Rattle.starlark_reader.proofs.reader.Reader.pass_chunk.Goals as goal
 pub overflow_add-begin : goal.overflow_add-begin
 overflow_add-begin c =
     let at = c.requires.1 in
-    let here = piece_here c.args.self.now.text.now at.stands.0 c.args.self.now (chunk_piece c.requires.0 c.args.chunk) at.stands.1 at.stands.2 in
+    let here = piece_here c.args.self.now.text.now at.stands.1 c.args.self.now (chunk_piece c.requires.0 c.args.chunk) at.stands.2 at.stands.3 in
     let inside : c.args.self.now.at + c.args.chunk.len ≤ length c.args.self.now.text.now = omega (arith, here.1) in
     search (rules, inside)
 
 pub overflow_add-end : goal.overflow_add-end
 overflow_add-end c =
     let at = c.requires.1 in
-    let here = piece_here c.args.self.now.text.now at.stands.0 c.args.self.now (chunk_piece c.requires.0 c.args.chunk) at.stands.1 at.stands.2 in
+    let here = piece_here c.args.self.now.text.now at.stands.1 c.args.self.now (chunk_piece c.requires.0 c.args.chunk) at.stands.2 at.stands.3 in
     let inside : c.args.self.now.at + c.args.chunk.len + c.args.chunk.stop_len ≤ length c.args.self.now.text.now = omega (arith, here.1) in
     search (rules, inside)
 
 pub returns-clause-read : goal.returns-clause-read
-returns-clause-read c = λ value history kept stands.
+returns-clause-read c = λ value origin history kept stands.
     let text = c.args.self.now.text.now in
     let here = piece_here text history c.args.self.now (chunk_piece value c.args.chunk) kept stands in
     let end : c.args.self.now.at + c.args.chunk.len + c.args.chunk.stop_len ≡ c.args.self.now.at + (c.args.chunk.len + c.args.chunk.stop_len) = omega arith in

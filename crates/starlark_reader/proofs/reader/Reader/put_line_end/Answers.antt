@@ -35,7 +35,7 @@ margin_end c = omega (arith, c.in-Some.ensures.plain)
 
 pub returns-clause-read : goal.returns-clause-read
 unfolding token_view
-returns-clause-read c = λ history kept stands.
+returns-clause-read c = λ origin history kept stands.
     let new = c.step_to.ensures in
     let margin = c.in-Some.margin in
     let seen = seen_at (goal.at.returns-clause-read c).In-Some in

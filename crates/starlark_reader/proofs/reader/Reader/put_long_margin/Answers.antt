@@ -16,7 +16,7 @@ put_margin-requires-clause-within c =
     omega (arith, ap (λ (t : Text). length t) c.range_from.ensures.value ∙ length-drop (c.args.self.now.at + c.args.len) c.args.self.now.text.now, c.requires.cut.0, c.margin_of-margin.ensures.within)
 
 pub returns-clause-read : goal.returns-clause-read
-returns-clause-read c = IfOk-weaker c.put_margin.result _ _ (λ is_laid read history kept stands. read history (state_reads c.args.self.now.text.now history c.args.self.now c.margin_of-margin.new.reads kept) stands) c.put_margin.ensures.read
+returns-clause-read c = IfOk-weaker c.put_margin.result _ _ (λ is_laid read origin history kept stands. read origin history (state_reads c.args.self.now.text.now history c.args.self.now c.margin_of-margin.new.reads kept) stands) c.put_margin.ensures.read
 
 pub returns-clause-reads : goal.returns-clause-reads
 returns-clause-reads c = on_ok_weaker c.put_margin.result (λ read there. read c.args.self.now.reads c.margin_of-margin.ensures.reads there) c.put_margin.ensures.reads

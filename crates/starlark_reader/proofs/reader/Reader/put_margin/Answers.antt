@@ -19,7 +19,7 @@ refuse-requires-clause-end c =
     omega (arith, c.requires.within, found.0, c.requires.line_end.here.text.fits)
 
 pub returns-in-Some-clause-read : goal.returns-in-Some-clause-read
-returns-in-Some-clause-read c = λ history kept stands.
+returns-in-Some-clause-read c = λ origin history kept stands.
     let old = c.args.self.now in
     let new = c.refuse.ensures in
     let fault = c.in-Some.fault in
@@ -45,7 +45,7 @@ returns-in-Some-clause-reads c = λ before counted there.
 
 pub returns-clause-read : goal.returns-clause-read
 unfolding token_view
-returns-clause-read c = λ history kept stands.
+returns-clause-read c = λ origin history kept stands.
     let old = c.args.self.now in
     let new = c.step_over.ensures in
     let margin = c.args.margin in

@@ -17,9 +17,9 @@ pub take_margin-requires-clause-idle : goal.take_margin-requires-clause-idle
 take_margin-requires-clause-idle c = after_none c.args.self.now.text.now c.args.self.now.pending c.requires.idle.1
 
 pub returns-in-None-clause-ahead : goal.returns-in-None-clause-ahead
-returns-in-None-clause-ahead c = λ lexemes fault so_far.
+returns-in-None-clause-ahead c = λ origin lexemes fault so_far.
     let text = c.args.self.now.text.now in
-    let ahead = subst (λ (now : Stage). IsAhead text c.args.self.now now lexemes fault) c.requires.stage so_far in
+    let ahead = subst (λ (now : Stage). IsAhead origin text c.args.self.now now lexemes fault) c.requires.stage so_far in
     let new = c.step_over.ensures in
     let is_new = new_ahead text c.args.self.now lexemes fault ahead in
     let margin = c.margin_of-margin.ensures.margin in
@@ -31,9 +31,9 @@ returns-in-None-clause-ahead c = λ lexemes fault so_far.
     first_ahead text c.args.self.now c.step_over.new.self lexemes fault read c.requires.idle ahead
 
 pub returns-in-Some-clause-ahead : goal.returns-in-Some-clause-ahead
-returns-in-Some-clause-ahead c = λ lexemes fault so_far.
+returns-in-Some-clause-ahead c = λ origin lexemes fault so_far.
     let text = c.args.self.now.text.now in
-    let ahead = subst (λ (now : Stage). IsAhead text c.args.self.now now lexemes fault) c.requires.stage so_far in
+    let ahead = subst (λ (now : Stage). IsAhead origin text c.args.self.now now lexemes fault) c.requires.stage so_far in
     let new = c.refuse.ensures in
     let is_new = new_ahead text c.args.self.now lexemes fault ahead in
     let margin = c.margin_of-margin.ensures.margin in
@@ -56,4 +56,4 @@ returns-in-Some-clause-reads c = λ so_far.
 pub returns-in_err-fault-clause-memory : goal.returns-in_err-fault-clause-memory
 returns-in_err-fault-clause-memory c =
     let old = c.args.self.now in
-    after_error c.from_residual.result _ (λ lexemes fault ahead. begin_something old.text.now old lexemes fault c.requires.idle c.requires.stage ahead)
+    after_error c.from_residual.result _ (λ origin lexemes fault ahead. begin_something old.text.now old lexemes fault c.requires.idle c.requires.stage ahead)

@@ -6,7 +6,7 @@ use Rattle.starlark_grammar.specs.Pieces as grammar
 use Rattle.starlark_grammar.specs.Tokens as grammar_tokens
 use Rattle.starlark_grammar.specs.declared.class.Class.{Class}
 use Rattle.starlark_grammar.specs.declared.class.Class.TheVariants as class
-use Rattle.starlark_reader.specs.Inner.Reader.{IsAtStep, IsStateAfter, IsWordHere, Takes, TakesNext, step_here}
+use Rattle.starlark_reader.specs.Inner.Reader.{IsAtStep, IsStateAfter, IsWordHere, Origin, Takes, TakesNext, step_here}
 use Rattle.starlark_words.specs.declared.scanner.word.Word.{Word}
 use Rattle.starlark_grammar.specs.Reading.{History}
 use Rattle.starlark_token.specs.declared.tokens.Token.{Token}
@@ -89,7 +89,7 @@ read_step c opened =
     rw (← c.opening_of-opening.ensures.opening, opener_literal (mode_view c.mode-mode.result) c.in-Opener.kind (opening_view opening) c.args.opener.len c.if-opening.quotes c.range_from-remainder.result.now c.range_from.result.now opened.0 more c.range_from.ensures.value) c.in_ok-found.ensures.step
 
 -- it is the step at the reader's offset
-read_here : (c : In_ok-found) → Known c → (history : History) → IsStateAfter c.args.self.now.text.now history c.args.self.now → IsStep (step_here c.args.self.now.text.now history c.args.self.now) (literal_step c.in_ok-found.found)
+read_here : {origin : Origin} → (c : In_ok-found) → Known c → (history : History) → IsStateAfter origin c.args.self.now.text.now history c.args.self.now → IsStep (step_here c.args.self.now.text.now history c.args.self.now) (literal_step c.in_ok-found.found)
 read_here c opened history kept =
     let old = c.args.self.now in
     let stands = subst (λ (it : Class). IsWordHere old.text.now old (record { class = it; len = c.args.opener.len })) c.in-Opener.is c.requires.found.0 in
@@ -111,7 +111,7 @@ step_reads c opened = λ before read.
     ]
 
 pub returns-in_err-found-clause-memory : goal.returns-in_err-found-clause-memory
-returns-in_err-found-clause-memory c = after_error c.from_residual.result _ (λ lexemes fault ahead. onward_something c.args.self.now.text.now c.args.self.now lexemes fault c.requires.found.0.idle c.requires.found.0.stage ahead)
+returns-in_err-found-clause-memory c = after_error c.from_residual.result _ (λ origin lexemes fault ahead. onward_something c.args.self.now.text.now c.args.self.now lexemes fault c.requires.found.0.idle c.requires.found.0.stage ahead)
 
 -- the reader after the literal was read, and the step
 abbrev at_literal : In_ok-found → Reader
@@ -121,12 +121,12 @@ step_at : (c : In_ok-found) → Known c → (step : ReadStep) → literal_step c
 step_at c opened step is =
     let old = c.args.self.now in
     let left = state_here old c.requires.sound c.requires.found.0.stage in
-    record { text = c.requires.sound.text; stage = c.requires.found.0.stage; stands = (left.0, state_reads old.text.now left.0 old c.literal_piece.new.reads left.1, rw is at (read_here c opened left.0 left.1)); idle = c.requires.found.0.idle }
+    record { text = c.requires.sound.text; stage = c.requires.found.0.stage; stands = (left.0, left.1, state_reads old.text.now left.1 old c.literal_piece.new.reads left.2, rw is at (read_here c opened left.1 left.2)); idle = c.requires.found.0.idle }
 
 ahead : (c : In_ok-found) → Known c → (step : ReadStep) (given : Option (ℕ × Token × ℕ)) (new : Reader) → literal_step c.in_ok-found.found ≡ step → Takes (at_literal c) (λ history stands. IsStep stands step) given new → TakesNext c.args.self.now given new
 ahead c opened step given new is takes =
     let old = c.args.self.now in
-    taken_here old given new c.requires.found.0.stage c.requires.found.0.idle (λ history kept. takes history (state_reads old.text.now history old c.literal_piece.new.reads kept) (rw is at (read_here c opened history kept)))
+    taken_here old given new c.requires.found.0.stage c.requires.found.0.idle (λ origin history kept. takes origin history (state_reads old.text.now history old c.literal_piece.new.reads kept) (rw is at (read_here c opened history kept)))
 
 reads_after : (c : In_ok-found) → Known c → (step : ReadStep) (new : Reader) → literal_step c.in_ok-found.found ≡ step → IsPassed (at_literal c) step new → HasRead c.args.self.now.text.now new
 reads_after c opened step new is passed =
@@ -140,7 +140,7 @@ reads_after c opened step new is passed =
     let mode = mode_view c.mode-mode.result in
     let opening = grammar.opening_of c.in-Opener.is_raw c.in-Opener.quote c.range_from-remainder.result.now in
     let parts = split_reads c.args.opener.len c.args.run peeked.0 old.reads peeked.2 in
-    word_step_reads text peeked.0 parts.0 c.literal_piece.new.reads left.0 word step old new left.1 stands (rw is at (read_here c opened left.0 left.1)) peeked.1 parts.1
+    word_step_reads text peeked.0 parts.0 c.literal_piece.new.reads left.1 word step old new left.2 stands (rw is at (read_here c opened left.1 left.2)) peeked.1 parts.1
     (opener_reads c.args.opener.len (next_line front 0) step parts.0 c.literal_piece.new.reads (rw is at (step_reads c opened parts.0 parts.2)))
     (no_repair (5 * c.args.opener.len + 3) front (grammar.opener mode c.in-Opener.kind opening c.args.opener.len c.range_from-remainder.result.now) step parts.0 c.literal_piece.new.reads (rw is at (read_step c opened)) (opener_lost mode c.in-Opener.kind opening c.args.opener.len c.range_from-remainder.result.now))
     passed

@@ -5,7 +5,7 @@ use Rattle.starlark_grammar.specs.Pieces.{chunk}
 use Rattle.starlark_words.specs.Inner.LiteralViews.{fstring_literal}
 use Rattle.starlark_words.specs.Inner.PlainRuns.{IsRun}
 use Rattle.starlark_reader.specs.Inner.Nesting.{mode_view}
-use Rattle.starlark_reader.specs.Inner.Reader.{IsAtStep, IsReadPast, IsStateAfter, Takes, TakesNext, left_here, step_here}
+use Rattle.starlark_reader.specs.Inner.Reader.{IsAtStep, IsReadPast, IsStateAfter, Origin, Takes, TakesNext, left_here, step_here}
 use Rattle.starlark_reader.specs.Inner.StepViews as steps
 use Rattle.starlark_reader.specs.Inner.StepViews.{IsStep, ReadStep, chunk_step}
 use Rattle.starlark_reader.specs.declared.reader.Reader.{Reader}
@@ -36,16 +36,16 @@ chunk_from-requires c =
     record { run = rw c.range_from-rest.ensures.value run }
 
 pub returns-in_err-found-clause-memory : goal.returns-in_err-found-clause-memory
-returns-in_err-found-clause-memory c = after_error c.from_residual.result _ (λ lexemes fault ahead. onward_something c.args.self.now.text.now c.args.self.now lexemes fault c.requires.here.idle c.requires.here.stage ahead)
+returns-in_err-found-clause-memory c = after_error c.from_residual.result _ (λ origin lexemes fault ahead. onward_something c.args.self.now.text.now c.args.self.now lexemes fault c.requires.here.idle c.requires.here.stage ahead)
 
 -- the text here, as it was read
-here : (c : In_ok-found) (history : History) → IsStateAfter c.args.self.now.text.now history c.args.self.now → step_here c.args.self.now.text.now history c.args.self.now ≡ chunk (opening_view c.in-InText.opening) c.range_from-rest.result.now
+here : {origin : Origin} → (c : In_ok-found) (history : History) → IsStateAfter origin c.args.self.now.text.now history c.args.self.now → step_here c.args.self.now.text.now history c.args.self.now ≡ chunk (opening_view c.in-InText.opening) c.range_from-rest.result.now
 here c history kept =
     let old = c.args.self.now in
     let opening = opening_view c.in-InText.opening in
     chunk_here old.text.now history old opening kept (λ tokens stored. sym (c.mode.ensures tokens stored) ∙ ap mode_view c.in-InText.is) ∙ ap (chunk opening) (sym c.range_from-rest.ensures.value)
 
-read_here : (c : In_ok-found) (step : ReadStep) → chunk_step c.in_ok-found.found ≡ step → (history : History) → IsStateAfter c.args.self.now.text.now history c.args.self.now → IsStep (step_here c.args.self.now.text.now history c.args.self.now) step
+read_here : {origin : Origin} → (c : In_ok-found) (step : ReadStep) → chunk_step c.in_ok-found.found ≡ step → (history : History) → IsStateAfter origin c.args.self.now.text.now history c.args.self.now → IsStep (step_here c.args.self.now.text.now history c.args.self.now) step
 read_here c step is history kept = rw (here c history kept, ← is) c.in_ok-found.ensures.step
 
 -- the reader after the text was read, and the step
@@ -56,12 +56,12 @@ step_at : (c : In_ok-found) (step : ReadStep) → chunk_step c.in_ok-found.found
 step_at c step is =
     let old = c.args.self.now in
     let left = state_here old c.requires.sound c.requires.here.stage in
-    record { text = c.requires.sound.text; stage = c.requires.here.stage; stands = (left.0, state_reads old.text.now left.0 old c.chunk_from.new.reads left.1, read_here c step is left.0 left.1); idle = c.requires.here.idle }
+    record { text = c.requires.sound.text; stage = c.requires.here.stage; stands = (left.0, left.1, state_reads old.text.now left.1 old c.chunk_from.new.reads left.2, read_here c step is left.1 left.2); idle = c.requires.here.idle }
 
 ahead : (c : In_ok-found) (step : ReadStep) (given : Option (ℕ × Token × ℕ)) (new : Reader) → chunk_step c.in_ok-found.found ≡ step → Takes (at_text c) (λ history stands. IsStep stands step) given new → TakesNext c.args.self.now given new
 ahead c step given new is takes =
     let old = c.args.self.now in
-    taken_here old given new c.requires.here.stage c.requires.here.idle (λ history kept. takes history (state_reads old.text.now history old c.chunk_from.new.reads kept) (read_here c step is history kept))
+    taken_here old given new c.requires.here.stage c.requires.here.idle (λ origin history kept. takes origin history (state_reads old.text.now history old c.chunk_from.new.reads kept) (read_here c step is history kept))
 
 -- a text whose value is empty
 no_value : (value : Text) → (length value == 0) ≡ true → value ≡ []
@@ -85,7 +85,7 @@ pub overflow_add-result : goal.overflow_add-result
 overflow_add-result c =
     let old = c.args.self.now in
     let at = step_at (goal.at.overflow_add-result c).In_ok-found _ (ap chunk_step c.in-Ok.is) in
-    let inside = piece_here old.text.now at.stands.0 (at_text (goal.at.overflow_add-result c).In_ok-found) (chunk_piece (string_bytes c.in-Ok.value) c.in-Ok.chunk) at.stands.1 at.stands.2 in
+    let inside = piece_here old.text.now at.stands.1 (at_text (goal.at.overflow_add-result c).In_ok-found) (chunk_piece (string_bytes c.in-Ok.value) c.in-Ok.chunk) at.stands.2 at.stands.3 in
     omega (arith, inside.1, c.requires.sound.text.fits)
 
 pub returns-in-Ok-2-clause-ahead : goal.returns-in-Ok-2-clause-ahead
@@ -94,8 +94,8 @@ returns-in-Ok-2-clause-ahead c =
     let old = c.args.self.now in
     let value = string_bytes c.in-Ok.value in
     let some : (length value == 0) ≡ false = search rules in
-    ahead (goal.at.returns-in-Ok-2-clause-ahead c).In_ok-found (steps.Text value c.in-Ok.chunk) (Some (old.at, token.FStringText c.in-Ok.value, old.at + c.in-Ok.chunk.len)) c.pass_chunk.new.self (ap chunk_step c.in-Ok.is) (λ history kept stands.
-    subst (λ (passed : List (Spanned TokenView)). IsReadPast old.text.now (left_here old.text.now history old) passed c.pass_chunk.new.self) (chunk_some old.at c.in-Ok.chunk.len value some) (c.pass_chunk.ensures.read value history kept stands))
+    ahead (goal.at.returns-in-Ok-2-clause-ahead c).In_ok-found (steps.Text value c.in-Ok.chunk) (Some (old.at, token.FStringText c.in-Ok.value, old.at + c.in-Ok.chunk.len)) c.pass_chunk.new.self (ap chunk_step c.in-Ok.is) (λ origin history kept stands.
+    subst (λ (passed : List (Spanned TokenView)). IsReadPast origin old.text.now (left_here old.text.now history old) passed c.pass_chunk.new.self) (chunk_some old.at c.in-Ok.chunk.len value some) (c.pass_chunk.ensures.read value origin history kept stands))
 
 pub refuse-requires : goal.refuse-requires
 refuse-requires c =
@@ -117,6 +117,6 @@ returns-in-Err-clause-reads c =
     let opening = opening_view c.in-InText.opening in
     let step = steps.Fault c.in-Err.begin c.in-Err.fault c.in-Err.end in
     let is = ap chunk_step c.in-Err.is in
-    step_reads old.text.now peeked.0 left.0 step (at_text at) c.refuse.new.self (state_reads old.text.now left.0 old c.chunk_from.new.reads left.1) (read_here at step is left.0 left.1) peeked.1
-    (chunk_reads (next_line rest 0) step peeked.0 c.chunk_from.new.reads (rw is at (c.in_ok-found.ensures.reads peeked.0 peeked.2))) (no_repair 0 rest _ step peeked.0 c.chunk_from.new.reads (read_here at step is left.0 left.1) (ap step_keeps (here at left.0 left.1) ∙ chunk_keeps_none opening c.range_from-rest.result.now))
+    step_reads old.text.now peeked.0 left.1 step (at_text at) c.refuse.new.self (state_reads old.text.now left.1 old c.chunk_from.new.reads left.2) (read_here at step is left.1 left.2) peeked.1
+    (chunk_reads (next_line rest 0) step peeked.0 c.chunk_from.new.reads (rw is at (c.in_ok-found.ensures.reads peeked.0 peeked.2))) (no_repair 0 rest _ step peeked.0 c.chunk_from.new.reads (read_here at step is left.1 left.2) (ap step_keeps (here at left.1 left.2) ∙ chunk_keeps_none opening c.range_from-rest.result.now))
     (rw c.refuse.ensures ((refl, refl, omega arith), refl))

@@ -14,7 +14,7 @@ use Rattle.starlark_token.specs.declared.lexeme_error.LexemeError.{LexemeError}
 use Rattle.starlark_token.specs.declared.lexeme_error.LexemeError.TheVariants as error
 use Rattle.starlark_reader.specs.Inner.StepViews as steps
 use Rattle.starlark_reader.specs.Inner.ReadBounds.{AreWordReads, LeavesReads, is_tab_error}
-use Rattle.starlark_reader.specs.Inner.Reader.{IsStateAfter, step_here}
+use Rattle.starlark_reader.specs.Inner.Reader.{IsStateAfter, Origin, step_here}
 use Rattle.starlark_reader.specs.Inner.StepViews.{IsFaultWord, IsStep}
 use Rattle.starlark_reader.proofs.NextLines.{tabs_line}
 use Rattle.starlark_reader.proofs.TakenMargins.PendingLexemes.{after_error}
@@ -33,10 +33,10 @@ range-text-requires-clause-end_boundary c =
     word_cut c.range_from-rest.result.now c.args.word.class c.args.word.len c.range_from-rest.utf8 (ap language_front c.range_from-rest.ensures.value ∙ sym c.requires.stands.front)
 
 pub returns-in_err-text-in-Decimal-clause-memory : goal.returns-in_err-text-in-Decimal-clause-memory
-returns-in_err-text-in-Decimal-clause-memory c = after_error c.from_residual.result _ (λ lexemes fault ahead. onward_something c.args.self.now.text.now c.args.self.now lexemes fault c.requires.stands.idle c.requires.stands.stage ahead)
+returns-in_err-text-in-Decimal-clause-memory c = after_error c.from_residual.result _ (λ origin lexemes fault ahead. onward_something c.args.self.now.text.now c.args.self.now lexemes fault c.requires.stands.idle c.requires.stands.stage ahead)
 
 pub returns-in_err-text-in_default-clause-memory : goal.returns-in_err-text-in_default-clause-memory
-returns-in_err-text-in_default-clause-memory c = after_error c.from_residual-in_err-text-in_default.result _ (λ lexemes fault ahead. onward_something c.args.self.now.text.now c.args.self.now lexemes fault c.requires.stands.idle c.requires.stands.stage ahead)
+returns-in_err-text-in_default-clause-memory c = after_error c.from_residual-in_err-text-in_default.result _ (λ origin lexemes fault ahead. onward_something c.args.self.now.text.now c.args.self.now lexemes fault c.requires.stands.idle c.requires.stands.stage ahead)
 
 -- no other word is a fault
 reserved_only : (it : Class) (word : Text) → IsFaultWord it word → (it ≡ class.Tabs → ⊥) → (it ≡ class.Decimal → ⊥) → it ≡ class.Reserved
@@ -83,20 +83,20 @@ refused c =
     ]
 
 -- the step at the reader's offset
-stops : (c : Joined-word) (history : History) → IsStateAfter c.args.self.now.text.now history c.args.self.now → IsStep (step_here c.args.self.now.text.now history c.args.self.now) (steps.Fault 0 c.match-word.fault.0 c.match-word.fault.1)
+stops : {origin : Origin} → (c : Joined-word) (history : History) → IsStateAfter origin c.args.self.now.text.now history c.args.self.now → IsStep (step_here c.args.self.now.text.now history c.args.self.now) (steps.Fault 0 c.match-word.fault.0 c.match-word.fault.1)
 stops c history kept =
     let front : c.range-text.result.now ≡ take c.args.word.len (drop c.args.self.now.at c.args.self.now.text.now) = c.range-text.ensures.value ∙ ap (λ n. take n c.range_from-rest.result.now) (sub-zero _) ∙ ap (take c.args.word.len) c.range_from-rest.ensures.value in
     step_of_word c.args.self.now.text.now history c.args.self.now c.args.word c.range-text.result.now (steps.Fault 0 c.match-word.fault.0 c.match-word.fault.1) kept c.requires.stands front (refused c).step
 
 pub refuse-requires : goal.refuse-requires
 refuse-requires c =
-    let fits = refused_fits _ _ _ _ (at_step c.args.self.now _ c.requires.sound c.requires.stands.stage c.requires.stands.idle (stops (goal.at.refuse-requires c).Joined-word)) in
+    let fits = refused_fits _ _ _ _ (at_step c.args.self.now _ c.requires.sound c.requires.stands.stage c.requires.stands.idle (λ origin history kept. stops (goal.at.refuse-requires c).Joined-word history kept)) in
     record { begin = fits.0; end = fits.1 }
 
 pub returns-clause-ahead : goal.returns-clause-ahead
 returns-clause-ahead c =
     let read = refused_read c.args.self.now _ _ _ c.requires.stands.idle in
-    taken_here c.args.self.now None c.refuse.new.self c.requires.stands.stage c.requires.stands.idle (λ history kept. rw c.refuse.ensures (read history kept (stops (goal.at.returns-clause-ahead c).Joined-word history kept)))
+    taken_here c.args.self.now None c.refuse.new.self c.requires.stands.stage c.requires.stands.idle (λ origin history kept. rw c.refuse.ensures (read origin history kept (stops (goal.at.returns-clause-ahead c).Joined-word history kept)))
 
 pub returns-clause-reads : goal.returns-clause-reads
 returns-clause-reads c = λ before has read.
@@ -106,7 +106,7 @@ returns-clause-reads c = λ before has read.
     let left = state_here old c.requires.sound c.requires.stands.stage in
     let step = steps.Fault 0 c.match-word.fault.0 c.match-word.fault.1 in
     let given = refused (goal.at.returns-clause-reads c).Joined-word in
-    let is = stops (goal.at.returns-clause-reads c).Joined-word left.0 left.1 in
+    let is = stops (goal.at.returns-clause-reads c).Joined-word left.1 left.2 in
     let len : length c.range-text.result.now ≡ c.args.word.len = ap (λ (t : Text). length t) front ∙ word_len rest c.args.word.class c.args.word.len (sym c.requires.stands.front) in
     let more : AreWordReads c.args.word.len 9 2 (next_line (take c.args.word.len rest) 0) 8 step old.reads old.reads = rw (len, front) at (given.reads old.reads) in
-    word_step_reads old.text.now before old.reads old.reads left.0 c.args.word step old c.refuse.new.self left.1 c.requires.stands is has read more (rw (len, front) at (given.leaves old.reads)) (rw c.refuse.ensures ((refl, refl, omega arith), refl))
+    word_step_reads old.text.now before old.reads old.reads left.1 c.args.word step old c.refuse.new.self left.2 c.requires.stands is has read more (rw (len, front) at (given.leaves old.reads)) (rw c.refuse.ensures ((refl, refl, omega arith), refl))

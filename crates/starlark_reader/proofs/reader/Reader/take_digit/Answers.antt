@@ -22,12 +22,12 @@ view c = rw c.from.ensures (ap (λ number. Whole (tokens.Int number)) (digit_val
 
 pub take_token-requires : goal.take_token-requires
 take_token-requires c =
-    at_step c.args.self.now _ c.requires.sound c.requires.stands.stage c.requires.stands.idle (λ history kept. digit_step c.args.self.now.text.now history c.args.self.now c.args.digit (token.Int (int.I32 (to_z w32 (of_z w32 c.from.result)))) kept c.requires.stands c.requires.digit (view c))
+    at_step c.args.self.now _ c.requires.sound c.requires.stands.stage c.requires.stands.idle (λ origin history kept. digit_step c.args.self.now.text.now history c.args.self.now c.args.digit (token.Int (int.I32 (to_z w32 (of_z w32 c.from.result)))) kept c.requires.stands c.requires.digit (view c))
 
 pub returns-clause-ahead : goal.returns-clause-ahead
 returns-clause-ahead c =
     taken_here c.args.self.now (Some c.take_token.result) c.take_token.new.self c.requires.stands.stage c.requires.stands.idle
-    (λ history kept. c.take_token.ensures.read history kept (digit_step c.args.self.now.text.now history c.args.self.now c.args.digit (token.Int (int.I32 (to_z w32 (of_z w32 c.from.result)))) kept c.requires.stands c.requires.digit (view (goal.at.returns-clause-ahead c).After-from)))
+    (λ origin history kept. c.take_token.ensures.read origin history kept (digit_step c.args.self.now.text.now history c.args.self.now c.args.digit (token.Int (int.I32 (to_z w32 (of_z w32 c.from.result)))) kept c.requires.stands c.requires.digit (view (goal.at.returns-clause-ahead c).After-from)))
 
 pub returns-clause-code : goal.returns-clause-code
 returns-clause-code c = code_after c.args.self.now c.take_token.new.self c.take_token.ensures.text (c.take_token.ensures.onward (c.take_token.ensures.stays (ap keeps_nesting (view (goal.at.returns-clause-code c).After-from)) c.requires.stands.code))

@@ -14,7 +14,7 @@ use Rattle.starlark_token.specs.Lexemes.{lexeme_view, shown_lexeme}
 use Rattle.starlark_token.specs.TokenViews.{fstring_quote_view, token_view}
 use Rattle.starlark_token.specs.declared.fstring_style.FStringQuote.{FStringQuote}
 use Rattle.starlark_token.specs.declared.tokens.Token.TheVariants as token
-use Rattle.starlark_reader.specs.Inner.Reader.{IsStateAfter, step_here}
+use Rattle.starlark_reader.specs.Inner.Reader.{IsStateAfter, Origin, step_here}
 use Rattle.starlark_reader.proofs.TakenMargins.PendingLexemes.{after_error, hands_one}
 use Rattle.starlark_reader.proofs.TakenPieces.CodePlaces.{word_cut}
 use Rattle.starlark_reader.proofs.TakenPieces.NextLexeme.{onward_something}
@@ -35,7 +35,7 @@ triple_len opening word len is e = rw (is, e) refl
 single_len : (opening : Opening) (word len : ℕ) → opening.is_triple ≡ false → len ≡ word → len ≡ word + more_quotes (opening_view opening)
 single_len opening word len is e = rw (is, e) (omega arith)
 
-start_here : (c : After-begin_fstring) (history : History) → IsStateAfter c.args.self.now.text.now history c.args.self.now
+start_here : {origin : Origin} → (c : After-begin_fstring) (history : History) → IsStateAfter origin c.args.self.now.text.now history c.args.self.now
     → step_here c.args.self.now.text.now history c.args.self.now ≡ grammar.token c.if-opening.len (FStringStart (opening_view c.opening_of-opening.result))
 start_here c history kept =
     let remainder : c.range_from.result.now ≡ drop c.args.len (drop c.args.self.now.at c.args.self.now.text.now) = c.range_from.ensures.value ∙ ap (drop c.args.len) c.range_from-rest.ensures.value in
@@ -49,7 +49,7 @@ start_here c history kept =
 inside : (c : After-begin_fstring) → c.args.self.now.at + c.if-opening.len ≤ length c.args.self.now.text.now
 inside c =
     let left = state_here c.args.self.now c.requires.sound c.requires.stands.stage in
-    (piece_inside c.args.self.now.text.now left.0 c.args.self.now _ left.1 (start_here c left.0 left.1)).1
+    (piece_inside c.args.self.now.text.now left.1 c.args.self.now _ left.2 (start_here c left.1 left.2)).1
 
 pub step_over-requires-clause-fits : goal.step_over-requires-clause-fits
 step_over-requires-clause-fits c = omega (arith, inside (goal.at.step_over-requires-clause-fits c).After-begin_fstring, c.requires.sound.text.fits)
@@ -73,7 +73,7 @@ returns-clause-ahead c =
     let text = old.text.now in
     let len = c.if-opening.len in
     let opening = opening_view c.opening_of-opening.result in
-    taken_here old (Some (old.at, token.FStringStart c.quotes_of.result, old.at + len)) c.step_over.new.self c.requires.stands.stage c.requires.stands.idle (λ history kept.
+    taken_here old (Some (old.at, token.FStringStart c.quotes_of.result, old.at + len)) c.step_over.new.self c.requires.stands.stage c.requires.stands.idle (λ origin history kept.
     rw c.step_over.ensures (took text history old (Some (old.at, token.FStringStart c.quotes_of.result, old.at + len)) _ _ c.requires.sound.text.utf8 kept (start_here (goal.at.returns-clause-ahead c).After-begin_fstring history kept) refl
     (c.in_ok-begin_fstring.ensures.begins history.tokens kept.nesting)
     (kept.levels ∙ ap open_widths (sym (append-nil history.widths)))
@@ -84,4 +84,4 @@ returns-clause-ahead c =
     (hands_one text old.pending (old.at, token.FStringStart c.quotes_of.result, old.at + len) (moved old.at (start len opening)) c.requires.stands.idle (start_shown old.at len opening c.quotes_of.result c.quotes_of.ensures))))
 
 pub returns-in_err-begin_fstring-clause-memory : goal.returns-in_err-begin_fstring-clause-memory
-returns-in_err-begin_fstring-clause-memory c = after_error c.from_residual.result _ (λ lexemes fault ahead. onward_something c.args.self.now.text.now c.args.self.now lexemes fault c.requires.stands.idle c.requires.stands.stage ahead)
+returns-in_err-begin_fstring-clause-memory c = after_error c.from_residual.result _ (λ origin lexemes fault ahead. onward_something c.args.self.now.text.now c.args.self.now lexemes fault c.requires.stands.idle c.requires.stands.stage ahead)

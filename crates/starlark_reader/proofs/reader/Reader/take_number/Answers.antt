@@ -21,20 +21,20 @@ number_token-requires-clause-known c =
     ap (class_in language) word ∙ word_class c.range_from-rest.result.now c.args.word.class c.args.word.len (ap language_front c.range_from-rest.ensures.value ∙ sym c.requires.stands.front)
 
 pub returns-in_err-token-clause-memory : goal.returns-in_err-token-clause-memory
-returns-in_err-token-clause-memory c = after_error c.from_residual.result _ (λ lexemes fault ahead. onward_something c.args.self.now.text.now c.args.self.now lexemes fault c.requires.stands.idle c.requires.stands.stage ahead)
+returns-in_err-token-clause-memory c = after_error c.from_residual.result _ (λ origin lexemes fault ahead. onward_something c.args.self.now.text.now c.args.self.now lexemes fault c.requires.stands.idle c.requires.stands.stage ahead)
 
 pub take_token-requires : goal.take_token-requires
 take_token-requires c =
     let word : c.range.result.now ≡ take c.args.word.len (drop c.args.self.now.at c.args.self.now.text.now) = c.range.ensures.value ∙ ap (λ n. take n c.range_from-rest.result.now) (sub-zero _) ∙ ap (take c.args.word.len) c.range_from-rest.ensures.value in
     let view : token_view c.in_ok-token.token ≡ Whole (number_of c.args.word.class (take c.args.word.len (drop c.args.self.now.at c.args.self.now.text.now))) = c.in_ok-token.ensures ∙ ap (λ t. Whole (number_of c.args.word.class t)) word in
-    at_step c.args.self.now _ c.requires.sound c.requires.stands.stage c.requires.stands.idle (λ history kept. number_step c.args.self.now.text.now history c.args.self.now c.args.word c.in_ok-token.token kept c.requires.stands c.requires.class c.requires.plain view)
+    at_step c.args.self.now _ c.requires.sound c.requires.stands.stage c.requires.stands.idle (λ origin history kept. number_step c.args.self.now.text.now history c.args.self.now c.args.word c.in_ok-token.token kept c.requires.stands c.requires.class c.requires.plain view)
 
 pub returns-clause-ahead : goal.returns-clause-ahead
 returns-clause-ahead c =
     let word : c.range.result.now ≡ take c.args.word.len (drop c.args.self.now.at c.args.self.now.text.now) = c.range.ensures.value ∙ ap (λ n. take n c.range_from-rest.result.now) (sub-zero _) ∙ ap (take c.args.word.len) c.range_from-rest.ensures.value in
     let view : token_view c.in_ok-token.token ≡ Whole (number_of c.args.word.class (take c.args.word.len (drop c.args.self.now.at c.args.self.now.text.now))) = c.in_ok-token.ensures ∙ ap (λ t. Whole (number_of c.args.word.class t)) word in
     taken_here c.args.self.now (Some c.take_token.result) c.take_token.new.self c.requires.stands.stage c.requires.stands.idle
-    (λ history kept. c.take_token.ensures.read history kept (number_step c.args.self.now.text.now history c.args.self.now c.args.word c.in_ok-token.token kept c.requires.stands c.requires.class c.requires.plain view))
+    (λ origin history kept. c.take_token.ensures.read origin history kept (number_step c.args.self.now.text.now history c.args.self.now c.args.word c.in_ok-token.token kept c.requires.stands c.requires.class c.requires.plain view))
 
 pub returns-clause-code : goal.returns-clause-code
 returns-clause-code c = code_after c.args.self.now c.take_token.new.self c.take_token.ensures.text (c.take_token.ensures.onward (c.take_token.ensures.stays (number_changes c.args.word.class _ c.in_ok-token.token c.in_ok-token.ensures) c.requires.stands.code))

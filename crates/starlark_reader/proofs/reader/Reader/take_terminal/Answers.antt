@@ -20,14 +20,14 @@ view c tokens same = elim c.match-terminal.branch [
 pub take_token-requires : goal.take_token-requires
 take_token-requires c =
     at_step c.args.self.now _ c.requires.sound c.requires.stands.stage c.requires.stands.idle
-    (λ history kept. terminal_step c.args.self.now.text.now history c.args.self.now c.args.terminal c.args.len c.match-terminal.token kept c.requires.stands (view (goal.at.take_token-requires c).After-take_token-arg-1 history.tokens kept.nesting))
+    (λ origin history kept. terminal_step c.args.self.now.text.now history c.args.self.now c.args.terminal c.args.len c.match-terminal.token kept c.requires.stands (view (goal.at.take_token-requires c).After-take_token-arg-1 history.tokens kept.nesting))
 
 pub returns-clause-ahead : goal.returns-clause-ahead
 returns-clause-ahead c =
     taken_here c.args.self.now (Some c.take_token.result) c.take_token.new.self c.requires.stands.stage c.requires.stands.idle
-    (λ history kept. c.take_token.ensures.read history kept (terminal_step c.args.self.now.text.now history c.args.self.now c.args.terminal c.args.len c.match-terminal.token kept c.requires.stands (view (goal.at.returns-clause-ahead c).After-take_token-arg-1 history.tokens kept.nesting)))
+    (λ origin history kept. c.take_token.ensures.read origin history kept (terminal_step c.args.self.now.text.now history c.args.self.now c.args.terminal c.args.len c.match-terminal.token kept c.requires.stands (view (goal.at.returns-clause-ahead c).After-take_token-arg-1 history.tokens kept.nesting)))
 
 pub returns-clause-token : goal.returns-clause-token
 returns-clause-token c =
     let left = state_here c.args.self.now c.requires.sound c.requires.stands.stage in
-    terminal_shown _ c.args.terminal _ (ap token_view c.take_token.ensures.token ∙ view (goal.at.returns-clause-token c).After-take_token-arg-1 left.0.tokens left.1.nesting)
+    terminal_shown _ c.args.terminal _ (ap token_view c.take_token.ensures.token ∙ view (goal.at.returns-clause-token c).After-take_token-arg-1 left.1.tokens left.2.nesting)

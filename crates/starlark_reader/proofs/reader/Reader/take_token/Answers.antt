@@ -17,14 +17,14 @@ one len node = record { len = len; lexemes = record { begin = 0; node = node; en
 pub step_over-requires-clause-fits : goal.step_over-requires-clause-fits
 step_over-requires-clause-fits c =
     let stands = c.requires.stands in
-    let here = piece_here c.args.self.now.text.now stands.0 c.args.self.now (one c.args.len stands.2.0) stands.1 stands.2.3 in
+    let here = piece_here c.args.self.now.text.now stands.1 c.args.self.now (one c.args.len stands.3.0) stands.2 stands.3.3 in
     omega (arith, here.1, c.requires.text.fits)
 
 pub overflow_add-result : goal.overflow_add-result
-overflow_add-result c = search (rules, (piece_here c.args.self.now.text.now c.requires.stands.0 c.args.self.now (one c.args.len c.requires.stands.2.0) c.requires.stands.1 c.requires.stands.2.3).1)
+overflow_add-result c = search (rules, (piece_here c.args.self.now.text.now c.requires.stands.1 c.args.self.now (one c.args.len c.requires.stands.3.0) c.requires.stands.2 c.requires.stands.3.3).1)
 
 pub returns-clause-read : goal.returns-clause-read
-returns-clause-read c = λ history kept stands.
+returns-clause-read c = λ origin history kept stands.
     let here = piece_here c.args.self.now.text.now history c.args.self.now (one c.args.len stands.0) kept stands.3 in
     rw c.step_over.ensures (took c.args.self.now.text.now history c.args.self.now (Some (c.args.self.now.at, c.args.token, c.args.self.now.at + c.args.len)) _ (one c.args.len stands.0) c.requires.text.utf8 kept stands.3 refl
     (c.pass.ensures.passes history.tokens stands.0 stands.1 stands.2 (brace_in_code c.args.self.now.text.now history c.args.self.now c.args.len stands.0 kept stands.3) kept.nesting)
@@ -38,6 +38,6 @@ returns-clause-read c = λ history kept stands.
 pub returns-clause-taken : goal.returns-clause-taken
 returns-clause-taken c =
     let stands = c.requires.stands in
-    let here = piece_here c.args.self.now.text.now stands.0 c.args.self.now (one c.args.len stands.2.0) stands.1 stands.2.3 in
+    let here = piece_here c.args.self.now.text.now stands.1 c.args.self.now (one c.args.len stands.3.0) stands.2 stands.3.3 in
     let is = c.step_over.ensures in
     (here.0, (ap (λ (reader : Reader). reader.at) is, ap (λ (reader : Reader). reader.reads) is, omega (arith, ap (λ (reader : Reader). owed reader.pending) is)), ap (λ (reader : Reader). reader.stage) is)

@@ -1,24 +1,27 @@
 use Rattle.std.proofs.Common.{rules}
 use Rattle.starlark_recovery.specs.Inner.RecoveryStates.{IsAdvanced}
-use Rattle.starlark_recovery.proofs.RecoverySteps.{advanced_in_text, nothing_next, nothing_recovering}
+use Rattle.starlark_recovery.proofs.RecoverySteps.{advanced, lexing_here, nothing_next, nothing_recovering}
 use Rattle.starlark_recovery.proofs.recovery_state.RecoveryState.next.Goals as goal
 use Rattle.starlark_recovery.proofs.recovery_state.RecoveryState.next.Goals.{After-next_item}
 
-advanced : (c : After-next_item) → IsAdvanced c.args.self.now c.next_item.result (record c.args.self.now { state = c.next_item.new.self })
-advanced c =
+found : (c : After-next_item) → IsAdvanced c.args.self.now c.next_item.result (record c.args.self.now { state = c.next_item.new.self })
+found c =
     let e = c.next_item.ensures in
-    advanced_in_text c.args.self.now c.requires c.copy.result c.if-is_some.ensures c.copy.ensures.none.0 c.next_item.result c.next_item.new.self e.ended e.found e.lexing e.within e.between e.after
+    advanced c.args.self.now c.requires c.next_item.result c.next_item.new.self e.ended e.found e.lexing e.within e.between e.after
+
+pub next_item-requires : goal.next_item-requires
+next_item-requires c = record { lexing = lexing_here c.args.self.now c.requires }
 
 pub answer-requires : goal.answer-requires
-answer-requires c = (c.args.self.now, rw c.in_ok-item.was at (advanced (goal.at.answer-requires c).After-next_item))
+answer-requires c = (c.args.self.now, rw c.in_ok-item.was at (found (goal.at.answer-requires c).After-next_item))
 
 pub returns-in_err-item-clause-recovering : goal.returns-in_err-item-clause-recovering
-returns-in_err-item-clause-recovering c = search (rules, advanced, nothing_recovering)
+returns-in_err-item-clause-recovering c = nothing_recovering c.args.self.now c.requires c.next_item.new.self (rw c.in_err-item.was at (found (goal.at.returns-in_err-item-clause-recovering c).After-next_item))
 
 pub returns-in_err-item-clause-next : goal.returns-in_err-item-clause-next
 returns-in_err-item-clause-next c =
-    let e = rw c.in_err-item.was at (advanced (goal.at.returns-in_err-item-clause-next c).After-next_item) in
-    rw c.from_residual.ensures (nothing_next c.args.self.now e.recovering c.next_item.new.self (λ on. (e.ended on).1) e.found e.lexing e.count e.ends e.own)
+    let e = rw c.in_err-item.was at (found (goal.at.returns-in_err-item-clause-next c).After-next_item) in
+    rw c.from_residual.ensures (nothing_next c.args.self.now c.requires c.next_item.new.self e)
 
 pub returns-clause-next : goal.returns-clause-next
-returns-clause-next c = c.answer.ensures.next c.args.self.now (rw c.in_ok-item.was at (advanced (goal.at.returns-clause-next c).After-next_item))
+returns-clause-next c = c.answer.ensures.next c.args.self.now (rw c.in_ok-item.was at (found (goal.at.returns-clause-next c).After-next_item))
