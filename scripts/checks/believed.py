@@ -239,7 +239,7 @@ MOST_LINES = {
     "`Lexer::next`": 897,
     "`RecoveringLexer`": 962,
     "`LexedText`": 882,
-    "`run`, `run_edits`": 1032,
+    "`run`, `run_edits`": 1053,
     "the calls from C": 1420,
     "reports, `starlark_tokens`": 2174,
     "`Document`": 907,

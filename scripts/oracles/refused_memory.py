@@ -13,7 +13,8 @@ and `starlark_tokens` texts and files in each form. For each run one of these ha
   out of memory is as it was before.
 
 With no allocation refused a row has the answer that is stored, a text after edits prints what the plain lexer does,
-and no run runs out of memory. Two texts of many words are joined with few allocations, so that none of them is lexed again.
+and no run runs out of memory. Two texts of many words are joined with few allocations, and a text of many words is edited at its
+end with few more than it has words, so that no word is lexed again.
 
     scripts/oracles/refused_memory.py [--rows N]    tries N rows of each call that doesn't allocate itself (1)
 
@@ -52,9 +53,11 @@ WHOLE_GROUPS = {b"errors", b"files", b"refusals", b"words"}
 # A call that lexes thousands of texts, with too many allocations to refuse each.
 LEFT_OUT = {(b"lexed_text", b"each_byte")}
 
-# A text of 200 words as a row has it, and how many allocations a join may make.
-MANY_WORDS = b"word\\n" * 200
+# A text of words as a row has it, and how many allocations a join may make, or a run beside one for each word.
+WORD_COUNT = 200
+MANY_WORDS = b"word\\n" * WORD_COUNT
 MOST_FOR_JOIN = 20
+MOST_BESIDE_WORDS = 100
 
 TEXTS = [
     b"",
@@ -314,6 +317,18 @@ def tried_join(allocator, program):
     return tries
 
 
+def tried_last_edit(allocator, program):
+    """A text of many words with an edit at its end. Each word makes an allocation. If what was lexed last weren't what is
+    printed, but lexed again, each word would make another one."""
+    text = b"word\n" * WORD_COUNT
+    tries = PartTries(allocator, program, "texts", edited_record([Edit(len(text), len(text), b"x")], text))
+    run = tries.run(0)
+    tries.runs = 1
+    if run.output.count(b"\n") < WORD_COUNT or not WORD_COUNT <= run.allocations <= WORD_COUNT + MOST_BESIDE_WORDS:
+        tries.wrong.append(f"a text of {WORD_COUNT} words was edited with {run.allocations} allocations: {run.output[-200:]!r}")
+    return tries
+
+
 def tried_text(allocator, program, text):
     """A text with each of the program's allocations refused in turn. With none refused memory may not run out."""
     tries = Tries(allocator, program, text)
@@ -368,7 +383,7 @@ def main():
     with tempfile.TemporaryDirectory() as folder, ThreadPoolExecutor(os.cpu_count()) as pool:
         allocator = built_allocator(folder)
         started = [pool.submit(tried_row, allocator, rows, row, answer) for row, answer in tried_rows(most)]
-        started += [pool.submit(tried_join, allocator, rows)]
+        started += [pool.submit(one, allocator, rows) for one in (tried_join, tried_last_edit)]
         started += [pool.submit(tried_edited, allocator, rows, stored) for stored in EDITED]
         started += [pool.submit(tried_text, allocator, lex, text) for text in TEXTS]
         started += started_reports(pool, allocator, tokens, Path(folder))

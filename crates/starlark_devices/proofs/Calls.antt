@@ -1,9 +1,10 @@
 -- Calls one after another.
-use Rattle.std.proofs.Common.{◌≡◌, ◌<◌, ◌++◌, [], ◌∷◌, ℕ, List, Option, Some, None, Bool, true, false, length, take, drop, ◌+◌, take-add, refl, sym, subst, ap, ◌∙◌, append_assoc, append-nil}
+use Rattle.std.proofs.Common.{◌≡◌, ◌<◌, ◌++◌, [], ◌∷◌, ℕ, List, Option, Some, None, Ok, Err, Bool, true, false, length, take, drop, drop-drop, ◌+◌, take-add, refl, sym, subst, ap, ◌∙◌, append_assoc, append-nil}
 use Rattle.std.proofs.KnownBytes.{Appends-nil, Appends-trans, Appends-kept, Consumes-nil, Consumes-trans, Consumes-kept}
 use Rattle.std.specs.Io.KnownBytes.{Appends, Consumes, IsAtEnd, Keeps}
 use Rattle.std.specs.List.{AllByRecursion, flat_map}
-use Rattle.starlark_devices.specs.Calls.{Bytes, ReaderCalls, ReadCall, WasRead, GaveSome, given_by, StoppedBy, Came, WriterCalls, WriterCall, Wrote, Flushed, WasWritten, TookSome, taken_by, IsFailed, Ending, Going, Done, Broken, EndedBy, Went}
+use Rattle.std.specs.declared.io.Error.{Error}
+use Rattle.starlark_devices.specs.Calls.{Bytes, ReaderCalls, ReadCall, WasRead, GaveSome, given_by, StoppedBy, Came, WriterCalls, WriterCall, Wrote, Flushed, WasWritten, TookSome, taken_by, FailedWith, Ending, Going, Done, Broken, EndedBy, Went, AreOffered, Offers}
 
 -- a list of items with a fact of each, and another after it
 pub all_append : {A : Type 0} (P : A → Type 0) (xs ys : List A) → AllByRecursion P xs → AllByRecursion P ys → AllByRecursion P (xs ++ ys)
@@ -41,9 +42,9 @@ module _ {R : Type 0} (calls : ReaderCalls R) where
   going a b x came = subst (λ log. WasRead calls a log b) (ap (λ last. came.log ++ last) (no_last_read came.last came.stopped) ∙ append-nil came.log) came.order
 
   -- one read more that gave some bytes
-  pub came_more : (a b c : R) (x room : Bytes) (count : ℕ) → Came calls a b false false x → Consumes (calls.remaining b) (calls.remaining c) (take count room) → calls.read b room (Some count) c → 0 < count → Came calls a c false false (x ++ take count room)
+  pub came_more : (a b c : R) (x room : Bytes) (count : ℕ) → Came calls a b false false x → Consumes (calls.remaining b) (calls.remaining c) (take count room) → calls.read b room (Ok count) c → 0 < count → Came calls a c false false (x ++ take count room)
   came_more a b c x room count came bytes read some =
-      let call : ReadCall R = record { room = room; count = Some count; after = c } in
+      let call : ReadCall R = record { room = room; result = Ok count; after = c } in
       record {
         bytes = Consumes-trans _ _ _ _ _ came.bytes bytes;
         nothing_left = λ e. cc;
@@ -70,20 +71,20 @@ module _ {R : Type 0} (calls : ReaderCalls R) where
   }
 
   -- one that came to the end
-  pub came_end : (a b c : R) (x room : Bytes) → Came calls a b false false x → Consumes (calls.remaining b) (calls.remaining c) [] → IsAtEnd (calls.remaining c) → calls.read b room (Some 0) c → 0 < length room → Came calls a c true false x
+  pub came_end : (a b c : R) (x room : Bytes) → Came calls a b false false x → Consumes (calls.remaining b) (calls.remaining c) [] → IsAtEnd (calls.remaining c) → calls.read b room (Ok 0) c → 0 < length room → Came calls a c true false x
   came_end a b c x room came bytes end read some =
-      came_last a b c x (record { room = room; count = Some 0; after = c }) true false came (subst (Consumes (calls.remaining a) (calls.remaining c)) (append-nil x) (Consumes-trans _ _ _ _ _ came.bytes bytes)) (λ e. end) (read, refl) (refl, some)
+      came_last a b c x (record { room = room; result = Ok 0; after = c }) true false came (subst (Consumes (calls.remaining a) (calls.remaining c)) (append-nil x) (Consumes-trans _ _ _ _ _ came.bytes bytes)) (λ e. end) (read, refl) (refl, some)
 
   -- one that failed
-  pub came_failed : (a b c : R) (x room : Bytes) → Came calls a b false false x → Keeps (calls.remaining b) (calls.remaining c) → calls.read b room None c → Came calls a c false true x
-  came_failed a b c x room came keeps read =
-      came_last a b c x (record { room = room; count = None; after = c }) false true came (Consumes-kept _ _ _ _ came.bytes keeps) (λ e. cc) (read, refl) refl
+  pub came_failed : (a b c : R) (x room : Bytes) (error : Error) → Came calls a b false false x → Keeps (calls.remaining b) (calls.remaining c) → calls.read b room (Err error) c → Came calls a c false true x
+  came_failed a b c x room error came keeps read =
+      came_last a b c x (record { room = room; result = Err error; after = c }) false true came (Consumes-kept _ _ _ _ came.bytes keeps) (λ e. cc) (read, refl) refl
 
 module _ {W : Type 0} (calls : WriterCalls W) where
   pub written_append : (xs ys : List (WriterCall W)) (a b c : W) → WasWritten calls a xs b → WasWritten calls b ys c → WasWritten calls a (xs ++ ys) c
   written_append [] ys a b c first next = subst (λ w. WasWritten calls w ys c) first next
-  written_append (Wrote piece count after ∷ xs) ys a b c first next = (first.0, written_append xs ys after b c first.1 next)
-  written_append (Flushed is_ok after ∷ xs) ys a b c first next = (first.0, written_append xs ys after b c first.1 next)
+  written_append (Wrote piece result after ∷ xs) ys a b c first next = (first.0, written_append xs ys after b c first.1 next)
+  written_append (Flushed result after ∷ xs) ys a b c first next = (first.0, written_append xs ys after b c first.1 next)
 
   -- nothing went to a writer that was not called
   pub went_nil : (w : W) → Went calls Going w w []
@@ -109,22 +110,44 @@ module _ {W : Type 0} (calls : WriterCalls W) where
       }
 
   -- one write that took some bytes
-  pub went_once : (a b : W) (piece : Bytes) (count : ℕ) → Appends (calls.contents a) (calls.contents b) (take count piece) → calls.write a piece (Some count) b → 0 < count → Went calls Going a b (take count piece)
-  went_once a b piece count bytes call some = record { bytes = bytes; log = Wrote piece (Some count) b ∷ []; last = []; order = (call, refl); some = (some, tt); given = append-nil (take count piece); ended = tt }
+  pub went_once : (a b : W) (piece : Bytes) (count : ℕ) → Appends (calls.contents a) (calls.contents b) (take count piece) → calls.write a piece (Ok count) b → 0 < count → Went calls Going a b (take count piece)
+  went_once a b piece count bytes call some = record { bytes = bytes; log = Wrote piece (Ok count) b ∷ []; last = []; order = (call, refl); some = (some, tt); given = append-nil (take count piece); ended = tt }
 
   -- a last call that failed
-  pub went_broken : (a b c : W) (x : Bytes) (call : WriterCall W) → Went calls Going a b x → Keeps (calls.contents b) (calls.contents c) → WasWritten calls b (call ∷ []) c → IsFailed call → Went calls Broken a c x
-  went_broken a b c x call first keeps order failed =
-      let next : Went calls Broken b c [] = record { bytes = subst (Appends (calls.contents b) (calls.contents c)) refl (Appends-kept _ _ _ _ (Appends-nil (calls.contents b)) keeps); log = []; last = call ∷ []; order = order; some = tt; given = refl; ended = failed } in
-      subst (Went calls Broken a c) (append-nil x) (went_trans Broken a b c x [] first next)
+  pub went_broken : (a b c : W) (x : Bytes) (call : WriterCall W) (error : Error) → Went calls Going a b x → Keeps (calls.contents b) (calls.contents c) → WasWritten calls b (call ∷ []) c → FailedWith error call → Went calls (Broken error) a c x
+  went_broken a b c x call error first keeps order failed =
+      let next : Went calls (Broken error) b c [] = record { bytes = subst (Appends (calls.contents b) (calls.contents c)) refl (Appends-kept _ _ _ _ (Appends-nil (calls.contents b)) keeps); log = []; last = call ∷ []; order = order; some = tt; given = refl; ended = failed } in
+      subst (Went calls (Broken error) a c) (append-nil x) (went_trans (Broken error) a b c x [] first next)
 
   -- a last flush
-  pub went_done : (a b c : W) (x : Bytes) → Went calls Going a b x → Keeps (calls.contents b) (calls.contents c) → calls.flush b true c → Went calls Done a c x
+  pub went_done : (a b c : W) (x : Bytes) → Went calls Going a b x → Keeps (calls.contents b) (calls.contents c) → calls.flush b (Ok tt) c → Went calls Done a c x
   went_done a b c x first keeps flush =
-      let next : Went calls Done b c [] = record { bytes = Appends-kept _ _ _ _ (Appends-nil (calls.contents b)) keeps; log = []; last = Flushed true c ∷ []; order = (flush, refl); some = tt; given = refl; ended = refl } in
+      let next : Went calls Done b c [] = record { bytes = Appends-kept _ _ _ _ (Appends-nil (calls.contents b)) keeps; log = []; last = Flushed (Ok tt) c ∷ []; order = (flush, refl); some = tt; given = refl; ended = tt } in
       subst (Went calls Done a c) (append-nil x) (went_trans Done a b c x [] first next)
 
   -- a write of the rest of some bytes, of which some were taken
-  pub went_more : (a b c : W) (bytes : Bytes) (written count : ℕ) → Went calls Going a b (take written bytes) → Appends (calls.contents b) (calls.contents c) (take count (drop written bytes)) → calls.write b (drop written bytes) (Some count) c → 0 < count → Went calls Going a c (take (written + count) bytes)
+  pub went_more : (a b c : W) (bytes : Bytes) (written count : ℕ) → Went calls Going a b (take written bytes) → Appends (calls.contents b) (calls.contents c) (take count (drop written bytes)) → calls.write b (drop written bytes) (Ok count) c → 0 < count → Went calls Going a c (take (written + count) bytes)
   went_more a b c bytes written count first bytes_taken call some =
       subst (Went calls Going a c) (sym (take-add written count bytes)) (went_trans Going a b c _ _ first (went_once b c (drop written bytes) count bytes_taken call some))
+
+  -- calls that were offered all that was left of a text: what is offered the rest after them goes on
+  abbrev pub OffersSoFar : (old now : W) (text rest : Bytes) → Type 0
+  OffersSoFar old now text rest = (new : W) (left : Bytes) → Offers calls now new rest left → Offers calls old new text left
+
+  pub offers_start : (a : W) (text : Bytes) → OffersSoFar a a text text
+  offers_start a text = λ new left offers. offers
+
+  pub offers_more : (a b c : W) (text : Bytes) (written count : ℕ) → OffersSoFar a b text (drop written text) → calls.write b (drop written text) (Ok count) c → OffersSoFar a c text (drop (written + count) text)
+  offers_more a b c text written count before call =
+      λ new left offers. before new left (Wrote (drop written text) (Ok count) c ∷ offers.0, (call, offers.1), (refl, subst (λ rest. AreOffered rest left offers.0) (sym (drop-drop count written text)) offers.2))
+
+  -- the last write took nothing, or failed
+  pub offers_nothing : (a b c : W) (text rest : Bytes) (count : ℕ) → OffersSoFar a b text rest → calls.write b rest (Ok count) c → Offers calls a c text (drop count rest)
+  offers_nothing a b c text rest count before call = before c (drop count rest) (Wrote rest (Ok count) c ∷ [], (call, refl), (refl, refl))
+
+  pub offers_failed : (a b c : W) (text rest : Bytes) (error : Error) → OffersSoFar a b text rest → calls.write b rest (Err error) c → Offers calls a c text rest
+  offers_failed a b c text rest error before call = before c rest (Wrote rest (Err error) c ∷ [], (call, refl), (refl, refl))
+
+  -- all was taken
+  pub offers_whole : (a b : W) (text rest : Bytes) → OffersSoFar a b text rest → rest ≡ [] → Offers calls a b text []
+  offers_whole a b text rest before none = before b [] ([], refl, sym none)

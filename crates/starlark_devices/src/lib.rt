@@ -1,10 +1,10 @@
 //! Readers and writers whose contracts state each call.
 #![tactic(auto)]
 
-ghost use Rattle.std.specs.Prelude.{◌≡◌, IfErr, IfOk};
+ghost use Rattle.std.specs.Prelude.{◌≡◌};
 ghost use Rattle.std.specs.Io.{ReadsAtMost, WritesAtMost};
 ghost use Rattle.std.specs.Io.KnownBytes.{Keeps, ReadConsumes, WriteAppends};
-ghost use Rattle.starlark_devices.specs.Calls.{ReaderCalls, WriterCalls, WritesText, count_of, is_ok_of, std_reader, std_writer};
+ghost use Rattle.starlark_devices.specs.Calls.{OffersText, ReaderCalls, WriterCalls, WritesText, std_reader, std_writer};
 
 use std::io;
 use std::io::{ErrorKind, Read, Write};
@@ -20,8 +20,7 @@ pub trait ReadDevice {
     fn read_once(&mut self, buf: &mut [u8]) -> io::Result<usize>
         ensures bound { ReadsAtMost result buf.new }
         ensures bytes { ReadConsumes (calls.remaining self.old) (calls.remaining self.new) result buf.new }
-        ensures call { calls.read self.old buf.new (count_of result) self.new }
-        ensures failure { IfErr result (λ error. calls.failure self.old error self.new) };
+        ensures call { calls.read self.old buf.new result self.new };
 }
 
 impl<R: Read> ReadDevice for R {
@@ -43,14 +42,12 @@ pub trait WriteDevice {
     fn write_once(&mut self, piece: &[u8]) -> io::Result<usize>
         ensures bound { WritesAtMost result piece.now }
         ensures bytes { WriteAppends (calls.contents self.old) (calls.contents self.new) result piece.now }
-        ensures call { calls.write self.old piece.now (count_of result) self.new }
-        ensures failure { IfErr result (λ error. calls.failure self.old error self.new) };
+        ensures call { calls.write self.old piece.now result self.new };
 
     /// Flushes once, as `std::io::Write::flush` does.
     fn flush_once(&mut self) -> io::Result<()>
         ensures bytes { Keeps (calls.contents self.old) (calls.contents self.new) }
-        ensures call { calls.flush self.old (is_ok_of result) self.new }
-        ensures failure { IfErr result (λ error. calls.failure self.old error self.new) };
+        ensures call { calls.flush self.old result self.new };
 }
 
 impl<W: Write> WriteDevice for W {
@@ -67,10 +64,12 @@ impl<W: Write> WriteDevice for W {
 
 /// Writes all bytes to a writer, in as many calls as it needs, and doesn't flush it.
 ///
-/// Fails at the first call that fails, or that takes nothing. That call is the last one.
+/// Each call is offered all that is left. Fails at the first call that fails, with its error, or that
+/// takes nothing, with `WriteZero`. That call is the last one.
 #[tactic(auto, unfolding(crate::specs::Calls::WritesText))]
 pub fn write_all<W: WriteDevice>(writer: &mut W, bytes: &[u8]) -> io::Result<()>
-    ensures { WritesText W.calls writer.old writer.new bytes.now result }
+    ensures text { WritesText W.calls writer.old writer.new bytes.now result }
+    ensures offers { OffersText W.calls writer.old writer.new bytes.now result }
 {
     let mut written = 0;
     while written < bytes.len() {

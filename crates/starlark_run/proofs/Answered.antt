@@ -1,6 +1,5 @@
 -- What a lexer answers, by the items of its text.
-use Rattle.std.proofs.Common.{◌≡◌, ℕ, ◌≤◌, [], length, drop, refl, ap, sym, subst, ◌∙◌, None, Some, Ok, Err, slice_get}
-use Rattle.std.specs.Prelude.{Option}
+use Rattle.std.proofs.Common.{◌≡◌, ℕ, ◌≤◌, [], length, drop, sym, subst, None, Some, Ok, Err, slice_get}
 use Rattle.starlark_base.specs.Diagnostics.{Diagnosed}
 use Rattle.starlark_base.specs.Places.{Text}
 use Rattle.starlark_base.specs.Sources.{SourceFile}
@@ -8,7 +7,7 @@ use Rattle.starlark_text.specs.declared.or_memory.OrMemory.TheVariants as refusa
 use Rattle.starlark_errors.specs.Exceptions.{IsFaultIn}
 use Rattle.starlark_errors.specs.declared.error.kinds.ErrorKind.{ErrorKind}
 use Rattle.starlark_grammar.specs.Reading.{outcome}
-use Rattle.starlark_token.specs.TextItems.{Given, LexerItem, Refused, items}
+use Rattle.starlark_token.specs.TextItems.{items}
 use Rattle.starlark_token.specs.declared.tokens.Token.{Token}
 use Rattle.starlark_lexemes.specs.Lexer.{AnswersNext}
 use Rattle.starlark_lexemes.proofs.NextItems.{found_fault, found_lexeme, found_none}

@@ -8,15 +8,13 @@ use Rattle.starlark_base.specs.Diagnostics.{Diagnosed}
 use Rattle.starlark_base.specs.Sources.{SourceFile}
 use Rattle.starlark_grammar.specs.Reading.{outcome}
 use Rattle.starlark_grammar.specs.Tokens.{Fault, Spanned}
-use Rattle.starlark_run.specs.Edits.{edited_text, text_after, text_after_one}
+use Rattle.starlark_run.specs.Edits.{edited_text, greatest_len, text_after, text_after_one}
 use Rattle.starlark_run.specs.Inner.EditedTexts.{AreVersions, AreVersionsAfter, AreVersionsLexed, AreVersionsRelexed, Fits, Follows, IsVersion, newest_text}
 use Rattle.starlark_run.specs.Relexed.{AreLexed, AreRelexed, IsCutBefore, IsReadOn}
 use Rattle.starlark_errors.specs.declared.error.kinds.ErrorKind.{ErrorKind}
 use Rattle.starlark_base.specs.declared.edit.Edit.{Edit}
 use Rattle.starlark_run.specs.declared.edited_texts.Version.{Version}
 use Rattle.starlark_lexed_text.specs.LexedTexts.{IsFaultIn, IsLexed, IsReadFrom, LexedView}
-use Rattle.starlark_run.specs.declared.ends.TheConstants.{GREATEST_LEN}
-use Rattle.starlark_run.specs.declared.ends.RunFault.TheVariants as fault
 
 front_kept : (n : ℕ) (text rest : Text) → n ≤ length text → take n (take n text ++ rest) ≡ take n text
 front_kept zero text rest inside = refl
@@ -24,7 +22,7 @@ front_kept (suc n) [] rest inside = absurd (omega (arith, inside))
 front_kept (suc n) (x ∷ xs) rest inside = ap (λ t. x ∷ t) (front_kept n xs rest (omega (arith, inside)))
 
 -- the text that an edit leaves has the same bytes as the one before up to where the edit begins
-pub edit_follows : (text : Text) (edit : Edit) (version : Version) → IsUtf8 text → IsUtf8 (string_bytes version.text) → Fits text edit → version.from ≡ edit.from → string_bytes version.text ≡ edited_text text edit → length (string_bytes version.text) ≤ GREATEST_LEN → Follows text version
+pub edit_follows : (text : Text) (edit : Edit) (version : Version) → IsUtf8 text → IsUtf8 (string_bytes version.text) → Fits text edit → version.from ≡ edit.from → string_bytes version.text ≡ edited_text text edit → length (string_bytes version.text) ≤ greatest_len → Follows text version
 edit_follows text edit version old new held begins is fits =
     let inside = held.held.begin.0 in
     let same : take edit.from (string_bytes version.text) ≡ take edit.from text = ap (take edit.from) (is ∙ append_assoc (take edit.from text) edit.text.now (drop edit.to text)) ∙ front_kept edit.from text (edit.text.now ++ drop edit.to text) inside in
@@ -48,7 +46,7 @@ newest_is_last text (v ∷ w ∷ versions) version e =
     let step : length (v ∷ w ∷ versions) - 1 ≡ suc (length (w ∷ versions) - 1) = omega arith in
     newest_is_last (string_bytes v.text) (w ∷ versions) version (subst (λ n. slice_get (v ∷ w ∷ versions) n ≡ Some version) step e)
 
-pub newest_fits : (text : Text) (versions : List Version) → AreVersions text versions → length text ≤ GREATEST_LEN → length (newest_text text versions) ≤ GREATEST_LEN
+pub newest_fits : (text : Text) (versions : List Version) → AreVersions text versions → length text ≤ greatest_len → length (newest_text text versions) ≤ greatest_len
 newest_fits text [] are fits = fits
 newest_fits text (v ∷ versions) are fits = newest_fits (string_bytes v.text) versions are.1 are.0.fits
 

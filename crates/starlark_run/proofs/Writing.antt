@@ -1,6 +1,7 @@
 -- What steps write one after another.
 use Rattle.std.proofs.Common.{◌<◌, length, true, arith, ◌≡◌, ◌++◌, [], false, refl, sym, ap, ◌∙◌, append_assoc, append-nil, ℕ, Result, Ok, Err, OnOk, ◌≢◌, ◌⊎◌, inl, inr, ◌+◌, ◌≤◌, length-append}
 use Rattle.std.specs.Io.KnownBytes.{Keeps}
+use Rattle.std.specs.declared.io.Error.{Error}
 use Rattle.std.proofs.lemmas.Bool.{eq-eqb, ne_eqb}
 use Rattle.starlark_base.specs.Places.{Text}
 use Rattle.starlark_devices.proofs.Calls.{went_broken, went_done, went_nil, went_trans}
@@ -45,7 +46,7 @@ module _ {W : Type 0} (calls : WriterCalls W) where
   unfolding Writes
   writes_more a b c x y waiting left u (Ok t) first next = (takes_more Going a b c x y waiting left first.0 next.0, next.1)
   writes_more a b c x y waiting left u (Err Write) first next =
-      ((next.0.0, takes_more Broken a b c x y waiting next.0.0 first.0 next.0.1), next.1)
+      ((next.0.0, (next.0.1.0, takes_more (Broken next.0.0) a b c x y waiting next.0.1.0 first.0 next.0.1.1)), next.1)
   writes_more a b c x y waiting left u (Err Memory) first next =
       ((next.0.0, takes_more Going a b c x y waiting next.0.0 first.0 next.0.1), next.1)
   writes_more a b c x y waiting left u (Err NotUtf8) first next = next
@@ -58,13 +59,13 @@ module _ {W : Type 0} (calls : WriterCalls W) where
   writes_sound a b x waiting t h = h.1
 
   -- a text that went by calls of the writer alone
-  pub writes_text : (T U E : Type 0) (a b : Watch W) (text : Text) (t : T) (u : U) → WritesText {E = E} calls a.device b.device text (Ok t) → b.failed ≡ false → Writes calls a b text [] (Ok u)
+  pub writes_text : (T U : Type 0) (a b : Watch W) (text : Text) (t : T) (u : U) → WritesText calls a.device b.device text (Ok t) → b.failed ≡ false → Writes calls a b text [] (Ok u)
   unfolding WritesText Writes
-  writes_text T U E a b text t u went sound = ((text, went, append-nil text), sound)
+  writes_text T U a b text t u went sound = ((text, went, append-nil text), sound)
 
-  pub writes_text_stopped : (T U E : Type 0) (a b : Watch W) (text : Text) (e : E) → WritesText {T = T} calls a.device b.device text (Err e) → b.failed ≡ true → Writes {T = U} calls a b text [] (Err Write)
+  pub writes_text_stopped : (T U : Type 0) (a b : Watch W) (text : Text) (e : Error) → WritesText {T = T} calls a.device b.device text (Err e) → b.failed ≡ true → Writes {T = U} calls a b text [] (Err Write)
   unfolding WritesText Writes
-  writes_text_stopped T U E a b text e went failed = ((went.1, (went.0, went.2, went.3)), failed)
+  writes_text_stopped T U a b text e went failed = ((e, (went.1, (went.0, went.2, went.3))), failed)
 
   -- a step that gave up for want of memory before it wrote anything
   pub writes_refused : (T : Type 0) (a : Watch W) (text waiting : Text) → a.failed ≡ false → Writes {T = T} calls a a text waiting (Err Memory)
@@ -94,7 +95,8 @@ module _ {W : Type 0} (calls : WriterCalls W) where
   pub writes_on_stopped : {U : Type 0} (T V : Type 0) (a b c : Watch W) (whole waiting line rest left end : Text) (u : U) (fault : RunFault) → Writes {T = U} calls a b whole (waiting ++ (line ++ rest)) (Ok u) → Writes {T = V} calls b c (waiting ++ line) left (Err fault) → Writes {T = T} calls a c whole end (Err fault)
   unfolding Writes
   writes_on_stopped T V a b c whole waiting line rest left end u Write before step =
-      ((step.0.0 ++ rest, takes_then Broken a b c whole _ _ before.0 (rw (← append_assoc) (takes_after Broken b c (waiting ++ line) step.0.0 rest step.0.1))), step.1)
+      let stopped = step.0.1 in
+      ((step.0.0, (stopped.0 ++ rest, takes_then (Broken step.0.0) a b c whole _ _ before.0 (rw (← append_assoc) (takes_after (Broken step.0.0) b c (waiting ++ line) stopped.0 rest stopped.1)))), step.1)
   writes_on_stopped T V a b c whole waiting line rest left end u Memory before step =
       ((step.0.0 ++ rest, takes_then Going a b c whole _ _ before.0 (rw (← append_assoc) (takes_after Going b c (waiting ++ line) step.0.0 rest step.0.1))), step.1)
   writes_on_stopped T V a b c whole waiting line rest left end u NotUtf8 before step = step
@@ -114,7 +116,7 @@ module _ {W : Type 0} (calls : WriterCalls W) where
 
   pub writes_then_stopped : {U : Type 0} (T V : Type 0) (a b c : Watch W) (x waiting left end : Text) (u : U) (fault : RunFault) → Writes {T = U} calls a b x waiting (Ok u) → Writes {T = V} calls b c waiting left (Err fault) → Writes {T = T} calls a c x end (Err fault)
   unfolding Writes
-  writes_then_stopped T V a b c x waiting left end u Write first next = ((next.0.0, takes_then Broken a b c x waiting next.0.0 first.0 next.0.1), next.1)
+  writes_then_stopped T V a b c x waiting left end u Write first next = ((next.0.0, (next.0.1.0, takes_then (Broken next.0.0) a b c x waiting next.0.1.0 first.0 next.0.1.1)), next.1)
   writes_then_stopped T V a b c x waiting left end u Memory first next = ((next.0.0, takes_then Going a b c x waiting next.0.0 first.0 next.0.1), next.1)
   writes_then_stopped T V a b c x waiting left end u NotUtf8 first next = next
   writes_then_stopped T V a b c x waiting left end u TooLong first next = next
@@ -144,7 +146,7 @@ module _ {W : Type 0} (calls : WriterCalls W) where
   -- a failure is one of the whole, whatever was to wait
   pub writes_stopped : (T U : Type 0) (a b : Watch W) (x y waiting left : Text) (fault : RunFault) → Writes {T = U} calls a b x waiting (Err fault) → Writes {T = T} calls a b (x ++ y) left (Err fault)
   unfolding Writes
-  writes_stopped T U a b x y waiting left Write h = (takes_of_longer Broken a b x y h.0, h.1)
+  writes_stopped T U a b x y waiting left Write h = ((h.0.0, takes_of_longer (Broken h.0.0) a b x y h.0.1), h.1)
   writes_stopped T U a b x y waiting left Memory h = (takes_of_longer Going a b x y h.0, h.1)
   writes_stopped T U a b x y waiting left NotUtf8 h = h
   writes_stopped T U a b x y waiting left TooLong h = h
@@ -178,15 +180,15 @@ module _ {W : Type 0} (calls : WriterCalls W) where
   writes_all_refused T a text sound = writes_refused _ a text _ sound
 
   -- what waits was written, and the flush succeeded
-  pub writes_all_flushed : {U : Type 0} (T : Type 0) (a b c : Watch W) (x : Text) (u : U) (t : T) → Writes {T = U} calls a b x [] (Ok u) → Keeps (calls.contents b.device) (calls.contents c.device) → calls.flush b.device true c.device → c.failed ≡ false → WritesAll {T = T} calls a c x (Ok t)
+  pub writes_all_flushed : {U : Type 0} (T : Type 0) (a b c : Watch W) (x : Text) (u : U) (t : T) → Writes {T = U} calls a b x [] (Ok u) → Keeps (calls.contents b.device) (calls.contents c.device) → calls.flush b.device (Ok tt) c.device → c.failed ≡ false → WritesAll {T = T} calls a c x (Ok t)
   unfolding Writes WritesAll
   writes_all_flushed T a b c x u t first keeps flush sound = ((first.0.0, went_done calls a.device b.device c.device first.0.0 first.0.1 keeps flush, first.0.2), sound)
 
   -- what waits was written, and the flush failed
-  pub writes_all_unflushed : {U : Type 0} (T : Type 0) (a b c : Watch W) (x : Text) (u : U) → Writes {T = U} calls a b x [] (Ok u) → Keeps (calls.contents b.device) (calls.contents c.device) → calls.flush b.device false c.device → c.failed ≡ true → WritesAll {T = T} calls a c x (Err Write)
+  pub writes_all_unflushed : {U : Type 0} (T : Type 0) (a b c : Watch W) (x : Text) (u : U) (error : Error) → Writes {T = U} calls a b x [] (Ok u) → Keeps (calls.contents b.device) (calls.contents c.device) → calls.flush b.device (Err error) c.device → c.failed ≡ true → WritesAll {T = T} calls a c x (Err Write)
   unfolding Writes WritesAll
-  writes_all_unflushed T a b c x u first keeps flush failed =
-      (([], (first.0.0, went_broken calls a.device b.device c.device first.0.0 (Flushed false c.device) first.0.1 keeps (flush, refl) refl, first.0.2)), failed)
+  writes_all_unflushed T a b c x u error first keeps flush failed =
+      ((error, ([], (first.0.0, went_broken calls a.device b.device c.device first.0.0 (Flushed (Err error) c.device) error first.0.1 keeps (flush, refl) refl, first.0.2))), failed)
 
 -- a count above 0 is not nothing, and a count of 0 is, of a piece that isn't empty
 pub is_nothing-some : (count : ℕ) (piece : Text) → (count ≡ 0 → ⊥) → is_nothing count piece ≡ false

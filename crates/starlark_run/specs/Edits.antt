@@ -4,9 +4,12 @@ use Rattle.starlark_base.specs.Places.{Text}
 use Rattle.starlark_base.specs.Sources.{holds}
 use Rattle.starlark_base.specs.Spans.{ByteSpan}
 use Rattle.starlark_base.specs.declared.edit.Edit.{Edit}
-use Rattle.starlark_run.specs.declared.ends.TheConstants.{GREATEST_LEN}
 use Rattle.starlark_run.specs.declared.ends.RunFault.{RunFault}
 use Rattle.starlark_run.specs.declared.ends.RunFault.TheVariants.{TooLong, BadEdit}
+
+-- the greatest length of a text, in bytes: an offset has 32 bits
+abbrev pub greatest_len : ℕ
+greatest_len = 4294967295
 
 -- the span of the bytes that the edit replaces
 abbrev pub edit_span : Edit → ByteSpan
@@ -24,7 +27,7 @@ edited_text text edit = take edit.from text ++ edit.text.now ++ drop edit.to tex
 abbrev pub text_after_one : (at : ℕ) → Text → Edit → Result Text RunFault
 text_after_one at text edit =
     if edit_fits text edit
-    then (if nat_le (length (edited_text text edit)) GREATEST_LEN then Ok (edited_text text edit) else Err TooLong)
+    then (if nat_le (length (edited_text text edit)) greatest_len then Ok (edited_text text edit) else Err TooLong)
     else Err (BadEdit at)
 
 -- a text goes on to the next step, and a failure stays

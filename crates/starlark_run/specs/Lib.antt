@@ -2,6 +2,7 @@ pub use Rattle.starlark_devices.specs.Calls
 pub mod Watch
 pub mod Output
 pub mod Writing
+pub mod Blocks
 pub mod Runs
 pub mod Inner
 pub mod Edits

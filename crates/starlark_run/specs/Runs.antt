@@ -4,40 +4,40 @@ use Rattle.std.specs.Str.{IsUtf8}
 use Rattle.starlark_base.specs.Places.{Text}
 use Rattle.starlark_grammar.specs.Reading.{outcome}
 use Rattle.starlark_grammar.specs.Tokens as grammar
-use Rattle.starlark_devices.specs.Calls.{WriterCalls, Going, Done, Broken, Went}
+use Rattle.starlark_devices.specs.Calls.{WriterCalls, Going, Done, Went}
+use Rattle.starlark_run.specs.Edits.{greatest_len}
 use Rattle.starlark_run.specs.Output.{output}
 use Rattle.starlark_run.specs.Watch.{Watch}
-use Rattle.starlark_run.specs.Writing.{TakesBeginning}
+use Rattle.starlark_run.specs.Writing.{TakesBeginning, TakesUntilFailure}
 use Rattle.starlark_run.specs.declared.edited_runs.EditedRun.{EditedRun}
-use Rattle.starlark_run.specs.declared.ends.TheConstants.{GREATEST_LEN}
 use Rattle.starlark_run.specs.declared.ends.RunFault.{RunFault}
 use Rattle.starlark_run.specs.declared.ends.RunFault.TheVariants.{NotUtf8, TooLong, BadEdit, Read, Write, Memory}
 use Rattle.starlark_run.specs.declared.ends.RunStatus.{RunStatus}
 use Rattle.starlark_run.specs.declared.ends.RunStatus.TheVariants.{Clean, Fault}
 
--- the reader ended, no read failed, and what was read is at most `GREATEST_LEN` bytes
+-- the reader ended, no read failed, and what was read is at most `greatest_len` bytes
 pub record IsWhole {R : Type 0} (reader : Watch R) (came : Text) : Type 0 where
   pub ended : reader.ended ≡ true
   pub sound : reader.failed ≡ false
-  pub fits : length came ≤ GREATEST_LEN
+  pub fits : length came ≤ greatest_len
 
--- the reader gave more than `GREATEST_LEN` bytes
+-- the reader gave more than `greatest_len` bytes
 pub record IsTooLong {R : Type 0} (reader : Watch R) (came : Text) : Type 0 where
   pub not_ended : reader.ended ≡ false
   pub sound : reader.failed ≡ false
-  pub too_long : GREATEST_LEN < length came
+  pub too_long : greatest_len < length came
 
 -- a read failed
 pub record IsBroken {R : Type 0} (reader : Watch R) (came : Text) : Type 0 where
   pub not_ended : reader.ended ≡ false
   pub failed : reader.failed ≡ true
-  pub fits : length came ≤ GREATEST_LEN
+  pub fits : length came ≤ greatest_len
 
 -- memory ran out before the reader ended, and no read failed
 pub record IsStopped {R : Type 0} (reader : Watch R) (came : Text) : Type 0 where
   pub not_ended : reader.ended ≡ false
   pub sound : reader.failed ≡ false
-  pub fits : length came ≤ GREATEST_LEN
+  pub fits : length came ≤ greatest_len
 
 -- what was read from the reader, by the result of reading it to its end; `bytes_of` are the
 -- result's bytes
@@ -68,7 +68,7 @@ status_of (Some fault) = Fault
 -- call of the writer that failed is its last one.
 abbrev pub IsPrinted : {W : Type 0} → WriterCalls W → (name : Text) → (last : Result Text RunFault) → (old new : Watch W) → Result RunStatus RunFault → Type 0
 IsPrinted calls name (Ok text) old new (Ok status) = TookAll calls old new (output name text) × (status ≡ status_of (outcome text).fault)
-IsPrinted calls name (Ok text) old new (Err Write) = TakesBeginning calls Broken old new (output name text) × (new.failed ≡ true)
+IsPrinted calls name (Ok text) old new (Err Write) = TakesUntilFailure calls old new (output name text) × (new.failed ≡ true)
 IsPrinted calls name (Ok text) old new (Err Memory) = TakesBeginning calls Going old new (output name text) × (new.failed ≡ false)
 IsPrinted calls name (Err TooLong) old new (Err TooLong) = IsUntouched old new
 IsPrinted calls name (Err (BadEdit at)) old new (Err (BadEdit told)) = IsUntouched old new × (told ≡ at)

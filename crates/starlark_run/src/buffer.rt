@@ -1,6 +1,8 @@
 //! A buffer before a writer.
 
-ghost use Rattle.std.specs.Prelude.{◌≡◌, ◌≤◌, ◌+◌, ◌⊎◌, ◌++◌, [], false, length, IfOk, OnOk};
+ghost use Rattle.std.specs.Prelude.{◌≡◌, ◌≤◌, ◌+◌, ◌-◌, ◌⊎◌, ◌++◌, [], false, length, min, IfOk, OnOk};
+ghost use Rattle.starlark_devices.specs.Calls.{OffersText};
+ghost use Rattle.starlark_run.specs.Inner.BufferedWrites.{Sends, SendsBy};
 ghost use Rattle.starlark_run.specs.Writing.{Writes, WritesAll};
 
 use crate::ends::RunFault;
@@ -30,7 +32,8 @@ impl Model for Buffer {
 #[tactic(auto, unfolding(crate::specs::Writing::Writes))]
 fn write_all<W: WriteDevice>(writer: &mut Watched<W>, bytes: &[u8]) -> Result<(), RunFault>
     requires { writer.old.failed ≡ false }
-    ensures { Writes W.calls writer.old writer.new bytes.now [] result }
+    ensures writes { Writes W.calls writer.old writer.new bytes.now [] result }
+    ensures offers { OffersText W.calls writer.old.device writer.new.device bytes.now result }
 {
     match writer.write_all(bytes) {
         Ok(()) => Ok(()),
@@ -50,8 +53,10 @@ impl Buffer {
     /// Writes the pending bytes, and empties the buffer.
     #[tactic(auto, unfolding(crate::specs::Writing::Writes))]
     fn send<W: WriteDevice>(&mut self, writer: &mut Watched<W>) -> Result<(), RunFault>
-        requires { writer.old.failed ≡ false }
+        requires sound { writer.old.failed ≡ false }
+        requires held { length self.old ≤ BUFFER_LEN }
         ensures writes { Writes W.calls writer.old writer.new self.old [] result }
+        ensures blocks { SendsBy W.calls writer.old.device writer.new.device (length self.old) (BUFFER_LEN - length self.old) result }
         ensures empty { OnOk result (self.new ≡ []) }
     {
         write_all(writer, self.waiting.as_slice())?;
@@ -66,9 +71,11 @@ impl Buffer {
         writer: &mut Watched<W>,
         len: usize,
     ) -> Result<(), RunFault>
-        requires { writer.old.failed ≡ false }
+        requires sound { writer.old.failed ≡ false }
+        requires held { length self.old ≤ BUFFER_LEN }
         ensures room { OnOk result ((self.new ≡ []) ⊎ (length self.new + len ≤ BUFFER_LEN)) }
         ensures writes { Writes W.calls writer.old writer.new self.old self.new result }
+        ensures blocks { SendsBy W.calls writer.old.device writer.new.device (length self.old) (length self.new + min len BUFFER_LEN) result }
     {
         if len >= BUFFER_LEN || self.waiting.len() > BUFFER_LEN - len {
             return self.send(writer);
@@ -82,9 +89,11 @@ impl Buffer {
         writer: &mut Watched<W>,
         text: &[u8],
     ) -> Result<(), RunFault>
-        requires { writer.old.failed ≡ false }
+        requires sound { writer.old.failed ≡ false }
+        requires held { length self.old ≤ BUFFER_LEN }
         ensures held { OnOk result (length self.new ≤ BUFFER_LEN) }
         ensures writes { Writes W.calls writer.old writer.new (self.old ++ text.now) self.new result }
+        ensures blocks { SendsBy W.calls writer.old.device writer.new.device (length self.old) (length self.new) result }
     {
         self.make_room(writer, text.len())?;
         if self.waiting.is_empty() && text.len() >= BUFFER_LEN {
@@ -96,8 +105,10 @@ impl Buffer {
 
     /// Writes the pending bytes, and flushes the writer.
     pub fn finish<W: WriteDevice>(&mut self, writer: &mut Watched<W>) -> Result<(), RunFault>
-        requires { writer.old.failed ≡ false }
-        ensures { WritesAll W.calls writer.old writer.new self.old result }
+        requires sound { writer.old.failed ≡ false }
+        requires held { length self.old ≤ BUFFER_LEN }
+        ensures writes { WritesAll W.calls writer.old writer.new self.old result }
+        ensures blocks { Sends W.calls writer.old.device writer.new.device (length self.old) BUFFER_LEN }
     {
         self.send(writer)?;
         match writer.flush() {

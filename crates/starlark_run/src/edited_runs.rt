@@ -3,6 +3,7 @@
 ghost use Rattle.std.specs.Prelude.{◌≡◌, ◌↔◌, ℕ, List, true, false, OnOk, IfOk, IsErrOf};
 ghost use Rattle.std.specs.Io.KnownBytes.{IsAtEnd};
 ghost use Rattle.starlark_devices.specs.Calls.{Came};
+ghost use Rattle.starlark_run.specs.Blocks.{ReadsInBlocks, WritesInBlocks};
 ghost use Rattle.starlark_run.specs.Runs.{IsRun, ending_of};
 ghost use Rattle.starlark_run.specs.Edits.{text_after};
 ghost use Rattle.starlark_run.specs.Relexed.{AreLexed};
@@ -55,6 +56,10 @@ pub fn run_edits<R: ReadDevice, W: WriteDevice>(
 
     // The input was read to its end.
     ensures nothing_left { OnOk result (IsAtEnd (R.calls.remaining reader.new.device)) }
+
+    // The devices were called by blocks.
+    ensures reads_in_blocks { ReadsInBlocks R.calls reader.old.device reader.new.device }
+    ensures writes_in_blocks { WritesInBlocks W.calls writer.old.device writer.new.device }
 {
     let first = read_text(alloc, reader)?;
     let versions = versions_of(alloc, first.as_str(), edits)?;

@@ -2,11 +2,10 @@
 
 ghost use Rattle.std.specs.Prelude.{◌≡◌, ◌≤◌, ◌+◌, [], IfErr, IfOk, OnOk, Ok, length, string_bytes};
 ghost use Rattle.starlark_base.specs.Sources.{SourceFile};
-ghost use Rattle.starlark_run.specs.Edits.{text_after, text_after_one};
+ghost use Rattle.starlark_run.specs.Edits.{greatest_len, text_after, text_after_one};
 ghost use Rattle.starlark_run.specs.Inner.EditedTexts.{AreVersions, AreVersionsAfter, AreVersionsLexed, Follows, IsRefusal, IsVersion, newest_text};
 ghost use Rattle.starlark_run.specs.Relexed.{IsReadOn};
 ghost use Rattle.starlark_run.specs.declared.ends.RunFault.TheVariants.{Memory};
-ghost use Rattle.starlark_run.specs.declared.ends.TheConstants.{GREATEST_LEN};
 ghost use Rattle.starlark_lexed_text.specs.LexedTexts.{IsLexed};
 
 use crate::edits::{edited, fits, kept_len};
@@ -32,7 +31,7 @@ pub struct Version {
 /// Fails with `BadEdit` if the edit doesn't fit, `TooLong` if the new text is too long, and
 /// `Memory`.
 fn next_version(alloc: Global, text: &str, at: usize, edit: &Edit<'_>) -> Result<Version, RunFault>
-    requires { length text.now ≤ GREATEST_LEN }
+    requires { length text.now ≤ greatest_len }
     ensures follows { IfOk result (Follows text.now) }
     ensures edited { IfOk result (IsVersion text.now edit.now) }
     ensures text { IfOk result (λ version. text_after_one at text.now edit.now ≡ Ok (string_bytes version.text)) }
@@ -64,7 +63,7 @@ fn newest<'v>(first: &'v str, versions: &'v [Version]) -> &'v str
 
 /// The versions of a text after each edit of a list. Fails at the first edit that fails.
 pub fn versions_of(alloc: Global, first: &str, edits: &[Edit<'_>]) -> Result<Vec<Version>, RunFault>
-    requires { length first.now ≤ GREATEST_LEN }
+    requires { length first.now ≤ greatest_len }
     ensures versions { IfOk result (λ versions. AreVersions first.now versions.items) }
     ensures edited { IfOk result (λ versions. AreVersionsAfter first.now edits.now versions.items) }
     ensures last { IfOk result (λ versions. text_after 0 first.now edits.now ≡ Ok (newest_text first.now versions.items)) }
@@ -80,7 +79,7 @@ pub fn versions_of(alloc: Global, first: &str, edits: &[Edit<'_>]) -> Result<Vec
 
 /// Lexes a text. Fails only with `Memory`.
 fn lex_first<'v>(alloc: Global, text: &'v str, file: CodeMap) -> Result<LexedText<'v>, RunFault>
-    requires { length text.now ≤ GREATEST_LEN }
+    requires { length text.now ≤ greatest_len }
     ensures text { IfOk result (λ lexed. lexed.text ≡ text.now) }
     ensures lexed { IfOk result (λ lexed. IsLexed file lexed) }
     ensures reads { IfOk result (λ lexed. IsReadOn text.now 0 lexed.reads) }
@@ -138,7 +137,7 @@ pub fn relexed<'v>(
     first: &'v str,
     versions: &'v [Version],
 ) -> Result<LastVersion<'v>, RunFault>
-    requires fits { length first.now ≤ GREATEST_LEN }
+    requires fits { length first.now ≤ greatest_len }
     requires versions { AreVersions first.now versions.now }
     ensures text { IfOk result (λ last. last.lexed.text ≡ newest_text first.now versions.now) }
     ensures lexed { IfOk result (λ last. (file : SourceFile) × IsLexed file last.lexed) }

@@ -3,6 +3,7 @@
 ghost use Rattle.std.specs.Prelude.{◌≡◌, ◌↔◌, ℕ, List, true, false, OnOk, Ok, IsErrOf};
 ghost use Rattle.std.specs.Io.KnownBytes.{IsAtEnd};
 ghost use Rattle.starlark_devices.specs.Calls.{Came};
+ghost use Rattle.starlark_run.specs.Blocks.{ReadsInBlocks, WritesInBlocks};
 ghost use Rattle.starlark_run.specs.Runs.{IsRun};
 
 use crate::ends::{RunFault, RunStatus};
@@ -39,6 +40,10 @@ pub fn run<R: ReadDevice, W: WriteDevice>(
 
     // The input was read to its end.
     ensures nothing_left { OnOk result (IsAtEnd (R.calls.remaining reader.new.device)) }
+
+    // The devices were called by blocks.
+    ensures reads_in_blocks { ReadsInBlocks R.calls reader.old.device reader.new.device }
+    ensures writes_in_blocks { WritesInBlocks W.calls writer.old.device writer.new.device }
 {
     let text = read_text(alloc, reader)?;
     print(alloc, name, text.as_str(), writer)

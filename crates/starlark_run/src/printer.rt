@@ -1,11 +1,13 @@
 //! Prints the lines of lexemes and of a fault through a buffer.
 
-ghost use Rattle.std.specs.Prelude.{◌≡◌, ◌≤◌, ◌++◌, [], false, Some, IfOk, IfErr, IsSome};
+ghost use Rattle.std.specs.Prelude.{◌≡◌, ◌≤◌, ◌++◌, [], false, length, Some, IfOk, IfErr, IsSome, OnOk};
 ghost use Rattle.std.specs.Str.{IsCharBoundary};
 ghost use Rattle.starlark_base.specs.Sources.{SourceFile};
 ghost use Rattle.starlark_errors.specs.Errors.{kind_text};
 ghost use Rattle.starlark_errors.specs.Exceptions.{IsFaultIn};
 ghost use Rattle.starlark_grammar.specs.Reading.{outcome};
+ghost use Rattle.starlark_run.specs.Blocks.{block_len};
+ghost use Rattle.starlark_run.specs.Inner.BufferedWrites.{SendsBy};
 ghost use Rattle.starlark_run.specs.Inner.FaultLine.{fault_lines};
 ghost use Rattle.starlark_run.specs.Output.{fault_text, item_line, place_text};
 ghost use Rattle.starlark_base.specs.Positions.{IsPosition};
@@ -57,6 +59,7 @@ impl Printer {
         lexeme: &(usize, Token, usize),
     ) -> Result<Position, RunFault>
         requires sound { writer.old.failed ≡ false }
+        requires held { length self.old.buffer ≤ block_len }
         requires here { IsPosition text.now place }
         requires onward { place.at ≤ lexeme.now.0 }
         requires order { lexeme.now.0 ≤ lexeme.now.2 }
@@ -64,6 +67,8 @@ impl Printer {
         requires end { IsCharBoundary text.now lexeme.now.2 }
         ensures writes { Writes W.calls writer.old writer.new
             (self.old.buffer ++ item_line [] text.now (Given (lexeme_view lexeme.now))) self.new.buffer result }
+        ensures held { OnOk result (length self.new.buffer ≤ block_len) }
+        ensures blocks { SendsBy W.calls writer.old.device writer.new.device (length self.old.buffer) (length self.new.buffer) result }
         ensures at { IfOk result (λ place. place.at ≡ lexeme.now.2) }
         ensures place { IfOk result (λ place. IsPosition text.now place) }
     {
@@ -86,6 +91,7 @@ impl Printer {
         lexeme: (usize, Token, usize),
     ) -> Result<Position, RunFault>
         requires sound { writer.old.failed ≡ false }
+        requires held { length self.old.buffer ≤ block_len }
         requires here { IsPosition text.now place }
         requires onward { place.at ≤ lexeme.0 }
         requires order { lexeme.0 ≤ lexeme.2 }
@@ -93,6 +99,8 @@ impl Printer {
         requires end { IsCharBoundary text.now lexeme.2 }
         ensures writes { Writes W.calls writer.old writer.new
             (self.old.buffer ++ item_line [] text.now (Given (lexeme_view lexeme))) self.new.buffer result }
+        ensures held { OnOk result (length self.new.buffer ≤ block_len) }
+        ensures blocks { SendsBy W.calls writer.old.device writer.new.device (length self.old.buffer) (length self.new.buffer) result }
         ensures at { IfOk result (λ place. place.at ≡ lexeme.2) }
         ensures place { IfOk result (λ place. IsPosition text.now place) }
     {
@@ -110,12 +118,15 @@ impl Printer {
         kind: &ErrorKind,
     ) -> Result<(), RunFault>
         requires sound { writer.old.failed ≡ false }
+        requires held { length self.old.buffer ≤ block_len }
         requires here { IsPosition text.now place }
         requires order { span.begin ≤ span.end }
         requires begin { IsCharBoundary text.now span.begin }
         requires end { IsCharBoundary text.now span.end }
-        ensures { Writes W.calls writer.old writer.new
+        ensures writes { Writes W.calls writer.old writer.new
             (self.old.buffer ++ fault_text span.begin span.end name.now (place_text text.now span.begin span.end) (kind_text kind.now)) self.new.buffer result }
+        ensures held { OnOk result (length self.new.buffer ≤ block_len) }
+        ensures blocks { SendsBy W.calls writer.old.device writer.new.device (length self.old.buffer) (length self.new.buffer) result }
     {
         let begin = Position::nearest(place, Position::START, text, span.begin().get() as usize);
         let end = begin.moved(text, span.end().get() as usize);
@@ -135,9 +146,12 @@ impl Printer {
         exception: &EvalException,
     ) -> Result<(), RunFault>
         requires sound { writer.old.failed ≡ false }
+        requires held { length self.old.buffer ≤ block_len }
         requires here { IsPosition text.now place }
         requires thrown { (file : SourceFile) × IsFaultIn file (outcome text.now).fault (Some exception.now) }
-        ensures { Writes W.calls writer.old writer.new (self.old.buffer ++ fault_lines name.now text.now) self.new.buffer result }
+        ensures writes { Writes W.calls writer.old writer.new (self.old.buffer ++ fault_lines name.now text.now) self.new.buffer result }
+        ensures held { OnOk result (length self.new.buffer ≤ block_len) }
+        ensures blocks { SendsBy W.calls writer.old.device writer.new.device (length self.old.buffer) (length self.new.buffer) result }
     {
         let span = exception.error().span().unwrap().span;
         self.fault(writer, name, text, place, span, exception.error().kind())

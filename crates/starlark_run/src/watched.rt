@@ -1,9 +1,9 @@
 //! A wrapper of a reader or writer that remembers whether it failed, and whether a reader ended.
 
-ghost use Rattle.std.specs.Prelude.{◌≡◌, ◌||◌, true, false, is_err, IfErr};
+ghost use Rattle.std.specs.Prelude.{◌≡◌, ◌||◌, true, false, is_err};
 ghost use Rattle.std.specs.Io.{ReadsAtMost, WritesAtMost};
 ghost use Rattle.std.specs.Io.KnownBytes.{Keeps, ReadConsumes, WriteAppends};
-ghost use Rattle.starlark_devices.specs.Calls.{WritesText, count_of, is_ok_of};
+ghost use Rattle.starlark_devices.specs.Calls.{OffersText, WritesText};
 ghost use Rattle.starlark_run.specs.Watch.{reads_end, fails_to_write};
 
 use starlark_devices::{ReadDevice, WriteDevice, write_all};
@@ -71,8 +71,7 @@ impl<D: ReadDevice> Watched<D> {
     pub fn read(&mut self, buf: &mut [u8]) -> io::Result<usize>
         ensures bound { ReadsAtMost result buf.new }
         ensures bytes { ReadConsumes (D.calls.remaining self.old.device) (D.calls.remaining self.new.device) result buf.new }
-        ensures call { D.calls.read self.old.device buf.new (count_of result) self.new.device }
-        ensures failure { IfErr result (λ error. D.calls.failure self.old.device error self.new.device) }
+        ensures call { D.calls.read self.old.device buf.new result self.new.device }
         ensures failed { self.new.failed ≡ (self.old.failed || is_err result) }
         ensures ended { self.new.ended ≡ (self.old.ended || reads_end result buf.new) }
     {
@@ -96,8 +95,7 @@ impl<D: WriteDevice> Watched<D> {
     pub fn write(&mut self, buf: &[u8]) -> io::Result<usize>
         ensures bound { WritesAtMost result buf.now }
         ensures bytes { WriteAppends (D.calls.contents self.old.device) (D.calls.contents self.new.device) result buf.now }
-        ensures call { D.calls.write self.old.device buf.now (count_of result) self.new.device }
-        ensures failure { IfErr result (λ error. D.calls.failure self.old.device error self.new.device) }
+        ensures call { D.calls.write self.old.device buf.now result self.new.device }
         ensures failed { self.new.failed ≡ (self.old.failed || fails_to_write result buf.now) }
         ensures ended { self.new.ended ≡ self.old.ended }
     {
@@ -115,9 +113,11 @@ impl<D: WriteDevice> Watched<D> {
 
     /// Writes all bytes by as many calls of the writer as it needs, and doesn't flush it.
     ///
-    /// Fails at the first call that fails, or that takes nothing. That call is the last one.
+    /// Each call is offered all that is left. Fails at the first call that fails, or that takes
+    /// nothing. That call is the last one.
     pub fn write_all(&mut self, bytes: &[u8]) -> io::Result<()>
         ensures text { WritesText D.calls self.old.device self.new.device bytes.now result }
+        ensures offers { OffersText D.calls self.old.device self.new.device bytes.now result }
         ensures failed { self.new.failed ≡ (self.old.failed || is_err result) }
         ensures ended { self.new.ended ≡ self.old.ended }
     {
@@ -131,8 +131,7 @@ impl<D: WriteDevice> Watched<D> {
     /// A call that failed isn't tried again.
     pub fn flush(&mut self) -> io::Result<()>
         ensures bytes { Keeps (D.calls.contents self.old.device) (D.calls.contents self.new.device) }
-        ensures call { D.calls.flush self.old.device (is_ok_of result) self.new.device }
-        ensures failure { IfErr result (λ error. D.calls.failure self.old.device error self.new.device) }
+        ensures call { D.calls.flush self.old.device result self.new.device }
         ensures failed { self.new.failed ≡ (self.old.failed || is_err result) }
         ensures ended { self.new.ended ≡ self.old.ended }
     {

@@ -226,7 +226,7 @@ module _ {W : Type 0} (gives : Giving) (calls : WriterCalls W) (style : Style) w
   streamed sources a b result is = in_other_words _ _ Going sources a b result (λ totals all. ap (λ b. opening style.form ++ ((if b then drop 1 all else all) ++ closing style.form totals)) (sym is))
 
   -- a document that is written and flushed, …
-  pub document_flushed : (sources : Sources) (a b c : W) (totals : Totals) → IsDocument gives calls Going style sources a b (Ok totals) → Keeps (calls.contents b) (calls.contents c) → calls.flush b true c
+  pub document_flushed : (sources : Sources) (a b c : W) (totals : Totals) → IsDocument gives calls Going style sources a b (Ok totals) → Keeps (calls.contents b) (calls.contents c) → calls.flush b (Ok tt) c
       → IsDocument gives calls Done style sources a c (Ok totals)
   document_flushed sources a b c totals whole keeps flush = record {
     reads = whole.reads;
@@ -239,11 +239,11 @@ module _ {W : Type 0} (gives : Giving) (calls : WriterCalls W) (style : Style) w
   }
 
   -- … one whose flush failed, …
-  pub document_unflushed : (sources : Sources) (a b c : W) (totals : Totals) (error : Error) → IsDocument gives calls Going style sources a b (Ok totals) → Keeps (calls.contents b) (calls.contents c) → calls.flush b false c
+  pub document_unflushed : (sources : Sources) (a b c : W) (totals : Totals) (error : Error) → IsDocument gives calls Going style sources a b (Ok totals) → Keeps (calls.contents b) (calls.contents c) → calls.flush b (Err error) c
       → IsDocument gives calls Done style sources a c (Err error)
   document_unflushed sources a b c totals error whole keeps flush =
       let all = document style.form (totals_of style sources.lost (texts_of whole.reads)) (reports style whole.reads) in
-      let stopped = stops_later calls a b c error all [] whole.written (stops_first calls b c error [] (unflushed calls b c keeps flush)) in
+      let stopped = stops_later calls a b c error all [] whole.written (stops_first calls b c error [] (unflushed calls b c error keeps flush)) in
       record {
         reads = whole.reads;
         unread = whole.unread;

@@ -1,5 +1,5 @@
 -- Writing reports: steps one after another, where one stops, and calls of a screen.
-use Rattle.std.proofs.Common.{◌≡◌, List, [], ◌∷◌, ◌++◌, false, true, None, Some, Result, Ok, Err, ap, append-nil, append_assoc, inl, inr, map, refl, subst, sym, ◌∙◌}
+use Rattle.std.proofs.Common.{◌≡◌, List, [], ◌∷◌, ◌++◌, Result, Ok, Err, ap, append-nil, append_assoc, inl, inr, map, refl, subst, sym, ◌∙◌}
 use Rattle.std.proofs.KnownBytes.{Appends-kept, Appends-nil, Appends-trans}
 use Rattle.std.proofs.lemmas.List.{map-append}
 use Rattle.std.specs.IoError.{error_kind}
@@ -9,14 +9,14 @@ use Rattle.std.specs.declared.io.Error.{Error}
 use Rattle.std.specs.declared.io.ErrorKind.TheVariants.{OutOfMemory}
 use Rattle.starlark_base.specs.Places.{Text}
 use Rattle.starlark_devices.proofs.Calls.{all_append, flat_map_append, written_append}
-use Rattle.starlark_devices.specs.Calls.{Broken, Done, EndedBy, Ending, Flushed, Going, IsFailed, TookSome, WasWritten, Went, WriterCall, WriterCalls, WritesText, Wrote, taken_by}
+use Rattle.starlark_devices.specs.Calls.{Broken, Done, EndedBy, Ending, FailedWith, Flushed, Going, TookSome, WasWritten, Went, WriterCall, WriterCalls, WritesText, Wrote, taken_by}
 use Rattle.starlark_tokens.specs.Progress.{screen_calls}
 use Rattle.starlark_tokens.specs.ReportWrites.{Stops, StopsWithin, Succeeded, Takes, Took}
 use Rattle.starlark_tokens.specs.declared.screen.Screen.{Screen}
 
 took_some : {W : Type 0} (call : WriterCall W) → TookSome call → Succeeded call
-took_some (Wrote piece count after) some = some
-took_some (Flushed is_ok after) some = absurd some
+took_some (Wrote piece result after) some = some
+took_some (Flushed result after) some = absurd some
 
 all_took : {W : Type 0} (log : List (WriterCall W)) → AllByRecursion TookSome log → AllByRecursion Succeeded log
 all_took [] all = tt
@@ -52,19 +52,19 @@ module _ {W : Type 0} (calls : WriterCalls W) where
   kept a b keeps = Appends-kept _ _ _ _ (Appends-nil (calls.contents a)) keeps
 
   -- a flush among the calls, one after all of them, and one that failed
-  pub flushed_among : (a b : W) → Keeps (calls.contents a) (calls.contents b) → calls.flush a true b → Took calls Going a b []
-  flushed_among a b keeps flush = record { bytes = kept a b keeps; log = Flushed true b ∷ []; last = []; order = (flush, refl); succeeded = (refl, tt); given = refl; ended = tt }
+  pub flushed_among : (a b : W) → Keeps (calls.contents a) (calls.contents b) → calls.flush a (Ok tt) b → Took calls Going a b []
+  flushed_among a b keeps flush = record { bytes = kept a b keeps; log = Flushed (Ok tt) b ∷ []; last = []; order = (flush, refl); succeeded = (tt, tt); given = refl; ended = tt }
 
-  pub flushed_last : (a b c : W) (x : Text) → Took calls Going a b x → Keeps (calls.contents b) (calls.contents c) → calls.flush b true c → Took calls Done a c x
+  pub flushed_last : (a b c : W) (x : Text) → Took calls Going a b x → Keeps (calls.contents b) (calls.contents c) → calls.flush b (Ok tt) c → Took calls Done a c x
   flushed_last a b c x took keeps flush =
-      let last : Took calls Done b c [] = record { bytes = kept b c keeps; log = []; last = Flushed true c ∷ []; order = (flush, refl); succeeded = tt; given = refl; ended = refl } in
+      let last : Took calls Done b c [] = record { bytes = kept b c keeps; log = []; last = Flushed (Ok tt) c ∷ []; order = (flush, refl); succeeded = tt; given = refl; ended = tt } in
       subst (Took calls Done a c) (append-nil x) (took_then Done a b c x [] took last)
 
-  pub unflushed : (a b : W) → Keeps (calls.contents a) (calls.contents b) → calls.flush a false b → Took calls Broken a b []
-  unflushed a b keeps flush = record { bytes = kept a b keeps; log = []; last = Flushed false b ∷ []; order = (flush, refl); succeeded = tt; given = refl; ended = refl }
+  pub unflushed : (a b : W) (error : Error) → Keeps (calls.contents a) (calls.contents b) → calls.flush a (Err error) b → Took calls (Broken error) a b []
+  unflushed a b error keeps flush = record { bytes = kept a b keeps; log = []; last = Flushed (Err error) b ∷ []; order = (flush, refl); succeeded = tt; given = refl; ended = refl }
 
   -- writing that stops before a text
-  pub stops_first : (a b : W) (error : Error) (text : Text) → Took calls Broken a b [] → StopsWithin calls a b error text
+  pub stops_first : (a b : W) (error : Error) (text : Text) → Took calls (Broken error) a b [] → StopsWithin calls a b error text
   stops_first a b error text took = record { taken = []; left = text; stops = inl took; whole = refl }
 
   pub no_memory : (a : W) (error : Error) (text : Text) → error_kind error ≡ OutOfMemory → StopsWithin calls a a error text
@@ -84,7 +84,7 @@ module _ {W : Type 0} (calls : WriterCalls W) where
   }
 
   stops_then : (a b c : W) (error : Error) (x y : Text) → Took calls Going a b x → Stops calls b c y error → Stops calls a c (x ++ y) error
-  stops_then a b c error x y took (inl broken) = inl (took_then Broken a b c x y took broken)
+  stops_then a b c error x y took (inl broken) = inl (took_then (Broken error) a b c x y took broken)
   stops_then a b c error x y took (inr going) = inr (took_then Going a b c x y took going.0, going.1)
 
   -- a text, and then writing that stopped
@@ -105,7 +105,7 @@ module _ {W : Type 0} (calls : WriterCalls W) where
   pub written_all : (T : Type 0) (a b : W) (text : Text) (result : Result T Error) → WritesText calls a b text result → Takes calls Going a b text result
   unfolding WritesText
   written_all T a b text (Ok x) went = took_of Going a b text went
-  written_all T a b text (Err error) stopped = record { taken = stopped.0; left = stopped.1; stops = inl (took_of Broken a b stopped.0 stopped.2); whole = stopped.3 }
+  written_all T a b text (Err error) stopped = record { taken = stopped.0; left = stopped.1; stops = inl (took_of (Broken error) a b stopped.0 stopped.2); whole = stopped.3 }
 
 -- ---- calls of a screen, which are calls of its output
 module _ {W T : Type 0} (output : WriterCalls W) (terminal : WriterCalls T) where
@@ -113,50 +113,53 @@ module _ {W T : Type 0} (output : WriterCalls W) (terminal : WriterCalls T) wher
   screens = screen_calls output terminal
 
   abbrev call_of : WriterCall (Screen W T) → WriterCall W
-  call_of (Wrote piece count after) = Wrote piece count after.output
-  call_of (Flushed is_ok after) = Flushed is_ok after.output
+  call_of (Wrote piece result after) = Wrote piece result after.output
+  call_of (Flushed result after) = Flushed result after.output
 
   abbrev calls_of : List (WriterCall (Screen W T)) → List (WriterCall W)
   calls_of log = map call_of log
 
   written_out : (log : List (WriterCall (Screen W T))) (a b : Screen W T) → WasWritten screens a log b → WasWritten output a.output (calls_of log) b.output
   written_out [] a b order = ap (λ screen. screen.output) order
-  written_out (Wrote piece count after ∷ log) a b order = (order.0.called, written_out log after b order.1)
-  written_out (Flushed is_ok after ∷ log) a b order = (order.0.called, written_out log after b order.1)
+  written_out (Wrote piece result after ∷ log) a b order = (order.0.called, written_out log after b order.1)
+  written_out (Flushed result after ∷ log) a b order = (order.0.called, written_out log after b order.1)
 
   succeeded_out : (call : WriterCall (Screen W T)) → Succeeded call → Succeeded (call_of call)
-  succeeded_out (Wrote piece (Some count) after) succeeded = succeeded
-  succeeded_out (Wrote piece None after) succeeded = absurd succeeded
-  succeeded_out (Flushed is_ok after) succeeded = succeeded
+  succeeded_out (Wrote piece (Ok count) after) succeeded = succeeded
+  succeeded_out (Wrote piece (Err error) after) succeeded = absurd succeeded
+  succeeded_out (Flushed (Ok x) after) succeeded = succeeded
+  succeeded_out (Flushed (Err error) after) succeeded = absurd succeeded
 
   all_succeeded : (log : List (WriterCall (Screen W T))) → AllByRecursion Succeeded log → AllByRecursion Succeeded (calls_of log)
   all_succeeded [] all = tt
   all_succeeded (call ∷ log) all = (succeeded_out call all.0, all_succeeded log all.1)
 
   taken_out : (call : WriterCall (Screen W T)) → taken_by (call_of call) ≡ taken_by call
-  taken_out (Wrote piece (Some count) after) = refl
-  taken_out (Wrote piece None after) = refl
-  taken_out (Flushed is_ok after) = refl
+  taken_out (Wrote piece (Ok count) after) = refl
+  taken_out (Wrote piece (Err error) after) = refl
+  taken_out (Flushed result after) = refl
 
   all_taken : (log : List (WriterCall (Screen W T))) → flat_map taken_by (calls_of log) ≡ flat_map taken_by log
   all_taken [] = refl
   all_taken (call ∷ log) = rw (taken_out call, all_taken log) refl
 
-  failed_out : (call : WriterCall (Screen W T)) → IsFailed call → IsFailed (call_of call)
-  failed_out (Wrote piece (Some count) after) failed = failed
-  failed_out (Wrote piece None after) failed = failed
-  failed_out (Flushed is_ok after) failed = failed
+  failed_out : (error : Error) (call : WriterCall (Screen W T)) → FailedWith error call → FailedWith error (call_of call)
+  failed_out error (Wrote piece (Ok count) after) failed = failed
+  failed_out error (Wrote piece (Err returned) after) failed = failed
+  failed_out error (Flushed (Ok x) after) failed = absurd failed
+  failed_out error (Flushed (Err returned) after) failed = failed
 
   ended_out : (ending : Ending) (last : List (WriterCall (Screen W T))) → EndedBy ending last → EndedBy ending (calls_of last)
   ended_out Going [] ended = ended
   ended_out Going (call ∷ more) ended = absurd ended
-  ended_out Done (Flushed is_ok after ∷ []) ended = ended
-  ended_out Done (Flushed is_ok after ∷ (call ∷ more)) ended = absurd ended
-  ended_out Done (Wrote piece count after ∷ more) ended = absurd ended
+  ended_out Done (Flushed (Ok x) after ∷ []) ended = ended
+  ended_out Done (Flushed (Ok x) after ∷ (call ∷ more)) ended = absurd ended
+  ended_out Done (Flushed (Err error) after ∷ more) ended = absurd ended
+  ended_out Done (Wrote piece result after ∷ more) ended = absurd ended
   ended_out Done [] ended = absurd ended
-  ended_out Broken (call ∷ []) ended = failed_out call ended
-  ended_out Broken (call ∷ (other ∷ more)) ended = absurd ended
-  ended_out Broken [] ended = absurd ended
+  ended_out (Broken error) (call ∷ []) ended = failed_out error call ended
+  ended_out (Broken error) (call ∷ (other ∷ more)) ended = absurd ended
+  ended_out (Broken error) [] ended = absurd ended
 
   pub took_out : (ending : Ending) (a b : Screen W T) (x : Text) → Took screens ending a b x → Took output ending a.output b.output x
   took_out ending a b x took = record {
@@ -170,7 +173,7 @@ module _ {W T : Type 0} (output : WriterCalls W) (terminal : WriterCalls T) wher
   }
 
   stops_out_by : (a b : Screen W T) (taken : Text) (error : Error) → Stops screens a b taken error → Stops output a.output b.output taken error
-  stops_out_by a b taken error (inl broken) = inl (took_out Broken a b taken broken)
+  stops_out_by a b taken error (inl broken) = inl (took_out (Broken error) a b taken broken)
   stops_out_by a b taken error (inr going) = inr (took_out Going a b taken going.0, going.1)
 
   pub stops_out : (a b : Screen W T) (error : Error) (text : Text) → StopsWithin screens a b error text → StopsWithin output a.output b.output error text

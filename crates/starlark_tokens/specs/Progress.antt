@@ -78,7 +78,6 @@ pub record Passes {W T : Type 0} (calls : WriterCalls T) (call : W → W → Typ
 abbrev pub screen_calls : {W T : Type 0} → (output : WriterCalls W) → (terminal : WriterCalls T) → WriterCalls (Screen W T)
 screen_calls output terminal = record {
   contents = λ screen. output.contents screen.output;
-  write = λ old piece count new. Passes terminal (λ before after. output.write before piece count after) old new;
-  flush = λ old is_ok new. Passes terminal (λ before after. output.flush before is_ok after) old new;
-  failure = λ old error new. output.failure old.output error new.output;
+  write = λ old piece result new. Passes terminal (λ before after. output.write before piece result after) old new;
+  flush = λ old result new. Passes terminal (λ before after. output.flush before result after) old new;
 }

@@ -2,7 +2,7 @@
 use Rattle.std.specs.IoError.{error_kind}
 use Rattle.std.specs.Io.KnownBytes.{Appends}
 use Rattle.std.specs.List.{AllByRecursion, flat_map}
-use Rattle.std.specs.Prelude.{◌≡◌, true, List, ◌++◌, ◌⊎◌, Result, Ok, Err}
+use Rattle.std.specs.Prelude.{◌≡◌, List, ◌++◌, ◌⊎◌, Result, Ok, Err, ⊤}
 use Rattle.std.specs.declared.io.Error.{Error}
 use Rattle.std.specs.declared.io.ErrorKind.TheVariants.{OutOfMemory}
 use Rattle.starlark_base.specs.Places.{Text}
@@ -10,7 +10,8 @@ use Rattle.starlark_devices.specs.Calls.{WriterCalls, WriterCall, Flushed, WasWr
 
 -- the call took some bytes, or is a flush that succeeded
 abbrev pub Succeeded : {W : Type 0} → WriterCall W → Type 0
-Succeeded (Flushed is_ok after) = is_ok ≡ true
+Succeeded (Flushed (Ok x) after) = ⊤
+Succeeded (Flushed (Err error) after) = ⊥
 Succeeded call = TookSome call
 
 -- a text was written to a writer by calls that took its bytes in order, with flushes among them; if writing stopped, one
@@ -24,10 +25,10 @@ pub record Took {W : Type 0} (calls : WriterCalls W) (ending : Ending) (old new 
   pub order : WasWritten calls old (log ++ last) new
   pub ended : EndedBy ending last
 
--- a text was written until a call failed, or until memory ran out: the error says if so
+-- a text was written until a call failed, whose error it is, or until memory ran out: the error says so
 abbrev pub Stops : {W : Type 0} → WriterCalls W → (old new : W) → (taken : Text) → Error → Type 0
 Stops calls old new taken error =
-    Took calls Broken old new taken ⊎ (Took calls Going old new taken × (error_kind error ≡ OutOfMemory))
+    Took calls (Broken error) old new taken ⊎ (Took calls Going old new taken × (error_kind error ≡ OutOfMemory))
 
 -- a beginning of a text was written, and then writing stopped
 pub record StopsWithin {W : Type 0} (calls : WriterCalls W) (old new : W) (error : Error) (text : Text) : Type 0 where

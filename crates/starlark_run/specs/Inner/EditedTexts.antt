@@ -3,11 +3,10 @@ use Rattle.std.specs.Prelude.{◌≡◌, ◌≤◌, ℕ, List, [], ◌∷◌, le
 use Rattle.std.specs.Str.{IsCharBoundary}
 use Rattle.starlark_base.specs.Places.{Text}
 use Rattle.starlark_base.specs.Sources.{Holds}
-use Rattle.starlark_run.specs.Edits.{edit_span, edited_text}
+use Rattle.starlark_run.specs.Edits.{edit_span, edited_text, greatest_len}
 use Rattle.starlark_run.specs.Relexed.{IsCutBefore, IsReadOn}
 use Rattle.starlark_base.specs.declared.edit.Edit.{Edit}
 use Rattle.starlark_run.specs.declared.edited_texts.Version.{Version}
-use Rattle.starlark_run.specs.declared.ends.TheConstants.{GREATEST_LEN}
 use Rattle.starlark_run.specs.declared.ends.RunFault.{RunFault}
 use Rattle.starlark_run.specs.declared.ends.RunFault.TheVariants.{TooLong, BadEdit, Memory}
 
@@ -21,7 +20,7 @@ pub record Follows (text : Text) (version : Version) : Type 0 where
   pub old : IsCharBoundary text version.from
   pub new : IsCharBoundary (string_bytes version.text) version.from
   pub same : take version.from text ≡ take version.from (string_bytes version.text)
-  pub fits : length (string_bytes version.text) ≤ GREATEST_LEN
+  pub fits : length (string_bytes version.text) ≤ greatest_len
 
 -- each version follows the one before
 abbrev pub AreVersions : Text → List Version → Type 0

@@ -24,7 +24,7 @@ loop-segment-preserved g c =
     let written = c.as_bytes.ensures.value ∙ ap (λ (x : Content). string_bytes x.text) c.deref.ensures in
     let more = ap (λ (text : List ℕ). text_of (take index segments) ++ text) written ∙ sym (text_of-more segments index segment is) in
     subst (Went g.W.WriteDevice.calls Going c.args.writer.now c.write_all.new.writer) more
-    (went_trans g.W.WriteDevice.calls Going _ _ _ (text_of (take index segments)) c.as_bytes.result.now c.loop-segment.invariant c.in_ok-write_all.ensures)
+    (went_trans g.W.WriteDevice.calls Going _ _ _ (text_of (take index segments)) c.as_bytes.result.now c.loop-segment.invariant c.in_ok-write_all.ensures.text)
 
 pub returns-in_err-write_all : goal.returns-in_err-write_all
 unfolding WritesText
@@ -35,11 +35,11 @@ returns-in_err-write_all g c =
     let segment = c.segment-item.result in
     let is = slice_get_read segments _ index segment refl (omega arith) c.segment-item.is in
     let written = c.as_bytes.ensures.value ∙ ap (λ (x : Content). string_bytes x.text) c.deref.ensures in
-    let stopped = c.in_err-write_all.ensures in
+    let stopped = c.in_err-write_all.ensures.text in
     let before = text_of (take index segments) in
     let after = text_of (drop (index + 1) segments) in
     let joined = append_assoc before stopped.0 (stopped.1 ++ after) ∙ ap (λ (t : List ℕ). before ++ t) (sym (append_assoc stopped.0 stopped.1 after) ∙ ap (λ (t : List ℕ). t ++ after) (stopped.3 ∙ written)) ∙ sym (text_at segments index segment (omega arith) c.segment-item.is) in
-    rw p.1 (before ++ stopped.0, stopped.1 ++ after, went_trans g.W.WriteDevice.calls Broken _ _ _ before stopped.0 c.loop-segment.invariant stopped.2, joined)
+    rw (p.1, p.2) (before ++ stopped.0, stopped.1 ++ after, went_trans g.W.WriteDevice.calls (Broken c.in_err-write_all.field-0.0) _ _ _ before stopped.0 c.loop-segment.invariant stopped.2, joined)
 
 pub returns : goal.returns
 unfolding WritesText

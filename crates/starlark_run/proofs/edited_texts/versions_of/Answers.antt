@@ -1,14 +1,13 @@
 use Rattle.std.proofs.Common.{◌≡◌, ◌≤◌, ◌+◌, ◌++◌, ◌∷◌, [], ap, drop, length, string_bytes, subst, sym, take, true, is_ok, ◌∙◌}
 use Rattle.starlark_run.proofs.Edited.{newest_fits, newest_more, one_taken, versions_after, versions_more}
-use Rattle.starlark_run.specs.Edits.{text_after}
+use Rattle.starlark_run.specs.Edits.{greatest_len, text_after}
 use Rattle.starlark_run.specs.Inner.EditedTexts.{AreVersions, AreVersionsAfter, newest_text}
-use Rattle.starlark_run.specs.declared.ends.TheConstants.{GREATEST_LEN}
 use Rattle.starlark_run.proofs.edited_texts.versions_of.Goals as goal
 
 pub next_version-requires : goal.next_version-requires
 next_version-requires c =
     let newest : c.newest.result.now ≡ newest_text c.args.first.now c.loop-at.versions.items = c.newest.ensures ∙ ap (newest_text c.args.first.now) c.deref.ensures.value in
-    subst (λ t. length t ≤ GREATEST_LEN) (sym newest) (newest_fits c.args.first.now c.loop-at.versions.items c.loop-at.invariant.versions c.requires)
+    subst (λ t. length t ≤ greatest_len) (sym newest) (newest_fits c.args.first.now c.loop-at.versions.items c.loop-at.invariant.versions c.requires)
 
 pub loop-at-preserved : goal.loop-at-preserved
 loop-at-preserved c =

@@ -9,6 +9,7 @@ use Rattle.starlark_run.specs.Output.{item_line, lines_of, output}
 use Rattle.starlark_run.specs.declared.ends.RunStatus.TheVariants as RunStatus
 use Rattle.starlark_run.proofs.PrintedItems.{fault_of_lexed, lines_cons, lines_nil, next_edges, next_of_lexed, next_order, unthrown}
 use Rattle.starlark_base.proofs.Pairs.{position_start}
+use Rattle.starlark_run.proofs.BufferedWrites.{sends_none, sends_then}
 use Rattle.starlark_run.proofs.Writing.{writes_on, writes_on_stopped, writes_sound, writes_then, writes_then_stopped, writes_told, writes_waiting}
 use Rattle.starlark_run.proofs.lexed_printing.put_lexed.Goals as goal
 
@@ -20,6 +21,8 @@ loop-lexeme-init g c =
     record {
       place = position_start text c.text-text.utf8;
       order = (all.0, all.2);
+      held = c.requires.held;
+      blocks = sends_none g.W.WriteDevice.calls c.args.writer.now.device _ _ (omega arith);
       written = writes_waiting g.W.WriteDevice.calls c.args.writer.now (c.args.printer.now.buffer ++ lines_of c.args.name.now text (items text)) (tt {0}) c.requires.sound;
     }
 
@@ -65,6 +68,8 @@ loop-lexeme-preserved g c =
     record {
       place = c.in_ok-place.ensures.place;
       order = (c.loop-lexeme.invariant.order.0, rw c.in_ok-place.ensures.at order);
+      held = c.in_ok-place.ensures.held;
+      blocks = sends_then g.W.WriteDevice.calls _ _ _ _ _ _ c.loop-lexeme.invariant.blocks c.in_ok-place.ensures.blocks;
       written = on;
     }
 
@@ -86,11 +91,24 @@ returns-in_err-exception-clause-writes g c =
     let text = c.text-text.result.now in
     let k = c.loop-lexeme.lexeme-index in
     let left : drop k (items text) ≡ fault_items text = fault_of_lexed text _ _ c.lexemes-lexeme-items.result.now k c.lexemes-lexeme-items.ensures.lexemes c.requires.lexed.1.lexemes c.text-text.ensures (omega (arith, c.loop-lexeme-test.false, c.loop-lexeme.auto.lexeme-index-end)) in
-    rw (p.1, p.2, ← c.text-text.ensures) (writes_then_stopped _ _ _ _ _ _ _ _ _ _ _ _ (rw left at c.loop-lexeme.invariant.written) c.in_err-exception.ensures)
+    rw (p.1, p.2, ← c.text-text.ensures) (writes_then_stopped _ _ _ _ _ _ _ _ _ _ _ _ (rw left at c.loop-lexeme.invariant.written) c.in_err-exception.ensures.writes)
 
 pub returns-clause-writes : goal.returns-clause-writes
 returns-clause-writes g c =
     let text = c.text-text.result.now in
     let k = c.loop-lexeme.lexeme-index in
     let left : drop k (items text) ≡ fault_items text = fault_of_lexed text _ _ c.lexemes-lexeme-items.result.now k c.lexemes-lexeme-items.ensures.lexemes c.requires.lexed.1.lexemes c.text-text.ensures (omega (arith, c.loop-lexeme-test.false, c.loop-lexeme.auto.lexeme-index-end)) in
-    rw (← c.text-text.ensures) (writes_then _ _ _ _ _ _ _ _ _ _ RunStatus.Fault (rw left at c.loop-lexeme.invariant.written) c.in_ok-exception.ensures)
+    rw (← c.text-text.ensures) (writes_then _ _ _ _ _ _ _ _ _ _ RunStatus.Fault (rw left at c.loop-lexeme.invariant.written) c.in_ok-exception.ensures.writes)
+
+pub returns-in_err-place-clause-blocks : goal.returns-in_err-place-clause-blocks
+returns-in_err-place-clause-blocks g c =
+    let p = err_from_is_err_and c.from_residual.result c.from_residual.ensures.1 in
+    rw p.1 (sends_then g.W.WriteDevice.calls _ _ _ _ _ _ c.loop-lexeme.invariant.blocks c.in_err-place.ensures.blocks)
+
+pub returns-in_err-exception-clause-blocks : goal.returns-in_err-exception-clause-blocks
+returns-in_err-exception-clause-blocks g c =
+    let p = err_from_is_err_and c.from_residual-in_err-exception.result c.from_residual-in_err-exception.ensures.1 in
+    rw p.1 (sends_then g.W.WriteDevice.calls _ _ _ _ _ _ c.loop-lexeme.invariant.blocks c.in_err-exception.ensures.blocks)
+
+pub returns-clause-blocks : goal.returns-clause-blocks
+returns-clause-blocks g c = sends_then g.W.WriteDevice.calls _ _ _ _ _ _ c.loop-lexeme.invariant.blocks c.in_ok-exception.ensures.blocks

@@ -13,6 +13,7 @@ use Rattle.starlark_run.specs.declared.ends.RunStatus.TheVariants as RunStatus
 use Rattle.starlark_run.proofs.PrintedItems.{lines_cons, lines_nil, next_edges, next_few, next_order, thrown_status}
 use Rattle.starlark_run.proofs.Answered.{all_given, next_fault, next_lexeme}
 use Rattle.starlark_base.proofs.Pairs.{position_start}
+use Rattle.starlark_run.proofs.BufferedWrites.{sends_less, sends_none, sends_then}
 use Rattle.starlark_run.proofs.Writing.{writes_given_up, writes_on, writes_on_stopped, writes_sound, writes_then, writes_then_stopped, writes_told, writes_waiting}
 use Rattle.starlark_run.proofs.printing.put_items.Goals as goal
 
@@ -32,6 +33,8 @@ loop-item-init g c =
       few = subst (λ n. n ≤ length (outcome text).lexemes) (sym handed) (omega arith);
       going = ap (λ (l : LexerView). l.has_ended) fresh;
       text = ap (λ (l : LexerView). l.text) fresh;
+      held = c.requires.held;
+      blocks = sends_none g.W.WriteDevice.calls c.args.writer.now.device (length buffer) (length buffer) (omega arith);
       written = subst (λ n. Writes {T = Unit {0}} g.W.WriteDevice.calls c.args.writer.now c.args.writer.now (buffer ++ lines_of name text (items text)) (buffer ++ lines_of name text (drop n (items text))) (Ok tt)) (sym handed) waiting;
     }
 
@@ -103,6 +106,8 @@ loop-item-preserved g c =
       few = (next_few text h c.in-Ok.lexeme next).0;
       going = ended;
       text = ap (λ (l : LexerView). l.text) after ∙ inv.text;
+      held = c.in_ok-place-in-Ok.ensures.held;
+      blocks = sends_then g.W.WriteDevice.calls _ _ _ _ _ _ inv.blocks c.in_ok-place-in-Ok.ensures.blocks;
       written = on;
     })
 
@@ -119,14 +124,14 @@ pub returns-in-Err-Error-clause-writes : goal.returns-in-Err-Error-clause-writes
 returns-in-Err-Error-clause-writes g c =
     let inv = c.loop-item.invariant in
     let next = next_fault c.loop-item.lexer.code_map c.args.text.now c.loop-item.lexer.yielded_count c.in-Err-Error.exception (rw (c.in-Err-Error.is, c.in-Err-Error.field-0-is, inv.text) at (c.in-Some.ensures.item inv.going)) in
-    writes_then _ _ _ _ _ _ _ _ _ _ RunStatus.Fault (rw next.items at inv.written) c.in_ok-exception-in-Err-Error.ensures
+    writes_then _ _ _ _ _ _ _ _ _ _ RunStatus.Fault (rw next.items at inv.written) c.in_ok-exception-in-Err-Error.ensures.writes
 
 pub returns-in_err-exception-in-Err-Error-clause-writes : goal.returns-in_err-exception-in-Err-Error-clause-writes
 returns-in_err-exception-in-Err-Error-clause-writes g c =
     let p = err_from_is_err_and c.from_residual-in_err-exception-in-Err-Error.result c.from_residual-in_err-exception-in-Err-Error.ensures.1 in
     let inv = c.loop-item.invariant in
     let next = next_fault c.loop-item.lexer.code_map c.args.text.now c.loop-item.lexer.yielded_count c.in-Err-Error.exception (rw (c.in-Err-Error.is, c.in-Err-Error.field-0-is, inv.text) at (c.in-Some.ensures.item inv.going)) in
-    rw (p.1, p.2) (writes_then_stopped _ _ _ _ _ _ _ _ _ _ _ _ (rw next.items at inv.written) c.in_err-exception-in-Err-Error.ensures)
+    rw (p.1, p.2) (writes_then_stopped _ _ _ _ _ _ _ _ _ _ _ _ (rw next.items at inv.written) c.in_err-exception-in-Err-Error.ensures.writes)
 
 pub returns-in-Err-Error-clause-status : goal.returns-in-Err-Error-clause-status
 returns-in-Err-Error-clause-status g c =
@@ -150,3 +155,19 @@ returns-clause-status g c =
     let inv = c.loop-item.invariant in
     let all = all_given c.loop-item.lexer.code_map c.args.text.now c.loop-item.lexer.yielded_count (rw inv.text at (c.in_default.ensures.item inv.going)) inv.few in
     sym (ap status_of all.1)
+
+pub returns-in_err-place-in-Ok-clause-blocks : goal.returns-in_err-place-in-Ok-clause-blocks
+returns-in_err-place-in-Ok-clause-blocks g c =
+    let p = err_from_is_err_and c.from_residual.result c.from_residual.ensures.1 in
+    rw p.1 (sends_then g.W.WriteDevice.calls _ _ _ _ _ _ c.loop-item.invariant.blocks c.in_err-place-in-Ok.ensures.blocks)
+
+pub returns-in-Err-Error-clause-blocks : goal.returns-in-Err-Error-clause-blocks
+returns-in-Err-Error-clause-blocks g c = sends_then g.W.WriteDevice.calls _ _ _ _ _ _ c.loop-item.invariant.blocks c.in_ok-exception-in-Err-Error.ensures.blocks
+
+pub returns-in_err-exception-in-Err-Error-clause-blocks : goal.returns-in_err-exception-in-Err-Error-clause-blocks
+returns-in_err-exception-in-Err-Error-clause-blocks g c =
+    let p = err_from_is_err_and c.from_residual-in_err-exception-in-Err-Error.result c.from_residual-in_err-exception-in-Err-Error.ensures.1 in
+    rw p.1 (sends_then g.W.WriteDevice.calls _ _ _ _ _ _ c.loop-item.invariant.blocks c.in_err-exception-in-Err-Error.ensures.blocks)
+
+pub returns-in-Err-Memory-clause-blocks : goal.returns-in-Err-Memory-clause-blocks
+returns-in-Err-Memory-clause-blocks g c = sends_less g.W.WriteDevice.calls _ _ _ _ _ c.loop-item.invariant.held c.loop-item.invariant.blocks

@@ -4,6 +4,8 @@ use Rattle.starlark_token.specs.TextItems.{items}
 use Rattle.starlark_grammar.specs.Reading.{outcome}
 use Rattle.starlark_run.specs.Output.{lines_of, output}
 use Rattle.starlark_base.specs.Positions.{IsPosition}
+use Rattle.starlark_run.specs.Blocks.{block_len}
+use Rattle.starlark_run.specs.Inner.BufferedWrites.{Sends}
 use Rattle.starlark_run.specs.Writing.{Writes}
 use Rattle.starlark_run.proofs.printing.put_items.Given as goal
 
@@ -15,6 +17,8 @@ invariant-loop-item g l = record {
   few : l.lexer.yielded_count ≤ length (outcome l.text).lexemes;
   going : l.lexer.has_ended ≡ false;
   text : l.lexer.text ≡ l.text;
+  held : length l.printer.buffer ≤ block_len;
+  blocks : Sends g.W.WriteDevice.calls l.fn.writer.device l.writer.device (length l.fn.printer.buffer) (length l.printer.buffer);
   written : Writes {T = Unit {0}} g.W.WriteDevice.calls l.fn.writer l.writer (l.fn.printer.buffer ++ output l.name l.text) (l.printer.buffer ++ lines_of l.name l.text (drop l.lexer.yielded_count (items l.text))) (Ok tt);
 }
 

@@ -7,10 +7,10 @@ pub returns-in_err-flush_once-in-Err : goal.returns-in_err-flush_once-in-Err
 returns-in_err-flush_once-in-Err g c =
     let p = err_from_is_err_and c.from_residual-in_err-flush_once-in-Err.result c.from_residual-in_err-flush_once-in-Err.ensures.1 in
     let flush = c.in_err-flush_once-in-Err.ensures in
-    rw p.1 (record {
+    rw (p.1, p.2) (record {
       text = None;
       given = rw c.in-Err.is at c.text.ensures.given;
-      written = stops_first g.W.WriteDevice.calls _ _ p.0 [] (unflushed g.W.WriteDevice.calls _ _ flush.bytes flush.call);
+      written = stops_first g.W.WriteDevice.calls _ _ _ [] (unflushed g.W.WriteDevice.calls _ _ _ flush.bytes flush.call);
       counted = tt;
     })
 

@@ -8,4 +8,4 @@ returns-in_err-rest g c =
     rw p.1 (no_memory g.W.WriteDevice.calls c.args.writer.now p.0 _ p.2)
 
 pub returns : goal.returns
-returns g c = written_all g.W.WriteDevice.calls _ _ _ _ _ (rw (c.as_bytes.ensures.value, c.in_ok-rest.ensures) at c.write_all.ensures)
+returns g c = written_all g.W.WriteDevice.calls _ _ _ _ _ (rw (c.as_bytes.ensures.value, c.in_ok-rest.ensures) at c.write_all.ensures.text)

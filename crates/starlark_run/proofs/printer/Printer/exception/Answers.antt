@@ -17,9 +17,9 @@ pub fault-requires-clause-end : goal.fault-requires-clause-end
 fault-requires-clause-end g c =
     (fault_placed c.requires.thrown.0 c.args.text.now c.args.exception.now c.unwrap.result.now c.utf8.text c.requires.thrown.1 (ap (λ (d : Diagnosed ErrorKind). d.span) (sym c.error.ensures) ∙ sym c.span.ensures ∙ ap option_copied c.unwrap.ensures)).end
 
-pub returns : goal.returns
-returns g c =
+pub returns-clause-writes : goal.returns-clause-writes
+returns-clause-writes g c =
     let exception = c.args.exception.now in
     let kind : c.kind.result.now ≡ exception.value = c.kind.ensures ∙ ap (λ (d : Diagnosed ErrorKind). d.value) c.error-2.ensures in
     let line = exception_line c.requires.thrown.0 c.args.name.now c.args.text.now exception c.unwrap.result.now c.kind.result.now c.requires.thrown.1 (ap (λ (d : Diagnosed ErrorKind). d.span) (sym c.error.ensures) ∙ sym c.span.ensures ∙ ap option_copied c.unwrap.ensures) kind in
-    rw line at c.fault.ensures
+    rw line at c.fault.ensures.writes
