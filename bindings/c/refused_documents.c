@@ -2,7 +2,8 @@
  *
  * It is linked with -Wl,--wrap=malloc,--wrap=realloc,--wrap=free. A call whose allocation is
  * refused has to return STARLARK_STATUS_MEMORY, and to leave the document as it was; the same call
- * with enough memory has to do its work then. Once a document is closed, nothing is allocated. */
+ * with enough memory has to do its work then. Once a document is closed, nothing is allocated. In a
+ * long document a call asks for as much memory as some segments need, and not for that of all. */
 #include "starlark_lex.h"
 
 #include <stdio.h>
@@ -10,6 +11,8 @@
 #include <string.h>
 
 #define ROOM 4096
+#define LONG_LEN ((size_t)1 << 21)
+#define MOST_ASKED ((size_t)1 << 19)
 
 void *__real_malloc(size_t size);
 void *__real_realloc(void *block, size_t size);
@@ -18,6 +21,7 @@ void __real_free(void *block);
 static long until_refused = -1;
 static bool was_refused;
 static long allocated;
+static size_t asked;
 
 static bool is_refused(void)
 {
@@ -35,11 +39,13 @@ static void *counted(void *block)
 
 void *__wrap_malloc(size_t size)
 {
+    asked += size;
     return is_refused() ? NULL : counted(__real_malloc(size));
 }
 
 void *__wrap_realloc(void *block, size_t size)
 {
+    asked += size;
     if (is_refused())
         return NULL;
     return block == NULL ? counted(__real_malloc(size)) : __real_realloc(block, size);
@@ -181,9 +187,37 @@ static long refuse_each(const char *text, call *work, const edit *made)
     }
 }
 
+/* Edits and reads a long document in its middle, and looks at how much memory that asks for. */
+static void touch_long_text(void)
+{
+    const edit made = {LONG_LEN / 2, LONG_LEN / 2, "y = 2\n"};
+    static const char line[] = "x = [1]\n";
+    uint8_t part[8];
+    uint8_t *text = malloc(LONG_LEN);
+    uint32_t status;
+    if (text == NULL)
+        stop("no memory", 0);
+    for (size_t at = 0; at < LONG_LEN; at++)
+        text[at] = (uint8_t)line[at % 8];
+    starlark_document *document = starlark_document_open(text, LONG_LEN, &status);
+    asked = 0;
+    if (make_edit(document, &made) != STARLARK_STATUS_WHOLE || asked > MOST_ASKED)
+        stop("an edit of a long document", asked);
+    asked = 0;
+    if (starlark_document_text(document, made.begin, made.begin + sizeof part, part, sizeof part)
+            != STARLARK_STATUS_WHOLE
+        || asked > MOST_ASKED)
+        stop("a part of a long document", asked);
+    starlark_document_close(document);
+    free(text);
+    if (allocated != 0)
+        stop("a closed long document holds memory", (size_t)allocated);
+}
+
 int main(void)
 {
     long refused = 0;
+    touch_long_text();
     for (size_t text = 0; text < sizeof texts / sizeof *texts; text++) {
         const edit whole = {0, strlen(texts[text]), ""};
         refused += refuse_opening(texts[text]);

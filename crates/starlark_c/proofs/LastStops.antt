@@ -1,10 +1,10 @@
 -- After the last stop no cut has room.
-use Rattle.std.proofs.Common.{◌≡◌, ℕ, zero, suc, ◌+◌, ◌-◌, ◌≤◌, ◌<◌, Bool, true, false, List, [], ◌∷◌, length, take, refl, ap, subst, sym, arith, ◌⊎◌, inl, inr}
+use Rattle.std.proofs.Common.{◌≡◌, ℕ, zero, suc, ◌+◌, ◌-◌, ◌≤◌, ◌<◌, Bool, true, false, List, [], ◌∷◌, length, take, refl, ap, subst, sym, ◌∙◌, arith, Some, ◌⊎◌, inl, inr}
 use Rattle.std.proofs.lemmas.Bool.{cases_lt}
 use Rattle.std.proofs.lemmas.List.{length-map, length-take}
-use Rattle.starlark_c.specs.Endings.{Buffers, Hold, lexemes_of}
+use Rattle.starlark_c.specs.Endings.{Buffers, Hold, all_values, lexemes_of}
 use Rattle.starlark_c.specs.Inner.Filling.{EndsAtFault, EndsWithCutPoint, HasNoRoom, IsFilledTo, IsLastStop, IsOverflow, IsStopAtLastCut, filled_by, has_stop}
-use Rattle.starlark_c.specs.LastCuts.{IsCutIn, IsLastCut, LackRoom, StopsAtLastCut}
+use Rattle.starlark_c.specs.LastCuts.{IsCutIn, IsLastCut, HasNoCut, LackRoom, StopsAtLastCut}
 use Rattle.starlark_c.specs.Records.{records, value_bytes, values}
 use Rattle.starlark_c.specs.declared.endings.Ending.{Ending}
 use Rattle.starlark_c.specs.declared.endings.Ending.TheVariants as ending
@@ -14,6 +14,7 @@ use Rattle.starlark_c.specs.declared.fill_state.FillState.{FillState}
 use Rattle.starlark_c.proofs.CutTexts.{piece_at}
 use Rattle.starlark_c.proofs.Filled.{same_sizes, values_cons, values_nil}
 use Rattle.starlark_c.proofs.Stops.{all_but}
+use Rattle.starlark_c.proofs.Wanted.{piece_of_all, wanted_at_fault}
 use Rattle.starlark_c.proofs.YieldedItems.{IsNext}
 use Rattle.starlark_grammar.specs.Cuts.{without_closing}
 use Rattle.starlark_grammar.specs.Reading.{outcome}
@@ -73,30 +74,51 @@ lacks_next text before now after n x filled one few held counted none = by none.
     by (inl short) = inl (omega (arith, short, (all_but text n x filled one few counted).0, (same_sizes before now (take n (lexemes_of text)) held).0))
     by (inr short) = inr (omega (arith, short, (all_but text n x filled one few counted).1, (same_sizes before now (take n (lexemes_of text)) held).1))
 
-pub overflow_last : (is_front : Bool) (text : Text) (before : Buffers) (count : ℕ) (progress : FillState) (end : Ending) → IsLastCut is_front text before progress.stop.filled.lexemes → IsOverflow text count progress end → IsStopAtLastCut is_front text before progress.stop end
-overflow_last is_front text before count progress (ending.Piece filled next) last over = last
-overflow_last is_front text before count progress (ending.Full wanted) last over = (over.1, subst (IsLastCut is_front text before) over.1 last)
-overflow_last is_front text before count progress (ending.Whole filled) last over = last
-overflow_last is_front text before count progress (ending.Fault filled fault) last over = last
-overflow_last is_front text before count progress (ending.NotUtf8 valid) last over = tt
-overflow_last is_front text before count progress (ending.Memory filled) last over = tt
-overflow_last is_front text before count progress ending.TooLong last over = tt
-
-pub fault_last : (is_front : Bool) (text : Text) (before : Buffers) (fault : Spanned Fault) (progress : FillState) (old new : Text) (end : Ending) → IsLastCut is_front text before progress.stop.filled.lexemes → EndsAtFault text fault progress old new end
+pub overflow_last : (is_front : Bool) (text : Text) (before : Buffers) (count : ℕ) (progress : FillState) (end : Ending) → progress.stop.is_front ≡ is_front → IsLastCut is_front text before progress.stop.filled.lexemes → IsOverflow text count progress end
     → IsStopAtLastCut is_front text before progress.stop end
-fault_last is_front text before fault progress old new (ending.Piece filled next) last ends = last
-fault_last is_front text before fault progress old new (ending.Full wanted) last ends = (ends.1, subst (IsLastCut is_front text before) ends.1 last)
-fault_last is_front text before fault progress old new (ending.Whole filled) last ends = last
-fault_last is_front text before fault progress old new (ending.Fault filled told) last ends = last
-fault_last is_front text before fault progress old new (ending.NotUtf8 valid) last ends = tt
-fault_last is_front text before fault progress old new (ending.Memory filled) last ends = tt
-fault_last is_front text before fault progress old new ending.TooLong last ends = tt
+overflow_last is_front text before count progress (ending.Piece filled next) kind last over = last
+overflow_last is_front text before count progress (ending.Full wanted) kind last over =
+    (over.1, subst (IsLastCut is_front text before) over.1 last, record { lexemes = over.0.all_lexemes; bytes = over.0.all_bytes; piece = rw kind at over.0.piece; needs = over.0.needs })
+overflow_last is_front text before count progress (ending.Whole filled) kind last over = last
+overflow_last is_front text before count progress (ending.Fault filled fault) kind last over = last
+overflow_last is_front text before count progress (ending.NotUtf8 valid) kind last over = tt
+overflow_last is_front text before count progress (ending.Memory filled) kind last over = tt
+overflow_last is_front text before count progress ending.TooLong kind last over = tt
+
+-- where there is no stop, the text isn't cut so far
+pub uncut_so_far : (is_front : Bool) (text : Text) (n : ℕ) (stop : CutPoint) → stop.is_front ≡ is_front → stop.filled.lexemes ≡ 0 → IsLastStop text n stop → HasNoCut is_front text n
+uncut_so_far is_front text n stop kind none last some at is_some few is = last some at (omega (arith, none, is_some)) few (rw kind is)
+
+pub fault_last : (is_front : Bool) (text : Text) (before : Buffers) (n : ℕ) (fault : Spanned Fault) (progress : FillState) (old new : Text) (end : Ending) → progress.stop.is_front ≡ is_front → (outcome text).fault ≡ Some fault → n ≡ length (lexemes_of text)
+    → progress.filled ≡ filled_by (take n (lexemes_of text)) → IsLastStop text n progress.stop → EndsAtFault text fault progress old new end → IsStopAtLastCut is_front text before progress.stop end
+fault_last is_front text before n fault progress old new end kind has all counted stop ends = by end ends
+  where
+    last : IsLastCut is_front text before progress.stop.filled.lexemes
+    last = last_of_all is_front text before n progress.stop kind all stop
+
+    by : (end : Ending) → EndsAtFault text fault progress old new end → IsStopAtLastCut is_front text before progress.stop end
+    by (ending.Piece filled next) ends = last
+    by (ending.Full wanted) ends = (
+      ends.1,
+      subst (IsLastCut is_front text before) ends.1 last,
+      record {
+        lexemes = length (lexemes_of text);
+        bytes = length (all_values text);
+        piece = piece_of_all is_front text n (uncut_so_far is_front text n progress.stop kind ends.1 stop) all;
+        needs = ends.0.2 ∙ wanted_at_fault text n fault progress.filled all has counted;
+      },
+    )
+    by (ending.Whole filled) ends = last
+    by (ending.Fault filled told) ends = last
+    by (ending.NotUtf8 valid) ends = tt
+    by (ending.Memory filled) ends = tt
+    by ending.TooLong ends = tt
 
 -- What a call ends with
 
 pub stops_last : (text : Text) (before after : Buffers) (end : Ending) (stop : CutPoint) → EndsWithCutPoint text false before after (end, stop) → StopsAtLastCut false text before end
 stops_last text before after (ending.Piece filled next) stop ends = subst (λ (f : Filled). IsLastCut false text before f.lexemes) (sym ends.5.0) ends.6
-stops_last text before after (ending.Full wanted) stop ends = ends.6.1
+stops_last text before after (ending.Full wanted) stop ends = (ends.6.1, ends.6.2)
 stops_last text before after (ending.Whole filled) stop ends = tt
 stops_last text before after (ending.Fault filled fault) stop ends = tt
 stops_last text before after (ending.NotUtf8 valid) stop ends = tt
@@ -122,7 +144,7 @@ front_ends text before after end stop ends none = by end ends.5 ends.6 none (cas
 
     by : (end : Ending) → IsFilledTo stop end → IsStopAtLastCut true text before stop end → (0 < stop.filled.lexemes → has_stop end ≡ true → ⊥) → (0 < stop.filled.lexemes) ⊎ (stop.filled.lexemes ≤ 0) → StopsAtLastCut true text before end
     by (ending.Piece filled next) filling last none some = subst (λ (f : Filled). IsLastCut true text before f.lexemes) (sym filling.0) last
-    by (ending.Full wanted) filling last none some = last.1
+    by (ending.Full wanted) filling last none some = (last.1, last.2)
     by (ending.Whole filled) filling last none (inl some) = absurd (none some refl)
     by (ending.Whole filled) filling last none (inr few) = at_none few last
     by (ending.Fault filled fault) filling last none (inl some) = absurd (none some refl)

@@ -54,7 +54,7 @@ ends_without_room text n x old new before now after wanted end is_front is kind 
   rw puts.1 had.stop,
   rw puts.1 kind,
   overflow_filled text (n + 1) new end over,
-  rw puts.1 (overflow_last is_front text before (n + 1) old end (last_with_room is_front text before n old.stop kind (lacks_next text before now after n x old.filled next had.few had.hold had.filled puts.0) last) (rw puts.1 at over)),
+  rw puts.1 (overflow_last is_front text before (n + 1) old end kind (last_with_room is_front text before n old.stop kind (lacks_next text before now after n x old.filled next had.few had.hold had.filled puts.0) last) (rw puts.1 at over)),
 )
 
 -- a lexer that goes on in a text, with so many lexemes yielded

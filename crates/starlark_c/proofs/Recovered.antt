@@ -1,5 +1,5 @@
 -- How lexing a text on after its faults ends, by the items that are done and left.
-use Rattle.std.proofs.Common.{◌≡◌, ℕ, ◌+◌, ◌≤◌, List, [], ◌∷◌, ◌++◌, length, take, drop, refl, ap, sym, ◌∙◌, arith, Some, inl, inr, append_assoc, length-append}
+use Rattle.std.proofs.Common.{◌≡◌, ℕ, ◌+◌, ◌≤◌, List, [], ◌∷◌, ◌++◌, length, take, drop, refl, ap, sym, ◌∙◌, arith, inl, inr, append_assoc, length-append}
 use Rattle.std.specs.Prelude.{Result, Ok, Err}
 use Rattle.std.proofs.lemmas.List.{take_at}
 use Rattle.starlark_base.specs.Diagnostics.{Diagnosed}
@@ -14,16 +14,13 @@ use Rattle.starlark_c.specs.declared.recovering.Taken.{Taken}
 use Rattle.starlark_c.specs.declared.recovering.Taken.TheVariants as taken
 use Rattle.starlark_c.proofs.AddedItems.{IsNeed, have_more, have_none, need, no_counts}
 use Rattle.starlark_c.proofs.Filled.{same_length}
-use Rattle.starlark_grammar.specs.Tokens.{Fault, Spanned}
 use Rattle.starlark_grammar.specs.Words.{Text}
 use Rattle.starlark_lexemes.proofs.NextItems.{IsNext}
-use Rattle.starlark_lexemes.specs.Lexer.{Answers}
 use Rattle.starlark_recovery.specs.RecoveringLexer.{all_items}
 use Rattle.starlark_errors.specs.declared.error.kinds.ErrorKind.{ErrorKind}
 use Rattle.starlark_text.specs.declared.or_memory.OrMemory.{OrMemory}
 use Rattle.starlark_text.specs.declared.or_memory.OrMemory.TheVariants as refusal
-use Rattle.starlark_token.specs.Lexemes.{lexeme_view}
-use Rattle.starlark_token.specs.TextItems.{LexerItem, Given, Refused}
+use Rattle.starlark_token.specs.TextItems.{LexerItem}
 use Rattle.starlark_token.specs.declared.tokens.Token.{Token}
 
 -- after a lexeme or a fault that was taken the lexer goes on

@@ -13,7 +13,7 @@ use Rattle.starlark_lexemes.specs.Lexer.{AnswersNext}
 use Rattle.starlark_errors.specs.declared.error.kinds.ErrorKind.{ErrorKind}
 use Rattle.starlark_text.specs.declared.or_memory.OrMemory.TheVariants as refusal
 use Rattle.starlark_token.specs.Lexemes.{lexeme_view, shown_lexeme}
-use Rattle.starlark_token.specs.TextItems.{Given, LexerItem, Refused, items}
+use Rattle.starlark_token.specs.TextItems.{Given, Refused, items}
 use Rattle.starlark_token.proofs.NumberedItems.{fault_at, given, only_faults}
 use Rattle.starlark_lexemes.proofs.NextItems.{found_fault, found_lexeme, found_none}
 use Rattle.starlark_token.specs.TokenViews.{TokenView}

@@ -8,7 +8,7 @@ use Rattle.starlark_c.specs.declared.document_endings.FillEnding.TheVariants as 
 use Rattle.starlark_c.specs.declared.outcomes.TheConstants.{WHOLE, FULL}
 use Rattle.starlark_c.specs.declared.recovered_outcomes.RecoveredOutcome.{RecoveredOutcome}
 use Rattle.starlark_c.specs.declared.replies.TheConstants.{CLOSED}
-use Rattle.starlark_document.specs.Documents.{faults_of, lexemes_of}
+use Rattle.starlark_document.specs.Documents.{DocumentView, faults_of, lexemes_of}
 use Rattle.starlark_grammar.specs.Tokens.{Spanned}
 use Rattle.starlark_grammar.specs.Words.{Text}
 use Rattle.starlark_token.specs.TextItems.{LexerItem, Given, Refused}
@@ -32,7 +32,7 @@ Fills items before after (ending.Full wanted) = LackItems items before wanted ×
 Fills items before after ending.Closed = ⊥
 
 -- filling buffers with items of the text of the document in a slot
-abbrev pub FillsWith : (Text → List LexerItem) → (old new : Option Text) → Contents → Contents → FillEnding → Type 0
+abbrev pub FillsWith : (Text → List LexerItem) → (old new : Option DocumentView) → Contents → Contents → FillEnding → Type 0
 FillsWith items old new before after ending.Closed = HoldsNone old new × (after ≡ before)
 FillsWith items old new before after end = Keeps old new (λ text. Fills (items text) before after end)
 

@@ -1,10 +1,11 @@
 -- The last offset where a text, or the front of one, may be cut, of those that the caller's buffers have room for.
-use Rattle.std.specs.Prelude.{◌≡◌, ◌<◌, ◌||◌, ◌==◌, ◌⊎◌, not, ℕ, Bool, true, false, [], ◌∷◌, drop, length, take, ⊤}
+use Rattle.std.specs.Prelude.{◌≡◌, ◌<◌, ◌≤◌, ◌-◌, ◌||◌, ◌==◌, ◌⊎◌, not, ℕ, Bool, true, false, [], ◌∷◌, drop, length, take, ⊤}
 use Rattle.std.specs.Str.{byte}
-use Rattle.starlark_c.specs.Endings.{Buffers, lexemes_of}
+use Rattle.starlark_c.specs.Endings.{Buffers, all_values, capped, lexemes_of}
 use Rattle.starlark_c.specs.Records.{values}
 use Rattle.starlark_c.specs.declared.endings.Ending.{Ending}
 use Rattle.starlark_c.specs.declared.endings.Ending.TheVariants as ending
+use Rattle.starlark_c.specs.declared.endings.Filled.{Filled}
 use Rattle.starlark_grammar.specs.Margins.{is_blank}
 use Rattle.starlark_grammar.specs.Words.{Text}
 use Rattle.starlark_lexemes.specs.CutAfter.{IsCutAfter}
@@ -27,11 +28,28 @@ LackRoom buffers text count = (length buffers.lexemes < count) ⊎ (length buffe
 abbrev pub IsLastCut : (is_front : Bool) → Text → Buffers → (count : ℕ) → Type 0
 IsLastCut is_front text buffers count = (more at : ℕ) → count < more → IsCutIn text is_front more at → LackRoom buffers text more
 
--- A piece ends at the last cut that the buffers have room for. There is none where the buffers are full, and none in a front
--- that ends as a whole text does.
+-- no cut is after one or more of the first `count` lexemes
+abbrev pub HasNoCut : (is_front : Bool) → Text → (count : ℕ) → Type 0
+HasNoCut is_front text count = (some at : ℕ) → 0 < some → some ≤ count → IsCutIn text is_front some at → ⊥
+
+-- the first piece of a text has so many lexemes and bytes of values: up to the first cut, or else all
+abbrev pub IsFirstPiece : (is_front : Bool) → Text → (lexemes bytes : ℕ) → Type 0
+IsFirstPiece is_front text lexemes bytes =
+    (HasNoCut is_front text (lexemes - 1) × ((at : ℕ) × IsCutIn text is_front lexemes at) × (bytes ≡ length (values (take lexemes (lexemes_of text)))))
+    ⊎ (HasNoCut is_front text lexemes × (lexemes ≡ length (lexemes_of text)) × (bytes ≡ length (all_values text)))
+
+-- what the first piece of a text needs is wanted
+pub record WantsFirstPiece (is_front : Bool) (text : Text) (wanted : Filled) : Type 0 where
+  pub lexemes : ℕ
+  pub bytes : ℕ
+  pub piece : IsFirstPiece is_front text lexemes bytes
+  pub needs : wanted ≡ record { lexemes = capped lexemes; values = capped bytes }
+
+-- A piece ends at the last cut that the buffers have room for. There is none where the buffers are full: then the first
+-- piece is wanted. There is none in a front that ends as a whole text does.
 abbrev pub StopsAtLastCut : (is_front : Bool) → Text → Buffers → Ending → Type 0
 StopsAtLastCut is_front text buffers (ending.Piece filled next) = IsLastCut is_front text buffers filled.lexemes
-StopsAtLastCut is_front text buffers (ending.Full wanted) = IsLastCut is_front text buffers 0
+StopsAtLastCut is_front text buffers (ending.Full wanted) = IsLastCut is_front text buffers 0 × WantsFirstPiece is_front text wanted
 StopsAtLastCut true text buffers (ending.Whole filled) = IsLastCut true text buffers 0
 StopsAtLastCut true text buffers (ending.Fault filled fault) = IsLastCut true text buffers 0
 StopsAtLastCut is_front text buffers end = ⊤

@@ -44,7 +44,7 @@ fn edit_text(
     change: &mut ChangeRecord,
 ) -> Reply
     ensures edits { EditsText from to bytes.now document.old document.new change.old change.new result }
-    ensures short { length document.old < 2 ^ 32 → length document.new < 2 ^ 32 }
+    ensures short { length document.old.text < 2 ^ 32 → length document.new.text < 2 ^ 32 }
 {
     let Ok(text) = str::from_utf8(bytes) else {
         return Reply::NotUtf8;
@@ -82,7 +82,7 @@ pub fn edit_document(
 
 /// Writes a part of the text of a document into a buffer, if it has room for it.
 fn write_slice(document: &Document, from: usize, to: usize, buffer: &mut [u8]) -> Reply
-    ensures { GivesSlice from to document.now buffer.old buffer.new result }
+    ensures { GivesSlice from to document.now.text buffer.old buffer.new result }
 {
     match document.slice(from, to) {
         Ok(Some(text)) => {
@@ -132,7 +132,7 @@ pub fn document_len(alloc: Global, slot: &mut DocumentSlot) -> usize
 
 /// Tells the place of an offset in a document, if it is a character boundary there.
 fn tell_place_in(document: &Document, at: usize, place: &mut PlaceRecord) -> bool
-    ensures { TellsPlaceIn at document.now place.old place.new result }
+    ensures { TellsPlaceIn at document.now.text place.old place.new result }
 {
     let Some(
         Place {

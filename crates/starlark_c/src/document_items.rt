@@ -114,8 +114,8 @@ fn fill_lexemes(
 
 /// The lexemes of a document, without some of those that end before an offset.
 fn lexemes_near(document: &Document, from: usize) -> Lexemes<'_>
-    requires { length document.now < 2 ^ 32 }
-    ensures touching { (to : ℕ) → filter (touches from to) result ≡ filter (touches from to) (lexemes_of document.now) }
+    requires { length document.now.text < 2 ^ 32 }
+    ensures touching { (to : ℕ) → filter (touches from to) result ≡ filter (touches from to) (lexemes_of document.now.text) }
     ensures within { AreWithin result }
 {
     if from == 0 {
@@ -272,8 +272,8 @@ fn fill_faults(
 
 /// All faults of a document.
 fn faults_within(document: &Document) -> Faults<'_>
-    requires { length document.now < 2 ^ 32 }
-    ensures all { result ≡ faults_of document.now }
+    requires { length document.now.text < 2 ^ 32 }
+    ensures all { result ≡ faults_of document.now.text }
     ensures within { AreWithin result }
 {
     document.faults()

@@ -33,7 +33,7 @@ impl DocumentSlot {
     pub fn take(&mut self, alloc: Global) -> Box<Document>
         requires { IsSome self.old.handle.held }
         ensures document { self.old.handle.held ≡ Some result.value }
-        ensures short { length result.value < 2 ^ 32 }
+        ensures short { length result.value.text < 2 ^ 32 }
         ensures none { IsNone self.new.handle.held }
     {
         let full = replace(&mut self.handle, Handle::none(alloc));
@@ -44,7 +44,7 @@ impl DocumentSlot {
     /// Puts a document in.
     pub fn put(&mut self, document: Box<Document>)
         requires none { IsNone self.old.handle.held }
-        requires short { length document.value < 2 ^ 32 }
+        requires short { length document.value.text < 2 ^ 32 }
         ensures { self.new.handle.held ≡ Some document.value }
     {
         replace(&mut self.handle, Handle::of(Loose::of(document))).discard();

@@ -1,10 +1,10 @@
 //! Fills the caller's buffers with the lexemes of a text, as the lexer yields them.
 
-ghost use Rattle.std.specs.Prelude.{◌≡◌, ◌<◌, ◌≤◌, ◌+◌, ◌^◌, ℕ, None, Some, IfSome, IfNone, false, length, take};
+ghost use Rattle.std.specs.Prelude.{◌≡◌, ◌<◌, ◌≤◌, ◌+◌, ◌-◌, ◌^◌, ℕ, None, Some, IfSome, IfNone, false, length, take};
 ghost use Rattle.starlark_base.specs.Sources.{SourceFile};
 ghost use Rattle.starlark_c.specs.Endings.{IsText, lexemes_of};
 ghost use Rattle.starlark_c.specs.Inner.Filling.{EndsAtFault, EndsByFault, EndsWithCutPoint, IsCutPoint, IsLastStop, IsOverflow, IsStopped, IsWanted, MayStop, Puts, PutsNext, put, wanted_by};
-ghost use Rattle.starlark_c.specs.LastCuts.{IsCutIn, is_without_margin};
+ghost use Rattle.starlark_c.specs.LastCuts.{IsCutIn, HasNoCut, is_without_margin};
 ghost use Rattle.starlark_c.specs.Kinds.{token_number};
 ghost use Rattle.starlark_c.specs.Records.{fault_bytes, value_bytes, values};
 ghost use Rattle.starlark_grammar.specs.Reading.{outcome};
@@ -280,8 +280,9 @@ fn count_piece(text: &str, is_front: bool, lexer: &mut Lexer<'_>, passed: Filled
     requires same { lexer.old.text ≡ text.now }
     requires going { lexer.old.has_ended ≡ false }
     requires few { lexer.old.yielded_count ≤ length (lexemes_of lexer.old.text) }
+    requires uncut { HasNoCut is_front lexer.old.text lexer.old.yielded_count }
     requires counted { passed ≡ wanted_by lexer.old.yielded_count (length (values (take lexer.old.yielded_count (lexemes_of lexer.old.text)))) }
-    ensures { IfSome result (IsWanted lexer.old.text lexer.old.yielded_count) }
+    ensures { IfSome result (IsWanted lexer.old.text is_front lexer.old.yielded_count) }
 {
     let mut passed = passed;
     while let Some(item) = lexer.next() {
@@ -312,8 +313,10 @@ fn count_first_piece(
     requires same { lexer.old.text ≡ text.now }
     requires going { lexer.old.has_ended ≡ false }
     requires few { lexer.old.yielded_count ≤ length (lexemes_of lexer.old.text) }
+    requires known { KnowsCut lexer.old.text lexer.old.yielded_count lexer.old.cut }
+    requires uncut { HasNoCut is_front lexer.old.text (lexer.old.yielded_count - 1) }
     requires counted { passed ≡ wanted_by lexer.old.yielded_count (length (values (take lexer.old.yielded_count (lexemes_of lexer.old.text)))) }
-    ensures { IfSome result (IsWanted lexer.old.text lexer.old.yielded_count) }
+    ensures { IfSome result (IsWanted lexer.old.text is_front lexer.old.yielded_count) }
 {
     if cut_of(text, is_front, lexer).is_some() {
         return Some(passed);
@@ -342,8 +345,10 @@ fn overflow(text: &str, lexer: &mut Lexer<'_>, progress: FillState, passed: Fill
     requires same { lexer.old.text ≡ text.now }
     requires going { lexer.old.has_ended ≡ false }
     requires few { lexer.old.yielded_count ≤ length (lexemes_of text.now) }
+    requires known { KnowsCut lexer.old.text lexer.old.yielded_count lexer.old.cut }
     requires counted { passed ≡ wanted_by lexer.old.yielded_count (length (values (take lexer.old.yielded_count (lexemes_of text.now)))) }
     requires stop { (yielded : ℕ) × IsCutPoint text.now yielded progress.stop }
+    requires last { IsLastStop text.now (lexer.old.yielded_count - 1) progress.stop }
     ensures { IsOverflow text.now lexer.old.yielded_count progress result }
 {
     if let Some(ending) = end_at_stop(text, progress) {

@@ -1,23 +1,24 @@
 //! A document on the heap, whose pointer C keeps.
 
-ghost use Rattle.std.specs.Prelude.{◌≡◌, ℕ, List, IsSome, IsNone};
+ghost use Rattle.std.specs.Prelude.{◌≡◌, IsSome, IsNone};
 ghost use Rattle.std.specs.declared.option.Option.{Option};
 ghost use Rattle.std.specs.declared.option.Option.TheVariants.{None, Some};
 ghost use Rattle.starlark_c.specs.HeldDocuments.{document_coded, held_at};
+ghost use Rattle.starlark_document.specs.Documents.{DocumentView};
 
 use crate::loose::Loose;
 use starlark_document::Document;
 use std::alloc::Global;
 use std::marker::Model;
 
-/// A document on the heap, or none. In a contract `held` is the text of the document.
+/// A document on the heap, or none. In a contract `held` is the document.
 ///
 /// To C it is one pointer. It isn't `Drop`, so a document that is lost is an error.
 #[repr(C)]
 pub struct Handle {
     at: *mut u8,
     alloc: Global,
-    pub ghost held: { Option (List ℕ) } by { document_coded },
+    pub ghost held: { Option DocumentView } by { document_coded },
 }
 
 impl Model for Handle {

@@ -1,5 +1,5 @@
 -- What lexing texts one after another takes, and lexers that no item has ended.
-use Rattle.std.proofs.Common.{◌≡◌, ◌≤◌, ◌<◌, ◌+◌, ◌||◌, ℕ, zero, suc, Bool, true, false, arith, refl, sym, subst, inl, inr, Option, None, Ok, Err, Some}
+use Rattle.std.proofs.Common.{◌≡◌, ◌≤◌, ◌<◌, ◌+◌, ◌-◌, ◌||◌, ℕ, zero, suc, Bool, true, false, arith, refl, sym, subst, inl, inr, Option, None, Ok, Err, Some}
 use Rattle.std.proofs.Math.Nat.{add-mul, le-mul_of_pos_right, min-eq_left, min-eq_right, mul-zero}
 use Rattle.std.proofs.lemmas.Bool.{cases_lt}
 use Rattle.std.proofs.lemmas.Nat.{mul-le}
@@ -51,18 +51,28 @@ so_far_more len longer rest first second order inside some is more = record {
   paid = paid_sum first second is.paid more.paid;
 }
 
+-- some of a text is left, where not all of it was cut off
+pub some_left : (all len rest : ℕ) → rest ≡ all - len → 0 < all → (0 < len → len < all) → 0 < rest
+some_left all zero rest is some begun = omega (arith, is, some)
+some_left all (suc len) rest is some begun = let less = begun (omega arith) in omega (arith, is, less)
+
 -- the last text
-pub part_cost : (len rest : ℕ) (first second : LexingCost) → rest ≤ len → IsCostSoFar len first → IsTextCost rest second → (second.starts ≡ 1 → rest ≤ second.reads) → IsPartCost len (cost_sum first second)
-part_cost len rest first second inside is more whole = record {
+pub part_cost : (len rest : ℕ) (first second : LexingCost) → rest ≤ len → (0 < len → 0 < rest) → IsCostSoFar len first → IsTextCost rest second → (second.starts ≡ 1 → rest ≤ second.reads) → IsPartCost len (cost_sum first second)
+part_cost len rest first second inside left is more whole = record {
   most = most_sum len first second is.most (omega (arith, more.lexed, inside)) more.some;
   few = omega (arith, is.few, more.few, more.lexed);
   paid = paid_sum first second is.paid more.paid;
+  some = λ all. by (cases_lt 1 second.starts) (left all);
   least = λ one.
       let none : first.starts ≡ 0 = omega (arith, one, more.some) in
       let nothing : first.lexed ≤ 0 * len = subst (λ n. first.lexed ≤ n * len) none is.most in
       let read = whole (omega (arith, one, more.some)) in
       omega (arith, nothing, read, more.lexed);
 }
+  where
+    by : (1 < second.starts) ⊎ (second.starts ≤ 1) → 0 < rest → 0 < (cost_sum first second).reads
+    by (inl again) some = omega (arith, again, more.read)
+    by (inr once) some = omega (arith, some, whole (omega (arith, once, more.some)))
 
 -- the reads of a lexer that no item has ended are within the bound
 pub reads_on : (text : Text) (fault_count reads : ℕ) (item : Result (ℕ × Token × ℕ) (OrMemory (Diagnosed ErrorKind))) → is_memory (Some item) ≡ false → HasReadOn text fault_count (Some item) reads → AreReadsOn text fault_count reads

@@ -2,7 +2,7 @@
 use Rattle.std.proofs.Common.{◌≡◌, ℕ, zero, suc, ◌+◌, ◌≤◌, ◌<◌, ◌^◌, ◌↔◌, List, [], ◌∷◌, ◌++◌, map, length, take, get_or, refl, ap, ◌∙◌, sym, subst, arith, add-one, Some, slice_get, slice_index, Result, Ok, Err, OnOk, OnErr}
 use Rattle.std.proofs.Math.Nat.{lt_of_not-le}
 use Rattle.std.specs.Str.{IsCharBoundary}
-use Rattle.starlark_document.specs.Documents.{AreEdits, IsEdit, IsRange, IsStop, edit_view, edited, text_after}
+use Rattle.starlark_document.specs.Documents.{AreEdits, DocumentView, IsEdit, IsRange, IsStop, edit_view, edited, text_after}
 use Rattle.starlark_document.specs.declared.document.Change.{Change}
 use Rattle.starlark_base.specs.declared.edit.Edit.{Edit}
 use Rattle.starlark_document.specs.declared.document.EditError.{EditError}
@@ -82,6 +82,11 @@ made_more text old new edits at none result change less are after is changes bad
 
 error_is : (result : Result Change EditError) (first second : EditError) → result ≡ Err first → result ≡ Err second → first ≡ second
 error_is result first second e f = cc
+
+-- a document that is as it was has the text that it had
+pub same_text : (result : Result Change EditError) (old new : DocumentView) → OnErr result (new ≡ old) → OnErr result (new.text ≡ old.text)
+same_text (Ok change) old new same = tt
+same_text (Err error) old new same = ap (λ (d : DocumentView). d.text) same
 
 -- … or refused.
 pub stopped : (text old new : Text) (edits : List Edit) (at : ℕ) (none : Edit) (result : Result Change EditError) (error : EditError) → at < length edits

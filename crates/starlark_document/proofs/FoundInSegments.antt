@@ -28,7 +28,7 @@ pub map_moved : {A : Type 0} (a b : ℕ) (xs : List (Spanned A)) → map (moved 
 map_moved a b [] = refl
 map_moved a b (x ∷ xs) = rw (moved_both a b (a + b) x refl, map_moved a b xs) refl
 
-map_shown : (n : ℕ) (lexemes : List Lexeme) → map shown_lexeme (map (moved n) lexemes) ≡ map (moved n) (map shown_lexeme lexemes)
+pub map_shown : (n : ℕ) (lexemes : List Lexeme) → map shown_lexeme (map (moved n) lexemes) ≡ map (moved n) (map shown_lexeme lexemes)
 map_shown n [] = refl
 map_shown n (lexeme ∷ lexemes) = ap (λ ls. shown_lexeme (moved n lexeme) ∷ ls) (map_shown n lexemes)
 
@@ -93,7 +93,7 @@ faults_laid segments laid = sym (unmoved (faults_of (text_of segments))) ∙ fau
 
 -- What is found in a segment lies in it
 
-all_without : (P : Lexeme → Type 0) (lexemes : List Lexeme) → AllByRecursion P lexemes → AllByRecursion P (without_last_newline lexemes)
+pub all_without : (P : Lexeme → Type 0) (lexemes : List Lexeme) → AllByRecursion P lexemes → AllByRecursion P (without_last_newline lexemes)
 all_without P [] all = tt
 all_without P (lexeme ∷ lexemes) all = go (has_newline lexemes) (is_newline lexeme.node) refl refl (all_without P lexemes all.1)
   where
@@ -103,7 +103,7 @@ all_without P (lexeme ∷ lexemes) all = go (has_newline lexemes) (is_newline le
     go false true e f more = rw (e, f) all.1
     go false false e f more = rw (e, f) all
 
-lexemes_inside : (text : Text) → AllByRecursion (IsInside text) (lexemes_in (found text))
+pub lexemes_inside : (text : Text) → AllByRecursion (IsInside text) (lexemes_in (found text))
 lexemes_inside text = order_inside text 0 (lexemes_in (found text)) (found_lexemes_in_order text)
 
 abbrev IsPlacedIn : ℕ → ℕ × Token × ℕ → Type 0

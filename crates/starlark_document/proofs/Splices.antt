@@ -22,7 +22,7 @@ use Rattle.starlark_document.specs.declared.document.Change.{Change}
 use Rattle.starlark_grammar.specs.Tokens as grammar
 use Rattle.starlark_document.specs.Inner.LexedFronts.{IsFirstSegment}
 use Rattle.starlark_document.specs.Inner.Costs.{IsPartCost}
-use Rattle.starlark_document.specs.Inner.EditedParts.{IsLexedPart, IsEditedPart, IsPlaceIn, IsReplaced}
+use Rattle.starlark_document.specs.Inner.EditedParts.{AreTakenIn, IsLexedPart, IsEditedPart, IsPlaceIn, IsReplaced}
 use Rattle.starlark_document.specs.Inner.Segments.{AreLaid, AreOpen, Follows, text_in, text_of}
 use Rattle.starlark_document.specs.declared.edited_parts.LexedPart.{LexedPart}
 use Rattle.starlark_document.specs.declared.edited_parts.EditedPart.{EditedPart}
@@ -238,7 +238,7 @@ plain_front text zero some plain = absurd (omega arith)
 plain_front [] (suc n) some plain = cc
 plain_front (b ∷ bs) (suc n) some plain = plain
 
-some_plain : (text : Text) → begins_plainly text ≡ true → 0 < length text
+pub some_plain : (text : Text) → begins_plainly text ≡ true → 0 < length text
 unfolding begins_plainly
 some_plain [] plain = absurd (the_false plain)
   where
@@ -291,11 +291,12 @@ module _ (segments : List Segment) (part : EditedPart) (text : Text) (end len re
       })
 
   -- where it ends, all is lexed
-  pub lexing_ends : (more : LexedPart) → (is_last ≡ true → end ≡ length segments) → (is_last ≡ false → end < length segments)
+  pub lexing_ends : (more : LexedPart) → (is_last ≡ true → end ≡ length segments) → (is_last ≡ false → end < length segments) → AreTakenIn segments part end
       → more.segments.items ≡ done ++ (x ∷ []) → more.end ≡ end → more.len ≡ len + x.len → len + x.len ≡ length text → more.len ≤ more.cost.lexed → IsPartCost more.len more.cost → IsLexedPart segments part more
-  lexing_ends more last inner is_more at_end lens all least cost = record {
+  lexing_ends more last inner taken_in is_more at_end lens all least cost = record {
     order = omega (arith, is.order, at_end);
     within = omega (arith, is.within, at_end);
+    taken_in = subst (AreTakenIn segments part) (sym at_end) taken_in;
     len = lens ∙ len_more ∙ ap (λ (xs : List Segment). length (text_of xs)) (sym is_more);
     text = sym is.same ∙ ap (λ (t : Text). t ++ text_of (drop end segments)) whole ∙ ap (λ (n : ℕ). text_of more.segments.items ++ text_of (drop n segments)) (sym at_end);
     inner = λ less. subst (AreOpen (nat_eq part.first.index 0)) (sym is_more) (by_inner is_last refl (omega (arith, less, at_end)));
@@ -424,6 +425,11 @@ module _ (segments : List Segment) (new : Text) (part : EditedPart) (lexed : Lex
     pub old_end_fits : length new ≤ part.first.begin + lexed.len + length (text_of segments)
     old_end_fits = omega (arith, new_len, old_len)
 
+    pub replaced_end : part.first.begin + lexed.len + length (text_of segments) - length new ≡ length (text_of (take lexed.end segments))
+    replaced_end =
+        let before = parts.replaced.begin in
+        omega (arith, old_len, new_len, ap length (text_split lexed.end segments), length-append (text_of (take lexed.end segments)) (text_of (drop lexed.end segments)))
+
     pub replaced_change : (items : List Segment) (change : Change) → items ≡ splice segments part.first.index lexed.end lexed.segments.items → change.begin ≡ part.first.begin → change.new_end ≡ part.first.begin + lexed.len
         → change.old_end ≡ part.first.begin + lexed.len + length (text_of segments) - length new → change.lexed ≡ lexed.cost.lexed → change.starts ≡ lexed.cost.starts → change.reads ≡ lexed.cost.reads → IsChange (text_of segments) (text_of items) change
     replaced_change items change is_items begin new_end old_end read starts reads = record {
@@ -438,6 +444,7 @@ module _ (segments : List Segment) (new : Text) (part : EditedPart) (lexed : Lex
       most_lexed = rw (read, starts, new_len_is) is.cost.most;
       most_starts = omega (arith, read, starts, is.cost.few);
       most_reads = omega (arith, read, starts, reads, is.cost.paid);
+      some_reads = λ less. omega (arith, reads, is.cost.some (omega (arith, begin, new_end, less)));
       least_reads = λ one. omega (arith, read, reads, is.cost.least (sym starts ∙ one));
     }
       where

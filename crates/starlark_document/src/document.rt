@@ -1,11 +1,11 @@
 //! Documents: texts that stay lexed while they are edited.
 
-ghost use Rattle.std.specs.Prelude.{◌≡◌, ◌≤◌, ◌<◌, ◌^◌, ◌↔◌, ◌==◌, Err, IfErr, IfOk, IfSome, IsNone, IsTrue, OnErr, OnOk, Some, drop, length, map, slice_range, string_bytes, true, ℕ};
+ghost use Rattle.std.specs.Prelude.{◌≡◌, ◌≤◌, ◌<◌, ◌^◌, ◌↔◌, ◌==◌, Err, IfErr, IfOk, IfSome, IsNone, IsTrue, OnErr, OnOk, Some, drop, length, map, slice_range, string_bytes, take, true, ℕ};
 ghost use Rattle.std.specs.List.{prefix_len, splice};
 ghost use Rattle.std.specs.Str.{IsCharBoundary};
 ghost use Rattle.starlark_base.specs.Lines.{line_count};
 ghost use Rattle.starlark_base.specs.Refusals.{IsRefused};
-ghost use Rattle.starlark_document.specs.Documents.{AreEdits, IsChange, IsRange, IsStop, edit_view, edited, ends_by, faults_of, lexemes_of, text_after};
+ghost use Rattle.starlark_document.specs.Documents.{AreEdits, IsChange, IsLocal, IsNew, IsRange, IsStop, edit_view, edited, ends_by, faults_of, lexemes_of, text_after};
 ghost use Rattle.starlark_document.specs.Inner.EditedParts.{IsLexedPart, IsEditedPart};
 ghost use Rattle.starlark_document.specs.Inner.Segments.{AreLaid, text_of};
 ghost use Rattle.starlark_document.specs.Utf16Places.{StandsAt, place_of};
@@ -28,7 +28,7 @@ use std::{fmt, io};
 /// A text that stays lexed while it is edited.
 ///
 /// Its lexemes and faults are those of lexing the whole text on after its faults, after any edits.
-/// In a contract a document is its text.
+/// In a contract a document is its text, with the segments in which it is lexed.
 #[derive(Drop)]
 pub struct Document {
     alloc: Global,
@@ -40,12 +40,12 @@ pub struct Document {
 
 impl Model for Document {
     ghost use Rattle.std.specs.Prelude.{◌≡◌, ◌<◌, ◌^◌, length, true};
-    ghost use Rattle.starlark_document.specs.Inner.Segments.{AreLaid, text_of};
-    ghost use Rattle.starlark_grammar.specs.Words.{Text};
+    ghost use Rattle.starlark_document.specs.Documents.{DocumentView};
+    ghost use Rattle.starlark_document.specs.Inner.Segments.{AreLaid, document_of, text_of};
 
-    ghost Value = { Text };
+    ghost Value = { DocumentView };
 
-    ghost view = { λ document. text_of document.segments.items };
+    ghost view = { λ document. document_of document.least_len document.segments.items };
 
     ghost invariant = { λ document. AreLaid true document.segments.items
         × (document.len ≡ length (text_of document.segments.items))
@@ -158,8 +158,11 @@ fn replace(
     requires fits { (old_len < 2 ^ 32) × (len < 2 ^ 32) }
     ensures text { OnOk result ((new : Text) (part : EditedPart) → IsEditedPart segments.old.items new part → part.first ≡ first → IsLexedPart segments.old.items part lexed → text_of segments.new.items ≡ new) }
     ensures laid { AreLaid true segments.new.items }
+    ensures items { OnOk result (segments.new.items ≡ splice segments.old.items first.index lexed.end lexed.segments.items) }
     ensures change { IfOk result (IsChange (text_of segments.old.items) (text_of segments.new.items)) }
-    ensures refused { OnErr result (text_of segments.new.items ≡ text_of segments.old.items) }
+    ensures begin { IfOk result (λ change. change.begin ≡ first.begin) }
+    ensures old_end { IfOk result (λ change. change.old_end ≡ length (text_of (take lexed.end segments.old.items))) }
+    ensures refused { OnErr result (segments.new.items ≡ segments.old.items) }
 {
     let new_end = first.begin + lexed.len;
     let change = Change {
@@ -179,7 +182,7 @@ impl Document {
     ///
     /// Fails where the text has more than 4294967295 bytes, and else where memory runs out.
     pub fn new(alloc: Global, text: &str) -> Result<Document, OrMemory<SourceTooLong>>
-        ensures text { IfOk result (λ document. document ≡ text.now) }
+        ensures document { IfOk result (IsNew 1280 text.now) }
         ensures too_long { IsRefused result ↔ (2 ^ 32 ≤ length text.now) }
     {
         Document::with_segment_len(alloc, text, SEGMENT_LEN)
@@ -193,7 +196,7 @@ impl Document {
         text: &str,
         least_len: usize,
     ) -> Result<Document, OrMemory<SourceTooLong>>
-        ensures text { IfOk result (λ document. document ≡ text.now) }
+        ensures document { IfOk result (IsNew least_len text.now) }
         ensures too_long { IsRefused result ↔ (2 ^ 32 ≤ length text.now) }
     {
         if !is_source_len(text.len()) {
@@ -217,21 +220,21 @@ impl Document {
 
     /// Length of the text in bytes.
     pub fn len(&self) -> usize
-        ensures { result ≡ length self.now }
+        ensures { result ≡ length self.now.text }
     {
         self.len
     }
 
     /// Whether the text is empty.
     pub fn is_empty(&self) -> bool
-        ensures { result ≡ (length self.now == 0) }
+        ensures { result ≡ (length self.now.text == 0) }
     {
         self.len == 0
     }
 
     /// Whether an offset lies in the text, or at its end, and not inside a character.
     pub fn is_char_boundary(&self, at: usize) -> bool
-        ensures { IsTrue result ↔ IsCharBoundary self.now at }
+        ensures { IsTrue result ↔ IsCharBoundary self.now.text at }
     {
         is_boundary_in(&self.segments, segment_at(&self.segments, at), at)
     }
@@ -241,11 +244,12 @@ impl Document {
     /// Fails where the range isn't one of the text, where the text would become too long, and where
     /// memory runs out. After an error the document is as it was.
     pub fn edit(&mut self, from: usize, to: usize, text: &str) -> Result<Change, EditError>
-        ensures text { OnOk result (self.new ≡ edited from to text.now self.old) }
-        ensures change { IfOk result (IsChange self.old self.new) }
+        ensures text { OnOk result (self.new.text ≡ edited from to text.now self.old.text) }
+        ensures change { IfOk result (IsChange self.old.text self.new.text) }
+        ensures local { IfOk result (IsLocal from to self.old self.new) }
         ensures refused { OnErr result (self.new ≡ self.old) }
-        ensures range { (result ≡ Err EditError.BadRange) ↔ (IsRange self.old from to → ⊥) }
-        ensures too_long { (result ≡ Err EditError.TooLong) ↔ (IsRange self.old from to × (2 ^ 32 ≤ length (edited from to text.now self.old))) }
+        ensures range { (result ≡ Err EditError.BadRange) ↔ (IsRange self.old.text from to → ⊥) }
+        ensures too_long { (result ≡ Err EditError.TooLong) ↔ (IsRange self.old.text from to × (2 ^ 32 ≤ length (edited from to text.now self.old.text))) }
     {
         let Some(range) = range_in(&self.segments, from, to) else {
             return Err(EditError::BadRange);
@@ -268,10 +272,10 @@ impl Document {
     /// Stops at the first one that `edit` refuses, and fails with its index. After an error the
     /// document has the text after the edits before that one.
     pub fn edit_all(&mut self, edits: &[Edit<'_>]) -> Result<usize, (usize, EditError)>
-        ensures text { OnOk result (self.new ≡ text_after (map edit_view edits.now) self.old) }
-        ensures fit { OnOk result (AreEdits self.old (map edit_view edits.now)) }
+        ensures text { OnOk result (self.new.text ≡ text_after (map edit_view edits.now) self.old.text) }
+        ensures fit { OnOk result (AreEdits self.old.text (map edit_view edits.now)) }
         ensures count { IfOk result (λ count. count ≡ length edits.now) }
-        ensures stopped { IfErr result (λ failure. IsStop self.old (map edit_view edits.now) failure.0 failure.1 self.new) }
+        ensures stopped { IfErr result (λ failure. IsStop self.old.text (map edit_view edits.now) failure.0 failure.1 self.new.text) }
     {
         for (index, edit) in edits.iter().enumerate() {
             if let Err(error) = self.edit(edit.from, edit.to, edit.text) {
@@ -283,14 +287,14 @@ impl Document {
 
     /// All lexemes of the text.
     pub fn lexemes(&self) -> Lexemes<'_>
-        ensures { result ≡ lexemes_of self.now }
+        ensures { result ≡ lexemes_of self.now.text }
     {
         Lexemes::new(&self.segments, 0, 0)
     }
 
     /// The lexemes of the text from the first one that ends after byte `at` on.
     pub fn lexemes_from(&self, at: usize) -> Lexemes<'_>
-        ensures { result ≡ drop (prefix_len (ends_by at) (lexemes_of self.now)) (lexemes_of self.now) }
+        ensures { result ≡ drop (prefix_len (ends_by at) (lexemes_of self.now.text)) (lexemes_of self.now.text) }
     {
         let place = segment_at(&self.segments, at);
         let passed = passed_len(&self.segments[place.index], at - place.begin);
@@ -299,14 +303,14 @@ impl Document {
 
     /// All faults of the text.
     pub fn faults(&self) -> Faults<'_>
-        ensures { result ≡ faults_of self.now }
+        ensures { result ≡ faults_of self.now.text }
     {
         Faults::new(&self.segments)
     }
 
     /// Number of lines of the text: one more than it has LF.
     pub fn line_count(&self) -> usize
-        ensures { result ≡ line_count self.now }
+        ensures { result ≡ line_count self.now.text }
     {
         newlines_in(&self.segments) + 1
     }
@@ -314,8 +318,8 @@ impl Document {
     /// The place of an offset: its line, and its columns in characters and in units of UTF-16.
     /// `None` where it is no character boundary of the text.
     pub fn place(&self, at: usize) -> Option<Place>
-        ensures place { IfSome result (λ place. place ≡ place_of self.now at) }
-        ensures none { IsNone result ↔ (IsCharBoundary self.now at → ⊥) }
+        ensures place { IfSome result (λ place. place ≡ place_of self.now.text at) }
+        ensures none { IsNone result ↔ (IsCharBoundary self.now.text at → ⊥) }
     {
         place_in(&self.segments, at)
     }
@@ -323,15 +327,16 @@ impl Document {
     /// The offset of a line and a column in units of UTF-16, both from 0. `None` where no character
     /// boundary stands there.
     pub fn offset_at_utf16(&self, line: usize, column: usize) -> Option<usize>
-        ensures { (at : ℕ) → (result ≡ Some at) ↔ StandsAt self.now line column at }
+        ensures { (at : ℕ) → (result ≡ Some at) ↔ StandsAt self.now.text line column at }
     {
         offset_in_segments(&self.segments, line, column)
     }
 
     /// The text from byte `from` to byte `to`; `None` where the range isn't one of the text.
     pub fn slice(&self, from: usize, to: usize) -> Result<Option<String>, AllocError>
-        ensures text { IfOk result (λ found. IfSome found (λ text. string_bytes text ≡ slice_range self.now from to)) }
-        ensures none { IfOk result (λ found. IsNone found ↔ (IsRange self.now from to → ⊥)) }
+        ensures text { IfOk result (λ found. IfSome found (λ text. string_bytes text ≡ slice_range self.now.text from to)) }
+        ensures none { IfOk result (λ found. IsNone found ↔ (IsRange self.now.text from to → ⊥)) }
+        ensures memory { OnErr result (IsRange self.now.text from to) }
     {
         let Some(SegmentRange { first, last }) = range_in(&self.segments, from, to) else {
             return Ok(None);
@@ -349,7 +354,7 @@ impl Document {
     /// first write that fails or takes nothing, which isn't tried again. Then a beginning of the text
     /// is written.
     pub fn write_to<W: WriteDevice>(&self, writer: &mut W) -> io::Result<()>
-        ensures { WritesText W.calls writer.old writer.new self.now result }
+        ensures { WritesText W.calls writer.old writer.new self.now.text result }
     {
         write_texts(&self.segments, writer)
     }

@@ -1,11 +1,12 @@
 //! Parts of a document: the segments that an edit touches, with their text after it.
 
-ghost use Rattle.std.specs.Prelude.{◌≡◌, ◌≤◌, ◌<◌, ◌+◌, ◌++◌, ◌^◌, ◌↔◌, Some, IfOk, IfSome, IsNone, IsTrue, OnOk, length, string_bytes, true};
+ghost use Rattle.std.specs.Prelude.{◌≡◌, ◌≤◌, ◌<◌, ◌+◌, ◌++◌, ◌^◌, ◌↔◌, ◌⊎◌, Some, IfOk, IfSome, IsNone, IsTrue, OnOk, false, length, string_bytes, true};
 ghost use Rattle.std.specs.List.{slice_get};
 ghost use Rattle.std.specs.Str.{IsCharBoundary};
 ghost use Rattle.starlark_document.specs.Documents.{IsRange, edited};
-ghost use Rattle.starlark_document.specs.Inner.EditedParts.{IsLexedPart, IsEditedPart, IsPlaceIn, IsRangeIn, IsReplaced};
+ghost use Rattle.starlark_document.specs.Inner.EditedParts.{AreSized, IsLexedPart, IsEditedPart, IsPlaceIn, IsRangeIn, IsReplaced, IsTouched};
 ghost use Rattle.starlark_document.specs.Inner.Segments.{AreLaid, HaveLens, text_of};
+ghost use Rattle.starlark_grammar.specs.Joining as spec;
 ghost use Rattle.starlark_grammar.specs.Words.{Text};
 ghost use Rattle.starlark_devices.specs.Calls.{WritesText};
 
@@ -59,6 +60,7 @@ pub fn end_at(segments: &[Segment], from: SegmentPlace, to: usize) -> SegmentPla
     ensures place { IsPlaceIn segments.now result }
     ensures later { from.index ≤ result.index }
     ensures before { result.begin ≤ to }
+    ensures near { from.index < result.index → result.begin < to }
     ensures reach { to ≤ length (text_of segments.now) → (segment : Segment) → slice_get segments.now result.index ≡ Some segment → to ≤ result.begin + segment.len }
 {
     let mut place = from;
@@ -115,6 +117,8 @@ fn touched_part(
     ensures part { IfOk result (IsReplaced segments.now (edited from to inserted.now (text_of segments.now))) }
     ensures before { IfOk result (λ part. part.first.begin ≤ from) }
     ensures some { IfOk result (λ part. part.first.index < part.end) }
+    ensures first { IfOk result (λ part. part.first ≡ range.first) }
+    ensures end { IfOk result (λ part. part.end ≡ range.last.index + 1) }
 {
     let SegmentRange { first, last } = range;
     let front = &segments[first.index].content.text.as_str()[..from - first.begin];
@@ -141,6 +145,8 @@ fn with_earlier(
     ensures part { IfOk result (λ more. (whole : Text) → IsReplaced segments.now whole part → IsEditedPart segments.now whole more) }
     ensures before { IfOk result (λ more. more.first.begin ≤ part.first.begin) }
     ensures some { IfOk result (λ more. part.first.index < part.end → more.first.index < more.end) }
+    ensures first { IfOk result (λ more. (more.first.index ≡ part.first.index) ⊎ ((more.first.index + 1 ≡ part.first.index) × (spec.begins_plainly (string_bytes part.text) ≡ false))) }
+    ensures end { IfOk result (λ more. more.end ≡ part.end) }
 {
     if part.first.index == 0 || begins_plainly(part.text.as_bytes()) {
         return Ok(part);
@@ -172,6 +178,7 @@ pub fn part_of_edit(
     requires range { IsRangeIn segments.now from to range }
     ensures part { IfOk result (IsEditedPart segments.now (edited from to inserted.now (text_of segments.now))) }
     ensures some { IfOk result (λ part. part.first.index < part.end) }
+    ensures touched { IfOk result (IsTouched segments.now (edited from to inserted.now (text_of segments.now)) range) }
 {
     let part = touched_part(alloc, segments, range, from, to, inserted)?;
     with_earlier(alloc, segments, part)
@@ -215,7 +222,8 @@ pub fn lex_part(
     least_len: usize,
 ) -> Result<LexedPart, AllocError>
     requires part { (whole : Text) × IsEditedPart segments.now whole part × (length whole < 2 ^ 32) }
-    ensures { IfOk result (IsLexedPart segments.now part) }
+    ensures lexed { IfOk result (IsLexedPart segments.now part) }
+    ensures sized { IfOk result (λ lexed. AreSized least_len lexed.segments.items) }
 {
     let mut text = part.text;
     let mut lexed = LexedPart {

@@ -4,6 +4,7 @@ ghost use Rattle.starlark_grammar.specs.Joining as spec;
 ghost use Rattle.std.specs.Prelude.{◌≡◌, ◌≤◌, ◌<◌, ◌++◌, ◌||◌, ◌==◌, ◌∷◌, [], IfOk, List, IsSome, OnOk, Some, drop, length, false, not, true};
 ghost use Rattle.std.specs.Str.{IsCharBoundary, byte};
 ghost use Rattle.starlark_base.specs.Sources.{SourceFile};
+ghost use Rattle.starlark_document.specs.Documents.{is_line_end, may_end};
 ghost use Rattle.starlark_document.specs.Inner.LexedFronts.{IsLexedFront, is_dedent_item, is_dedent_view};
 ghost use Rattle.starlark_document.specs.Inner.Segments.{IsPlaced};
 ghost use Rattle.starlark_grammar.specs.Margins.{is_blank, is_lf};
@@ -45,7 +46,7 @@ pub fn begins_plainly(text: &[u8]) -> bool
 /// least `least_len` bytes.
 fn can_end(text: &str, at: usize, least_len: usize) -> bool
     requires { at ≤ length text.now }
-    ensures { result ≡ true → spec.begins_plainly (drop at text.now) ≡ true }
+    ensures { result ≡ may_end least_len text.now at }
 {
     at >= least_len && text.len() - at >= least_len && begins_plainly(&text.as_bytes()[at..])
 }
@@ -86,6 +87,13 @@ fn placed_fault(exception: EvalException) -> PlacedFault
 /// Number of lexemes that a list has room for, at most, after those that it has.
 pub const SPARE_LEXEMES: usize = 4;
 
+/// Whether a lexeme is a `Newline` of some bytes.
+fn ends_line(lexeme: &PlacedToken) -> bool
+    ensures { result ≡ is_line_end (lexeme_view lexeme.now) }
+{
+    lexeme.1.is_newline() && lexeme.0 < lexeme.2
+}
+
 /// What is found in the front of a text.
 #[derive(Drop)]
 pub struct LexedFront {
@@ -108,7 +116,8 @@ impl LexedFront {
         least_len: usize,
         likely_count: usize,
     ) -> Result<LexedFront, AllocError>
-        ensures { IfOk result (λ front. (text : Text) → IsLexedFront text [] front) }
+        ensures front { IfOk result (λ front. (text : Text) → IsLexedFront text [] front) }
+        ensures least { IfOk result (λ front. front.least_len ≡ least_len) }
     {
         Ok(LexedFront {
             lexemes: Vec::with_capacity(alloc, likely_count.saturating_add(SPARE_LEXEMES))?,
@@ -126,8 +135,9 @@ impl LexedFront {
         requires front { (items : List LexerItem) × IsLexedFront text.now items self.old }
         requires cut { self.old.is_cut ≡ true → is_dedent_item (Given (lexeme_view lexeme)) ≡ true }
         ensures front { OnOk result ((items : List LexerItem) → IsLexedFront text.now items self.old → IsLexedFront text.now (items ++ (Given (lexeme_view lexeme) ∷ [])) self.new) }
+        ensures least { self.new.least_len ≡ self.old.least_len }
     {
-        if lexeme.1.is_newline() && lexeme.0 < lexeme.2 {
+        if ends_line(&lexeme) {
             self.line_end = lexeme.2;
             self.is_cut = can_end(text, lexeme.2, self.least_len);
         }
@@ -158,6 +168,7 @@ impl LexedFront {
         ensures front { OnOk result ((file : SourceFile) (next : LexerItem) (items : List LexerItem) → Answers file next item → IsLexedFront text.now items self.old → IsLexedFront text.now (items ++ (next ∷ [])) self.new) }
         ensures going { OnOk result ((left : List LexerItem) → left_after (Some item) left ≡ drop 1 left) }
         ensures memory { OnOk result (is_memory (Some item) ≡ false) }
+        ensures least { self.new.least_len ≡ self.old.least_len }
     {
         match item {
             Ok(lexeme) => self.take_lexeme(text, lexeme),

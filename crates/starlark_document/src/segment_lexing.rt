@@ -1,8 +1,9 @@
 //! Makes segments: lexes a text from the start of a segment on.
 
 ghost use Rattle.std.specs.Prelude.{◌≡◌, ◌≤◌, ◌<◌, ◌+◌, ◌^◌, IfOk, IfSome, IsNone, IsSome, [], count_by, false, length, map, take, true};
+ghost use Rattle.starlark_document.specs.Documents.{EndsWithLine};
 ghost use Rattle.starlark_document.specs.Inner.Costs.{IsTextCost, cost_sum};
-ghost use Rattle.starlark_document.specs.Inner.LexedFronts.{IsFirstSegment, IsLexedFront, IsTakenFront, last_newline_at, without_newline};
+ghost use Rattle.starlark_document.specs.Inner.LexedFronts.{IsFirstSegment, IsLexedFront, IsSized, IsTakenFront, last_newline_at, without_newline};
 ghost use Rattle.std.specs.Str.{IsCharBoundary};
 ghost use Rattle.starlark_document.specs.Inner.Segments.{text_in};
 ghost use Rattle.starlark_base.specs.Places.{is_lf};
@@ -147,9 +148,12 @@ fn whole_segment(
     is_last: bool,
 ) -> Result<Option<Segment>, AllocError>
     requires front { IsLexedFront text.now (all_items text.now) front }
+    requires uncut { front.is_cut ≡ false }
     ensures segment { IfOk result (λ found. IfSome found (IsFirstSegment text.now is_last)) }
+    ensures sized { IfOk result (λ found. IfSome found (IsSized text.now front.least_len)) }
     ensures last { IfOk result (λ found. is_last ≡ true → IsSome found) }
     ensures none { IfOk result (λ found. IsNone found → 0 < length text.now) }
+    ensures unended { IfOk result (λ found. IsNone found → EndsWithLine text.now → ⊥) }
 {
     if is_last {
         return Ok(Some(segment(alloc, text, front)?));
@@ -171,8 +175,10 @@ fn first_segment(
 ) -> Result<Option<Segment>, AllocError>
     requires front { IsTakenFront text.now is_cut front }
     ensures segment { IfOk result (λ found. IfSome found (IsFirstSegment text.now is_last)) }
+    ensures sized { IfOk result (λ found. IfSome found (IsSized text.now front.least_len)) }
     ensures last { IfOk result (λ found. is_last ≡ true → IsSome found) }
     ensures none { IfOk result (λ found. IsNone found → 0 < length text.now) }
+    ensures unended { IfOk result (λ found. IsNone found → EndsWithLine text.now → ⊥) }
     ensures cut { IfOk result (λ found. is_cut ≡ true → IfSome found (λ segment. segment.len < length text.now)) }
 {
     if is_cut {
@@ -192,6 +198,7 @@ fn take_front(
     requires lexer { lexer.old ≡ record { text = text.now; code_map = lexer.old.code_map; left = all_items text.now; fault_count = 0; has_ended = false; reads = 0 } }
     requires front { IsLexedFront text.now [] front.old }
     ensures front { IfOk result (λ is_cut. IsTakenFront text.now is_cut front.new) }
+    ensures least_len { IfOk result (λ is_cut. front.new.least_len ≡ front.old.least_len) }
     ensures reads { IfOk result (λ is_cut. AreReadsOn text.now lexer.new.fault_count lexer.new.reads) }
     ensures least { IfOk result (λ is_cut. is_cut ≡ false → lexer.new.fault_count ≡ 0 → length text.now ≤ lexer.new.reads) }
 {
@@ -201,7 +208,7 @@ fn take_front(
         }
         front.take(text, item)?;
     }
-    Ok(false)
+    Ok(front.is_cut)
 }
 
 /// Lexes a text up to where it can be cut or to its end. Returns whether it can be cut, and what
@@ -215,6 +222,7 @@ fn lex_front(
     requires fits { length text.now < 2 ^ 32 }
     requires front { IsLexedFront text.now [] front.old }
     ensures front { IfOk result (λ found. IsTakenFront text.now found.0 front.new) }
+    ensures least_len { IfOk result (λ found. front.new.least_len ≡ front.old.least_len) }
     ensures cost { IfOk result (λ found. IsTextCost (length text.now) found.1) }
     ensures least { IfOk result (λ found. found.0 ≡ false → found.1.starts ≡ 1 → length text.now ≤ found.1.reads) }
 {
@@ -239,8 +247,10 @@ pub fn lex_segment(
 ) -> Result<Attempt, AllocError>
     requires fits { length text.now < 2 ^ 32 }
     ensures segment { IfOk result (λ found. IfSome found.segment (IsFirstSegment text.now is_last)) }
+    ensures sized { IfOk result (λ found. IfSome found.segment (IsSized text.now least_len)) }
     ensures last { IfOk result (λ found. is_last ≡ true → IsSome found.segment) }
     ensures none { IfOk result (λ found. IsNone found.segment → 0 < length text.now) }
+    ensures unended { IfOk result (λ found. IsNone found.segment → EndsWithLine text.now → ⊥) }
     ensures cost { IfOk result (λ found. IsTextCost (length text.now) found.cost) }
     ensures whole { IfOk result (λ found. IfSome found.segment (λ segment. segment.len ≡ length text.now → found.cost.starts ≡ 1 → length text.now ≤ found.cost.reads)) }
 {

@@ -1,7 +1,7 @@
 -- One more lexeme or fault in the caller's buffers.
 use Rattle.std.specs.Prelude.{◌≡◌, ◌<◌, ◌≤◌, ◌+◌, ◌-◌, ◌⊎◌, ℕ, Bool, true, false, List, [], ◌∷◌, ◌++◌, length, take, drop, Option, Some, None, Result, Ok, Err, ⊤}
 use Rattle.starlark_c.specs.Endings.{AreFirst, Buffers, Ends, capped, lexemes_of}
-use Rattle.starlark_c.specs.LastCuts.{IsCutIn, IsLastCut}
+use Rattle.starlark_c.specs.LastCuts.{IsCutIn, IsFirstPiece, IsLastCut, WantsFirstPiece}
 use Rattle.starlark_c.specs.Records.{fault_bytes, fault_record, record_of, value_bytes, values}
 use Rattle.starlark_c.specs.declared.endings.Ending.{Ending}
 use Rattle.starlark_c.specs.declared.endings.Ending.TheVariants as ending
@@ -95,11 +95,12 @@ PutsNext lexeme old new before after (Ok done) =
 PutsNext lexeme old new before after (Err wanted) =
     HasNoRoom lexeme old.filled before after × (new ≡ old) × (wanted ≡ wanted_with old.filled lexeme.node)
 
--- how much is wanted for the first `count` lexemes of a text and maybe more
-pub record IsWanted (text : Text) (count : ℕ) (wanted : Filled) : Type 0 where
+-- how much is wanted for the first piece of a text, which has the first `count` lexemes and maybe more
+pub record IsWanted (text : Text) (is_front : Bool) (count : ℕ) (wanted : Filled) : Type 0 where
   pub all_lexemes : ℕ
   pub all_bytes : ℕ
   pub first : AreFirst text all_lexemes all_bytes
+  pub piece : IsFirstPiece is_front text all_lexemes all_bytes
   pub more_lexemes : count ≤ all_lexemes
   pub more_bytes : length (values (take count (lexemes_of text))) ≤ all_bytes
   pub needs : wanted ≡ wanted_by all_lexemes all_bytes
@@ -113,7 +114,7 @@ IsStopped text progress end = ⊥
 
 -- how lexing ends where the last of `count` lexemes has no room: at the stop, or with what is wanted
 abbrev pub IsOverflow : Text → (count : ℕ) → FillState → Ending → Type 0
-IsOverflow text count progress (ending.Full wanted) = IsWanted text count wanted × (progress.stop.filled.lexemes ≡ 0)
+IsOverflow text count progress (ending.Full wanted) = IsWanted text progress.stop.is_front count wanted × (progress.stop.filled.lexemes ≡ 0)
 IsOverflow text count progress end = IsStopped text progress end
 
 -- how lexing ends at a fault: with it, or where the text that it names has no room at the stop, or with what is wanted
@@ -134,12 +135,12 @@ abbrev pub IsFilledTo : CutPoint → Ending → Type 0
 IsFilledTo stop (ending.Piece filled next) = (filled ≡ stop.filled) × (0 < stop.filled.lexemes)
 IsFilledTo stop end = ⊤
 
--- the buffers have no room up to any cut after the stop, and full ones have no stop
+-- the buffers have no room up to any cut after the stop; full ones have no stop, and want the first piece
 abbrev pub IsStopAtLastCut : (is_front : Bool) → Text → Buffers → CutPoint → Ending → Type 0
 IsStopAtLastCut is_front text before stop (ending.Memory filled) = ⊤
 IsStopAtLastCut is_front text before stop (ending.NotUtf8 valid) = ⊤
 IsStopAtLastCut is_front text before stop ending.TooLong = ⊤
-IsStopAtLastCut is_front text before stop (ending.Full wanted) = (stop.filled.lexemes ≡ 0) × IsLastCut is_front text before 0
+IsStopAtLastCut is_front text before stop (ending.Full wanted) = (stop.filled.lexemes ≡ 0) × IsLastCut is_front text before 0 × WantsFirstPiece is_front text wanted
 IsStopAtLastCut is_front text before stop end = IsLastCut is_front text before stop.filled.lexemes
 
 -- how lexing some bytes into buffers ends, and the last stop in them

@@ -19,11 +19,12 @@ cost_sum first second = record {
   reads = saturated_sum first.reads second.reads;
 }
 
--- what lexing a text of `len` bytes took: it started at least once, and at most once more than there are bytes
+-- what lexing a text of `len` bytes took: it started at least once, and at most once more than there are bytes, or reads
 pub record IsTextCost (len : ℕ) (cost : LexingCost) : Type 0 where
   pub lexed : cost.lexed ≡ len
   pub some : 0 < cost.starts
   pub few : cost.starts ≤ len + 1
+  pub read : cost.starts ≤ cost.reads + 1
   pub paid : IsPaid cost
 
 -- what lexing texts of some bytes took, each of which lies in `len` bytes
@@ -32,9 +33,10 @@ pub record IsCostSoFar (len : ℕ) (cost : LexingCost) : Type 0 where
   pub few : cost.starts ≤ 2 * cost.lexed
   pub paid : IsPaid cost
 
--- what lexing a part of `len` bytes took; where lexing started once, each byte was read
+-- what lexing a part of `len` bytes took; some byte was read, and where lexing started once, each
 pub record IsPartCost (len : ℕ) (cost : LexingCost) : Type 0 where
   pub most : cost.lexed ≤ cost.starts * len
   pub few : cost.starts ≤ 2 * cost.lexed + 1
   pub paid : IsPaid cost
+  pub some : 0 < len → 0 < cost.reads
   pub least : cost.starts ≡ 1 → cost.lexed ≤ cost.reads

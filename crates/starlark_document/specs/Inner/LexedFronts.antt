@@ -1,7 +1,8 @@
 -- What was lexed of the front of a text, and where it can be cut.
-use Rattle.std.specs.Prelude.{◌≡◌, ◌≤◌, ◌<◌, ℕ, suc, Bool, true, false, ◌||◌, List, [], ◌∷◌, ◌++◌, map, length, take, drop, ⊤}
+use Rattle.std.specs.Prelude.{◌≡◌, ◌≤◌, ◌<◌, ◌-◌, ℕ, suc, Bool, true, false, ◌||◌, List, [], ◌∷◌, ◌++◌, map, length, take, drop, ⊤}
 use Rattle.std.specs.List.{AllByRecursion}
 use Rattle.std.specs.Str.{IsCharBoundary}
+use Rattle.starlark_document.specs.Documents.{AreInside, IsUncut, line_end_from, may_end}
 use Rattle.starlark_document.specs.Inner.Segments.{AreFaults, IsOpen, IsWhole, text_in}
 use Rattle.starlark_document.specs.declared.lexed_fronts.LexedFront.{LexedFront}
 use Rattle.starlark_document.specs.declared.segments.Segment.{Segment}
@@ -71,8 +72,8 @@ pub record EndsLine (found : List LexerItem) (at : ℕ) : Type 0 where
   pub is_line_end : IsLineEnd newline
   pub end : newline.end ≡ at
 
--- a newline of some bytes ends at an offset where a line begins plainly, and only `Dedent`s come after it
-pub record EndsPlainly (text : Text) (found : List LexerItem) (at : ℕ) : Type 0 where
+-- a newline of some bytes ends at an offset where a segment may end, the first such one, and only `Dedent`s come after it
+pub record EndsPlainly (least_len : ℕ) (text : Text) (found : List LexerItem) (at : ℕ) : Type 0 where
   pub front : List LexerItem
   pub newline : grammar.Spanned TokenView
   pub dedents : List LexerItem
@@ -80,31 +81,33 @@ pub record EndsPlainly (text : Text) (found : List LexerItem) (at : ℕ) : Type 
   pub is_line_end : IsLineEnd newline
   pub end : newline.end ≡ at
   pub are_dedents : AllByRecursion (λ item. is_dedent_item item ≡ true) dedents
-  pub plain : begins_plainly (drop at text) ≡ true
+  pub may : may_end least_len text at ≡ true
+  pub earlier : AreInside least_len text (given_of front)
 
 -- what was found in the items of a text so far
 pub record IsLexedFront (text : Text) (items : List LexerItem) (front : LexedFront) : Type 0 where
   pub lexemes : map lexeme_view front.lexemes.items ≡ given_of items
   pub faults : AreFaults (refused_of items) front.faults.items
   pub line_end : 0 < front.line_end → EndsLine items front.line_end
+  pub last : front.line_end ≡ line_end_from 0 (given_of items)
   pub within : front.line_end ≤ length text
   pub boundary : 0 < front.line_end → IsCharBoundary text front.line_end
-  pub cut : front.is_cut ≡ true → EndsPlainly text items front.line_end
+  pub cut : front.is_cut ≡ true → EndsPlainly front.least_len text items front.line_end
+  pub uncut : front.is_cut ≡ false → AreInside front.least_len text (given_of items)
 
--- the items of a text were taken up to one before which it can be cut
+-- the items of a text were taken up to where it can be cut
 pub record IsCutFront (text : Text) (front : LexedFront) : Type 0 where
   pub items : List LexerItem
-  pub next : LexerItem
   pub more : List LexerItem
-  pub all : all_items text ≡ items ++ (next ∷ more)
+  pub all : all_items text ≡ items ++ more
   pub taken : IsLexedFront text items front
   pub cut : front.is_cut ≡ true
-  pub ends : is_dedent_item next ≡ false
+  pub ends : BeginUndented more
 
 -- the items of a text were taken so far, or all
 abbrev pub IsTakenFront : Text → (is_cut : Bool) → LexedFront → Type 0
 IsTakenFront text true front = IsCutFront text front
-IsTakenFront text false front = IsLexedFront text (all_items text) front
+IsTakenFront text false front = IsLexedFront text (all_items text) front × (front.is_cut ≡ false)
 
 -- A newline of some bytes, after which a line begins plainly, closes the text so far. Its items are those up to there, with
 -- the `Dedent`s, but for its closing `Newline`.
@@ -124,6 +127,11 @@ ItemsClose = (text : Text) (front : List LexerItem) (newline : grammar.Spanned T
 -- The lexemes and faults of all items of a text are those that are found in it.
 abbrev pub ItemsAreFound : Type 0
 ItemsAreFound = (text : Text) → (given_of (all_items text) ≡ map shown_lexeme (lexemes_in (found text))) × (refused_of (all_items text) ≡ faults_in (found text))
+
+-- the first segment of a text can't be cut, and it and what is left have the least length
+pub record IsSized (whole : Text) (least_len : ℕ) (segment : Segment) : Type 0 where
+  pub uncut : IsUncut least_len (text_in segment)
+  pub long : segment.len < length whole → (least_len ≤ segment.len) × (least_len ≤ length whole - segment.len)
 
 -- the first segment of a text: up to where it can be cut, or the whole text, which is the document's last or not
 pub record IsFirstSegment (whole : Text) (is_last : Bool) (segment : Segment) : Type 0 where

@@ -2,7 +2,7 @@
 use Rattle.std.specs.Prelude.{◌≡◌, ◌≤◌, ◌<◌, ◌+◌, ◌^◌, ℕ, Bool, true, false, List, [], ◌∷◌, ◌++◌, map, count_by, drop, length, string_bytes, ⊤}
 use Rattle.std.specs.List.{AllByRecursion}
 use Rattle.starlark_base.specs.Places.{is_lf}
-use Rattle.starlark_document.specs.Documents.{IsKindOf}
+use Rattle.starlark_document.specs.Documents.{DocumentView, IsKindOf}
 use Rattle.starlark_document.specs.declared.segments.PlacedFault.{PlacedFault}
 use Rattle.starlark_document.specs.declared.segments.Segment.{Segment}
 use Rattle.starlark_grammar.specs.Tokens as grammar
@@ -21,6 +21,10 @@ text_in segment = string_bytes segment.content.value.text
 abbrev pub text_of : List Segment → Text
 text_of [] = []
 text_of (segment ∷ more) = text_in segment ++ text_of more
+
+-- a document of segments
+abbrev pub document_of : (least_len : ℕ) → List Segment → DocumentView
+document_of least_len segments = record { text = text_of segments; segments = map text_in segments; least_len = least_len }
 
 -- a fault of the code is one of the grammar
 pub record IsPlaced (fault : grammar.Spanned grammar.Fault) (placed : PlacedFault) : Type 0 where

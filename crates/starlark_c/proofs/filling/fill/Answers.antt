@@ -206,7 +206,7 @@ returns-in-Other-Some-Err-Error c =
     let had : HasFilled text n c.loop-plain.progress _ _ = record { few = inv.few; hold = inv.hold; filled = inv.filled; stop = inv.stop } in
     let was : IsGoing text n lexer = record { going = inv.going; text_is = inv.text; count = refl } in
     let last = next_fault lexer.code_map text n c.in-Other-Some-Err-Error.exception (rw (c.in-Other-Some-Err-Error.field-0-is, c.in-Other-Some-Err-Error.field-0-0-is, c.in-Other-Some-Err-Error.field-0-0-0-is, inv.text) at (c.in-Other-Some-Err-Error.ensures.item inv.going)) in
-    (ends_at_fault text _ _ _ n last.fault c.loop-plain.progress c.end_at_fault-ending.result c.requires.text last.is last.all had.hold had.filled had.stop (c.end_at_fault-ending.ensures last.fault last.is), n, had.few, had.stop, inv.kind, fault_filled text last.fault c.loop-plain.progress _ _ c.end_at_fault-ending.result (c.end_at_fault-ending.ensures last.fault last.is), fault_last c.args.is_front text _ last.fault c.loop-plain.progress _ _ c.end_at_fault-ending.result (last_of_all c.args.is_front text _ n c.loop-plain.progress.stop inv.kind last.all inv.last) (c.end_at_fault-ending.ensures last.fault last.is))
+    (ends_at_fault text _ _ _ n last.fault c.loop-plain.progress c.end_at_fault-ending.result c.requires.text last.is last.all had.hold had.filled had.stop (c.end_at_fault-ending.ensures last.fault last.is), n, had.few, had.stop, inv.kind, fault_filled text last.fault c.loop-plain.progress _ _ c.end_at_fault-ending.result (c.end_at_fault-ending.ensures last.fault last.is), fault_last c.args.is_front text _ n last.fault c.loop-plain.progress _ _ c.end_at_fault-ending.result inv.kind last.is last.all had.filled inv.last (c.end_at_fault-ending.ensures last.fault last.is))
 
 pub returns-in-Other-None : goal.returns-in-Other-None
 returns-in-Other-None c =

@@ -3,7 +3,7 @@ use Rattle.starlark_document.proofs.SegmentOffsets.{end_last}
 use Rattle.starlark_document.proofs.edited_parts.end_at.Goals as goal
 
 pub loop-place-preserved : goal.loop-place-preserved
-loop-place-preserved c = record { place = record { inside = omega arith; begin = c.end_of-in-loop-place.ensures.next }; later = omega (arith, c.loop-place.invariant.later); before = omega (arith, c.end_of.ensures.next, c.end_of-in-loop-place.ensures.next) }
+loop-place-preserved c = record { place = record { inside = omega arith; begin = c.end_of-in-loop-place.ensures.next }; later = omega (arith, c.loop-place.invariant.later); before = omega (arith, c.end_of.ensures.next, c.end_of-in-loop-place.ensures.next); near = λ later. omega (arith, c.end_of.ensures.next, c.end_of-in-loop-place.ensures.next) }
 
 pub returns-else-end_of-to-clause-reach : goal.returns-else-end_of-to-clause-reach
 returns-else-end_of-to-clause-reach c = λ within segment is. omega (arith, c.end_of.ensures.end segment is)

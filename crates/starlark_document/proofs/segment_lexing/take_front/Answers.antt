@@ -1,7 +1,9 @@
-use Rattle.std.proofs.Common.{◌≡◌, ◌∷◌, ◌++◌, List, ℕ, Some, [], ap, append-nil, append_assoc, arith, drop, length, subst, sym, ◌∙◌}
+use Rattle.std.proofs.Common.{Bool, true, false, refl, ◌≡◌, ◌∷◌, ◌++◌, List, ℕ, Some, [], ap, append-nil, append_assoc, arith, drop, length, subst, sym, ◌∙◌}
 use Rattle.starlark_recovery.specs.RecoveringLexer.{AreReadsOn, HasReadOn, RecoveringView, all_items, is_memory}
 use Rattle.starlark_document.proofs.Costs.{goes_on, reads_on}
-use Rattle.starlark_document.specs.Inner.LexedFronts.{IsLexedFront}
+use Rattle.starlark_document.specs.Inner.LexedFronts.{IsLexedFront, IsTakenFront}
+use Rattle.starlark_document.specs.declared.lexed_fronts.LexedFront.{LexedFront}
+use Rattle.starlark_token.specs.TextItems.{LexerItem}
 use Rattle.starlark_lexemes.proofs.NextItems.{next_item, next_none}
 use Rattle.starlark_document.proofs.segment_lexing.take_front.Goals as goal
 
@@ -11,6 +13,7 @@ loop-item-init c = record {
   going = ap (λ (r : RecoveringView). r.has_ended) c.requires.lexer;
   few = omega (arith, ap (λ (r : RecoveringView). r.fault_count) c.requires.lexer);
   most = omega (arith, ap (λ (r : RecoveringView). r.reads) c.requires.lexer);
+  least = refl;
   found = ([], sym (ap (λ (r : RecoveringView). r.left) c.requires.lexer), c.requires.front);
 }
 
@@ -39,6 +42,7 @@ loop-item-preserved c =
       going = ap (λ (r : RecoveringView). r.has_ended) c.in-Some.ensures.after ∙ goes_on old.has_ended (is_memory (Some c.in-Some.item)) inv.going c.in_ok-take.ensures.memory;
       few = paid.few;
       most = paid.most;
+      least = c.in_ok-take.ensures.least ∙ inv.least;
       found = (found.0 ++ (next.next ∷ []), whole, c.in_ok-take.ensures.front old.code_map next.next found.0 next.answers found.2);
     }
 
@@ -49,8 +53,7 @@ returns-then-branch-clause-front c =
     let next = next_item old.code_map old.left c.in-Some.item c.in-Some.ensures.item in
     record {
       items = found.0;
-      next = next.next;
-      more = drop 1 old.left;
+      more = next.next ∷ drop 1 old.left;
       all = found.1 ∙ ap (λ xs. found.0 ++ xs) next.is;
       taken = found.2;
       cut = c.in_ok-ends_before.ensures.cut c.if-branch.true;
@@ -69,7 +72,11 @@ returns-clause-front c =
     let old = c.loop-item.lexer in
     let none = next_none old.code_map old.left c.in_default.ensures.item in
     let whole : all_items c.args.text.now ≡ found.0 = found.1 ∙ ap (λ xs. found.0 ++ xs) none ∙ append-nil found.0 in
-    subst (λ items. IsLexedFront c.args.text.now items c.loop-item.front) (sym whole) found.2
+    by c.args.text.now found.0 c.loop-item.front whole found.2 c.loop-item.front.is_cut refl
+  where
+    by : (text : List ℕ) (items : List LexerItem) (front : LexedFront) → all_items text ≡ items → IsLexedFront text items front → (is_cut : Bool) → front.is_cut ≡ is_cut → IsTakenFront text is_cut front
+    by text items front all is true cut = record { items = items; more = []; all = all ∙ sym (append-nil items); taken = is; cut = cut; ends = tt }
+    by text items front all is false uncut = (subst (λ xs. IsLexedFront text xs front) (sym all) is, uncut)
 
 pub returns-clause-reads : goal.returns-clause-reads
 returns-clause-reads c =

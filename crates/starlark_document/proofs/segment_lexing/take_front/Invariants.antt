@@ -11,6 +11,7 @@ invariant-loop-item l = record {
   going : l.lexer.has_ended ≡ false;
   few : l.lexer.fault_count ≤ length l.text;
   most : l.lexer.reads ≤ most_reads_on (length l.text) (l.lexer.fault_count + 1);
+  least : l.front.least_len ≡ l.initial.front.least_len;
   found : (items : List LexerItem) × (all_items l.text ≡ items ++ l.lexer.left) × IsLexedFront l.text items l.front;
 }
 

@@ -1,6 +1,6 @@
 use Rattle.std.proofs.Common.{List, ap, subst, sym, ◌∙◌}
 use Rattle.starlark_document.proofs.FoundInSegments.{bounded_laid, faults_laid}
-use Rattle.starlark_document.specs.Documents.{faults_of}
+use Rattle.starlark_document.specs.Documents.{DocumentView, faults_of}
 use Rattle.starlark_document.specs.Inner.Segments.{AreBounded, faults_along}
 use Rattle.starlark_document.specs.declared.segments.Segment.{Segment}
 use Rattle.starlark_document.proofs.document.Document.faults.Goals as goal
@@ -13,4 +13,4 @@ returns c =
     c.new.ensures
     ∙ ap (λ (xs : List Segment). faults_along 0 xs) c.deref.ensures.value
     ∙ sym (faults_laid c.self.inside.segments.items c.self.invariant.0)
-    ∙ ap faults_of c.self.view_is
+    ∙ ap faults_of (ap (λ (d : DocumentView). d.text) c.self.view_is)

@@ -1,7 +1,7 @@
 use Rattle.std.proofs.Common.{List, ap, subst, sym, ◌∙◌}
 use Rattle.starlark_document.proofs.FoundInSegments.{bounded_laid, lexemes_laid}
 use Rattle.starlark_document.proofs.Iterators.{lexemes_from-start}
-use Rattle.starlark_document.specs.Documents.{lexemes_of}
+use Rattle.starlark_document.specs.Documents.{DocumentView, lexemes_of}
 use Rattle.starlark_document.specs.Inner.Segments.{AreBounded, lexemes_from}
 use Rattle.starlark_document.specs.declared.segments.Segment.{Segment}
 use Rattle.starlark_document.proofs.document.Document.lexemes.Goals as goal
@@ -15,4 +15,4 @@ returns c =
     ∙ ap (λ (xs : List Segment). lexemes_from 0 0 xs) c.deref.ensures.value
     ∙ lexemes_from-start 0 c.self.inside.segments.items
     ∙ sym (lexemes_laid c.self.inside.segments.items c.self.invariant.0)
-    ∙ ap lexemes_of c.self.view_is
+    ∙ ap lexemes_of (ap (λ (d : DocumentView). d.text) c.self.view_is)

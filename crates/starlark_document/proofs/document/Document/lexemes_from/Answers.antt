@@ -5,7 +5,7 @@ use Rattle.std.specs.List.{prefix_len, slice_get}
 use Rattle.starlark_document.proofs.FoundInSegments.{bounded_laid, lexemes_laid}
 use Rattle.starlark_document.proofs.PassedLexemes.{bounded_from, lexemes_left}
 use Rattle.starlark_document.proofs.SegmentOffsets.{HaveLens-laid}
-use Rattle.starlark_document.specs.Documents.{ends_by, lexemes_of}
+use Rattle.starlark_document.specs.Documents.{DocumentView, ends_by, lexemes_of}
 use Rattle.starlark_document.specs.Inner.EditedParts.{IsPlaceIn}
 use Rattle.starlark_document.specs.Inner.Segments.{AreBounded, HaveLens, lexemes_from}
 use Rattle.starlark_document.specs.declared.segments.Segment.{Segment}
@@ -35,7 +35,7 @@ returns c =
     let inner = λ (more : place.index + 1 < length segments). c.segment_at-place.ensures.inner (subst (λ (xs : List Segment). place.index + 1 < length xs) (sym c.deref.ensures.value) more) segment there in
     let rest = take_rest c.deref-2.result.now place.index ∙ ap (λ (xs : List Segment). drop place.index xs) c.deref-2.ensures.value in
     let bounded = bounded_laid segments c.self.invariant.0 c.self.invariant.2 in
-    let along = sym (lexemes_laid segments c.self.invariant.0) ∙ ap lexemes_of c.self.view_is in
+    let along = sym (lexemes_laid segments c.self.invariant.0) ∙ ap lexemes_of (ap (λ (d : DocumentView). d.text) c.self.view_is) in
     c.new.ensures
     ∙ ap (λ (xs : List Segment). lexemes_from place.begin c.passed_len-passed.result xs) rest
     ∙ ap (λ (n : ℕ). lexemes_from place.begin n (drop place.index segments)) c.passed_len-passed.ensures

@@ -11,4 +11,4 @@ pub returns-in_ok-push-in-Err-Error-clause-front : goal.returns-in_ok-push-in-Er
 returns-in_ok-push-in-Err-Error-clause-front c file next items answers is =
     front_exception c.args.text.now items c.args.self.now _ file next c.in-Err-Error.exception c.placed_fault.result is
     (rw (c.in-Err-Error.is, c.in-Err-Error.field-0-is) at answers) (λ e. c.requires.cut e file next answers) c.placed_fault.ensures
-    refl c.in_ok-push-in-Err-Error.ensures.items refl refl
+    refl c.in_ok-push-in-Err-Error.ensures.items refl refl refl

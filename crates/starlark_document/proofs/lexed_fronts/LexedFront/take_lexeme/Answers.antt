@@ -2,22 +2,22 @@ use Rattle.std.proofs.Common.{◌∷◌, ◌++◌, [], ap, sym, ◌∙◌}
 use Rattle.starlark_document.specs.declared.lexed_fronts.LexedFront.{LexedFront}
 use Rattle.starlark_document.proofs.FrontItems.{front_line, front_more}
 use Rattle.starlark_document.proofs.lexed_fronts.LexedFront.take_lexeme.Goals as goal
-use Rattle.starlark_document.proofs.lexed_fronts.LexedFront.take_lexeme.Goals.{then-is_newline+then-lexeme, else-is_newline}
+use Rattle.starlark_document.proofs.lexed_fronts.LexedFront.take_lexeme.Goals.{then-ends_line, else-ends_line}
 
-pub returns : goal.returns
-returns c = record {
-  front = λ items is.
-      elim c.if-is_newline.branch [
-        | then-is_newline+then-lexeme w ↦ front_line c.args.text.now items c.args.self.now _ c.args.lexeme is
-            (sym w.if-is_newline.ensures) w.if-lexeme.true c.requires.within c.requires.boundary
-            (λ e. w.can_end-self.ensures (sym (ap (λ (f : LexedFront). f.is_cut) w.self-is) ∙ e))
-            (c.in_ok-push.ensures.items ∙ ap (λ (f : LexedFront). f.lexemes.items ++ (c.args.lexeme ∷ [])) w.self-is)
-            (ap (λ (f : LexedFront). f.faults) w.self-is)
-            (ap (λ (f : LexedFront). f.line_end) w.self-is)
-        | else-is_newline w ↦ front_more c.args.text.now items c.args.self.now _ c.args.lexeme is c.requires.cut
-            (c.in_ok-push.ensures.items ∙ ap (λ (f : LexedFront). f.lexemes.items ++ (c.args.lexeme ∷ [])) w.self-is)
-            (ap (λ (f : LexedFront). f.faults) w.self-is)
-            (ap (λ (f : LexedFront). f.line_end) w.self-is)
-            (ap (λ (f : LexedFront). f.is_cut) w.self-is)
-      ];
-}
+pub returns-clause-front : goal.returns-clause-front
+returns-clause-front c = λ items is.
+    elim c.if-ends_line.branch [
+      | then-ends_line w ↦ front_line c.args.text.now items c.args.self.now _ c.args.lexeme is
+          (sym c.ends_line.ensures ∙ w.if-ends_line.true) c.requires.within c.requires.boundary
+          c.requires.cut (ap (λ (f : LexedFront). f.is_cut) w.self-is ∙ w.can_end-self.ensures)
+          (c.in_ok-push.ensures.items ∙ ap (λ (f : LexedFront). f.lexemes.items ++ (c.args.lexeme ∷ [])) w.self-is)
+          (ap (λ (f : LexedFront). f.faults) w.self-is)
+          (ap (λ (f : LexedFront). f.line_end) w.self-is)
+          (ap (λ (f : LexedFront). f.least_len) w.self-is)
+      | else-ends_line w ↦ front_more c.args.text.now items c.args.self.now _ c.args.lexeme is c.requires.cut (sym c.ends_line.ensures ∙ w.if-ends_line.false)
+          (c.in_ok-push.ensures.items ∙ ap (λ (f : LexedFront). f.lexemes.items ++ (c.args.lexeme ∷ [])) w.self-is)
+          (ap (λ (f : LexedFront). f.faults) w.self-is)
+          (ap (λ (f : LexedFront). f.line_end) w.self-is)
+          (ap (λ (f : LexedFront). f.is_cut) w.self-is)
+          (ap (λ (f : LexedFront). f.least_len) w.self-is)
+    ]
