@@ -56,6 +56,7 @@ JOBS = [
     Job("threads", "bindings/python_threads.py --count 4000", after("python")),
     Job("protocol", "bindings/protocol_fuzz.py", after("python")),
     Job("editors", "bindings/editors.py", after("python")),
+    Job("editor_lines", "oracles/editor_lines.py"),
     Job("linear", "oracles/linear_time.py --instructions --divide 64 --most 2.1", may_lack_tools=True),
     Job("refused", "oracles/refused_memory.py", may_lack_tools=True),
     Job("recovered", "oracles/recovered_texts.py --count 20000 --stored"),

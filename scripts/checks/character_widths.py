@@ -14,7 +14,7 @@ import sys
 import unicodedata
 from pathlib import Path
 
-TABLE = Path(__file__).resolve().parent.parent.parent / "crates/starlark_tokens/src/character_widths/table.rt"
+TABLE = Path(__file__).resolve().parent.parent.parent / "crates/starlark_tokens/src/output_formats/character_widths/table.rt"
 HEAD = """//! Ranges of characters by their width on a terminal, of Unicode {version}. Made by `scripts/checks/character_widths.py`.
 
 /// Characters that take no column, since they combine with the one before them.

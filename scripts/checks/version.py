@@ -28,7 +28,7 @@ PLACES = [
     ("bindings/go/doc.go", [r'(?m)^const Version = "(.*)"$'], True),
     ("bindings/web/package.json", [r'"version": "(.*?)"'], False),
     ("crates/starlark_tokens/src/main.rt", PROGRAM, True),
-    ("crates/starlark_tokens/src/rules.rt", SARIF, False),
+    ("crates/starlark_tokens/src/output_formats/rules.rt", SARIF, False),
     ("crates/starlark_lex/src/main.rt", PROGRAM, True),
     ("CHANGELOG.md", [r"(?m)^## (.*)$"], True),
 ]

@@ -129,13 +129,49 @@ def items(text):
             yield item.begin, item.end, item.kind, readable(item), json_value(item)
 
 
-def problems(text):
+def each_problem(text):
     """All faults of a text and what the checks find in it, in order, as items."""
     for item, found in plain_checks.findings_between(text, items_of(text)):
         if item and item[0] == "fault":
             yield of_fault(item[1].begin, item[1].end, item[1].message)
         if found:
             yield of_fault(found[0], found[1], found[3])
+
+
+INVALID = "Parse error: invalid input `"
+
+
+def joined(text, found):
+    """Problems, where characters that begin no token and touch are one. Its message has those of the first 24 bytes."""
+    runs = []
+    for item in found:
+        if runs and runs[-1][1] == item[0] and all(message.startswith(INVALID) for message in (runs[-1][4], item[4])):
+            begin, end = runs[-1][0], item[1]
+            first = boundary(text[begin:end], 24)
+            more = len(text[begin + first:end].decode())
+            message = f"{INVALID}{text[begin:begin + first].decode()}`" + f" and {more} more" * (more > 0)
+            runs[-1] = of_fault(begin, end, message)
+        else:
+            runs.append(item)
+    return runs
+
+
+def is_ignored(text, item):
+    """Whether the line where a fault is shown ends with a comment that leaves it out."""
+    at = shown_at(text, item)
+    line_end = text.find(b"\n", at) if b"\n" in text[at:] else len(text)
+    if line_end > boundary(text, at + 1024):
+        return False
+    _, mark, comment = text[at:line_end].removesuffix(b"\r").decode().rpartition("#")
+    if not mark or comment == " starlark: ignore":
+        return bool(mark)
+    listed = re.fullmatch(r" starlark: ignore\[(.*)\]", comment)
+    return bool(listed) and any(code and code_of(item[4]).startswith(code) for code in re.split("[, ]", listed[1]))
+
+
+def problems(text):
+    """The problems of a text that are told, as items."""
+    return [item for item in joined(text, each_problem(text)) if not is_ignored(text, item)]
 
 
 CODES = {
@@ -263,16 +299,36 @@ def cut_line(front, back, columns):
     return "\u2026" * (begin > 0), front[begin:].decode(), back[:end], "\u2026" * (end < len(back))
 
 
-def fault_lines(name, text, item, columns=160):
+def place_in(unit, text, at):
+    """The line and the column of an offset, with the column counted in characters, bytes or units of UTF-16."""
+    line, column = line_and_column(text, at)
+    front = text[text.rfind(b"\n", 0, at) + 1:at]
+    return line, {"characters": column, "bytes": len(front) + 1, "utf16": len(front.decode().encode("utf-16-le")) // 2 + 1}[unit]
+
+
+def message_in(unit, text, message):
+    """A message, with the column of the open bracket that it tells counted so."""
+
+    def counted(match):
+        line, column = int(match[1]), int(match[2])
+        lines = text.split(b"\n")
+        at = sum(len(before) + 1 for before in lines[:line - 1]) + len(lines[line - 1].decode()[:column - 1].encode())
+        return "; the open bracket is at %d:%d" % place_in(unit, text, at)
+
+    return re.sub(r"; the open bracket is at (\d+):(\d+)", counted, message)
+
+
+def fault_lines(name, text, item, columns=160, unit="characters"):
     """The lines of a fault with its source."""
     _, end, _, _, message = item
+    message = message_in(unit, text, message)
     begin = shown_at(text, item)
     stop = text.find(b"\n", begin)
     line = text[text.rfind(b"\n", 0, begin) + 1:begin], text[begin:stop if stop >= 0 else len(text)]
     before, front, back, after = cut_line(*line, columns)
     marked = sum(map(width, back[:max(end - begin, 0)].decode(errors="ignore")))
     source = front + back.decode().removesuffix("\r")
-    line, column = line_and_column(text, begin)
+    line, column = place_in(unit, text, begin)
     said = "".join(shown(character) for character in reason(message))
     seen = "".join("\ufffd" if character != "\t" and is_hidden(character) else character for character in source)
     below = " " * len(before) + "".join("\t" if character == "\t" else " " * width(character) for character in front)
@@ -280,18 +336,18 @@ def fault_lines(name, text, item, columns=160):
     return f"{first}\n{before}{seen}{after}\n{below}{'^' * max(marked, 1)}\nhelp: {help_of(message)}"
 
 
-def shown_region(text, item):
+def shown_region(text, item, unit="characters"):
     """Where what is shown of a fault begins and ends, as lines and columns."""
     begin = shown_at(text, item)
-    return *line_and_column(text, begin), *line_and_column(text, max(begin, item[1]))
+    return *place_in(unit, text, begin), *place_in(unit, text, max(begin, item[1]))
 
 
-def github_line(name, text, item):
+def github_line(name, text, item, unit="characters"):
     """The annotation of a fault."""
-    line, column, end_line, end_column = shown_region(text, item)
+    line, column, end_line, end_column = shown_region(text, item, unit)
     escaped = {"%": "%25", "\r": "%0D", "\n": "%0A"}
     file = "".join({**escaped, ":": "%3A", ",": "%2C"}.get(c, c) for c in name)
-    said = "".join(escaped.get(c, c) for c in reason(item[4]))
+    said = "".join(escaped.get(c, c) for c in reason(message_in(unit, text, item[4])))
     place = f"line={line},col={column},endLine={end_line},endColumn={end_column}"
     return f"::error file={file},{place},title={code_of(item[4])}::{said}"
 
@@ -463,6 +519,50 @@ def check_runs(tester):
                 wanted = Ended(1 if count else 0, document(form, lines, [count], 0, tester.build), summary(form, [count], 0))
                 tester.compare(f"{form} {options} of {text[:60]!r}", found, wanted)
         compare_sarif(tester, repr(text[:60]), tester.run(["--format", "sarif"], text), [("<stdin>", text)])
+
+
+# Characters that begin no token: alone, in runs, beside other faults, long runs; and comments that leave out faults, or don't.
+RUNS = [
+    "x = 你好世界你好 + “é”\n", "$$ $\n$$", "!$\t$$x$01$$", "f'{$$}}'\n$", "(\n$$\n)$?$\n", "$" * 24, "$" * 25 + "\n", "é" * 12 + "$", "x" + "世" * 300,
+    "“" * 2, "$\ufeff$\xa0", "$" * 3000,
+]
+IGNORED = [
+    "x = 01 # starlark: ignore\n01\n", "x = 01 # starlark: ignore[SL008]\r\n01", "class = 01 # starlark: ignore[SL007]\n", "class = 01 # starlark: ignore[SL]",
+    "class = 01 # starlark: ignore[SL1, SL008]\n", "class = 01 # starlark: ignore[SL001 SL007,,]\n", "01 # starlark: ignore[]\n", "01 # starlark: ignore[,]\n",
+    "01 # starlark: ignored\n", "01 # starlark: ignore \n", "01 #starlark: ignore\n", "01 # starlark: ignore[SL008\n", "01 # starlark: ignore]\n",
+    "01 # starlark: ignore[SL008] # c\n", "01 # c # starlark: ignore[SL008]\n", "01 starlark: ignore\n", "'a # starlark: ignore[SL004]\n", "'a # starlark: ignore\n01\n",
+    "if x:\n    y\n  z # starlark: ignore[SL001]\n", "if x: # starlark: ignore\n    y\n  z\n", "\tx # starlark: ignore[SL003]\n", "f(1, [2) # starlark: ignore[SL103]\n",
+    "( # starlark: ignore[SL101]\n[\n", "你好 # starlark: ignore[SL002]\n你好", "01 " * 400 + "# starlark: ignore\n", "01" + "é" * 500 + " # starlark: ignore\n",
+    "01 " + " " * 1003 + "# starlark: ignore", "01 " + " " * 1004 + "# starlark: ignore\n", "01 " + " " * 1005 + "# starlark: ignore\n", "1a # starlark: ignore[SL104]\r",
+    "<<<<<<< a # starlark: ignore\n1a\n", "f'{a\n}' # starlark: ignore[SL106]\n", "f'{a # starlark: ignore[SL106]\n}'\n", '"""a\n# starlark: ignore', "01 # starlark: ignore[[SL008]\n",
+]
+
+
+def told_runs(tester):
+    """Runs of characters that begin no token, and comments that leave out faults, in each form."""
+    for text in [text.encode() for text in [*RUNS, *IGNORED]]:
+        for form in FORMS:
+            tester.compare(f"{form} of {text!r}", tester.run(OPTIONS[form], text), ended(tester, form, [("<stdin>", text)]))
+        compare_sarif(tester, repr(text), tester.run(["--format", "sarif"], text), [("<stdin>", text)])
+
+
+COLUMNED = [
+    "x = '日本😀' + 01 # é\n'é' 01 😀\n", "('é', 😀😀 [ 'é' )\n", "é\n" * 3 + "f'é{1a}😀{\n}'\n", "if x:\n    y\n  'é'\n\t\n", "'" + "é😀" * 900 + "' 1a 01 ]" + "é" * 700 + "01",
+    "[" + "'😀'," * 700 + "01)" * 3 + "\n", "f\"é{f'é{a\n}'}\" 'é' 01\n",
+]
+
+
+def columned_runs(tester):
+    """Columns of faults in bytes and in units of UTF-16, in lines for people and in annotations; JSON and SARIF have theirs."""
+    for text in [text.encode() for text in COLUMNED]:
+        for unit in ("characters", "bytes", "utf16"):
+            for form, line_of in (("check", fault_lines), ("github", github_line)):
+                lines = "".join(line_of("<stdin>", text, item, unit=unit) + "\n" for item in problems(text))
+                found = tester.run([*OPTIONS[form], "--quiet", "--columns", unit], text)
+                tester.compare(f"{form} of {text!r} in {unit}", found, Ended(1, lines, ""))
+            for arguments in (["--json"], ["--check", "--json"], ["--format", "sarif"], []):
+                found = tester.run([*arguments, "-q", f"--columns={unit}"], text)
+                tester.compare(f"{arguments} of {text!r} in {unit}", found, tester.run([*arguments, "-q"], text))
 
 
 # For each row of options: what the codes begin with that are told and that are left out, and words that are names.
@@ -663,6 +763,7 @@ def option_runs(tester):
         (["--format", "github", "--check"], b"!", 1, annotation, "1 fault in 1 of 1 file\n"),
         (["--format", "xml"], b"x\n", 2, "", "starlark_tokens: --format=xml: the formats are text, json, github and sarif\n"),
         (["--color", "red"], b"x\n", 2, "", "starlark_tokens: --color=red: the values are auto, always and never\n"),
+        (["--columns", "chars"], b"x\n", 2, "", "starlark_tokens: --columns=chars: the values are characters, bytes and utf16\n"),
         (["--check", "-q", "--color", "always", "--color=never"], b"!", 1, of_stdin, ""),
         (["--format"], b"x\n", 2, "", no_value % "--format"),
         (["--chekc"], b"x\n", 2, "", unknown % "--chekc"),
@@ -1172,6 +1273,8 @@ def main():
     option_runs(tester)
     margin_runs(tester)
     check_runs(tester)
+    told_runs(tester)
+    columned_runs(tester)
     filtered_runs(tester)
     explained_faults(tester)
     bounded_runs(tester)

@@ -8,7 +8,7 @@ use Rattle.std.specs.Prelude.{nat_lt, nat_le, slice_index}
 use Rattle.std.specs.Str.{IsCharBoundary}
 use Rattle.starlark_base.specs.Places.{Text}
 use Rattle.starlark_text.specs.Characters.{starts_character}
-use Rattle.starlark_tokens.specs.SourceLines.{boundary_from}
+use Rattle.starlark_tokens.specs.OutputFormats.SourceLines.{boundary_from}
 
 abbrev follows : ℕ → Bool
 follows b = not (starts_character b)

@@ -8,7 +8,7 @@ use Rattle.std.specs.Str.Parse.{AllDigits, IsNumeral, digits_value, without_lead
 use Rattle.starlark_base.specs.Places.{Text}
 use Rattle.starlark_grammar.specs.Numbers.{is_small}
 use Rattle.starlark_token.specs.BigIntegers.{BigInteger, IsCanonical}
-use Rattle.starlark_tokens.specs.Values.{exact_value}
+use Rattle.starlark_tokens.specs.OutputFormats.Values.{exact_value}
 
 all_digits : (base : ℕ) (digits : Text) → list_all (λ d. is_digit d base && not (is_ascii_uppercase d)) digits ≡ true → AllDigits base digits
 all_digits base [] h = tt

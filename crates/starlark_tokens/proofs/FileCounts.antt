@@ -4,10 +4,10 @@ use Rattle.std.proofs.lemmas.Bool.{lt-ltb}
 use Rattle.std.proofs.lemmas.List.Sums.{sum_by-append}
 use Rattle.std.specs.Prelude.{Option, if◌then◌else◌, sum_by}
 use Rattle.starlark_base.specs.Places.{Text}
-use Rattle.starlark_tokens.specs.Reports.{fault_count}
-use Rattle.starlark_tokens.specs.Totals.{faults_in, in_64_bits, is_read, totals_of, with_source}
-use Rattle.starlark_tokens.specs.declared.form.Style.{Style}
-use Rattle.starlark_tokens.specs.declared.totals.Totals.{Totals}
+use Rattle.starlark_tokens.specs.Reporting.Reports.{fault_count}
+use Rattle.starlark_tokens.specs.Reporting.Totals.{faults_in, in_64_bits, is_read, totals_of, with_source}
+use Rattle.starlark_tokens.specs.declared.output_formats.form.Style.{Style}
+use Rattle.starlark_tokens.specs.declared.reporting.totals.Totals.{Totals}
 
 abbrev is_faulty : Style → Option Text → Bool
 is_faulty style source = nat_lt 0 (faults_in style source)

@@ -7,20 +7,20 @@ use Rattle.std.specs.List.{AllByRecursion}
 use Rattle.std.specs.Io.KnownBytes.{Keeps}
 use Rattle.std.specs.Prelude.{IfOk, Option, Result, drop, false, if◌then◌else◌, true}
 use Rattle.std.specs.declared.io.Error.{Error}
-use Rattle.starlark_tokens.specs.ReportDocuments.{closing, document, is_collected, opening}
+use Rattle.starlark_tokens.specs.OutputFormats.ReportDocuments.{closing, document, is_collected, opening}
 use Rattle.starlark_base.specs.Places.{Text}
 use Rattle.starlark_devices.proofs.Calls.{all_append}
 use Rattle.starlark_devices.specs.Calls.{Done, Ending, Going, WriterCalls}
-use Rattle.starlark_tokens.specs.declared.form.Style.{Style}
+use Rattle.starlark_tokens.specs.declared.output_formats.form.Style.{Style}
 use Rattle.starlark_tokens.proofs.FileCounts.{with_next}
 use Rattle.starlark_tokens.proofs.ReportWrites.{flushed_last, stops_first, stops_later, stops_longer, took_nil, took_then, unflushed}
-use Rattle.starlark_tokens.specs.FileReports.{AreReported, AreReportedAlone, Giving, IsDocument, IsReported, ReadSource, report_if_read, reports, source_report}
-use Rattle.starlark_tokens.specs.ReportWrites.{StopsWithin, Takes, Took}
-use Rattle.starlark_tokens.specs.SourceNames.{name_of}
-use Rattle.starlark_tokens.specs.Totals.{AreTotalsOf, totals_of, with_source}
-use Rattle.starlark_tokens.specs.declared.sources.Source.{Source}
-use Rattle.starlark_tokens.specs.declared.sources.Sources.{Sources}
-use Rattle.starlark_tokens.specs.declared.totals.Totals.{Totals}
+use Rattle.starlark_tokens.specs.Reporting.FileReports.{AreReported, AreReportedAlone, Giving, IsDocument, IsReported, ReadSource, report_if_read, reports, source_report}
+use Rattle.starlark_tokens.specs.Reporting.ReportWrites.{StopsWithin, Takes, Took}
+use Rattle.starlark_tokens.specs.Files.SourceNames.{name_of}
+use Rattle.starlark_tokens.specs.Reporting.Totals.{AreTotalsOf, totals_of, with_source}
+use Rattle.starlark_tokens.specs.declared.files.sources.Source.{Source}
+use Rattle.starlark_tokens.specs.declared.files.sources.Sources.{Sources}
+use Rattle.starlark_tokens.specs.declared.reporting.totals.Totals.{Totals}
 
 abbrev pub sources_of : List ReadSource → List Source
 sources_of reads = map (λ read. read.source) reads

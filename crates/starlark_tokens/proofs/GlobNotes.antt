@@ -4,9 +4,9 @@ use Rattle.std.specs.Prelude.{◌||◌, Err, Ok, OnOk, Result}
 use Rattle.std.specs.declared.alloc.AllocError.{AllocError}
 use Rattle.starlark_tokens.specs.Inner.NotedGlobs.{StandForTheSame}
 use Rattle.starlark_base.specs.Places.{Text}
-use Rattle.starlark_tokens.specs.Globs.{stands_for}
-use Rattle.starlark_tokens.specs.UsedGlobs.{noted, some_stands}
-use Rattle.starlark_tokens.specs.declared.used_globs.UsedGlob.{UsedGlob}
+use Rattle.starlark_tokens.specs.Files.Globs.{stands_for}
+use Rattle.starlark_tokens.specs.Files.UsedGlobs.{noted, some_stands}
+use Rattle.starlark_tokens.specs.declared.files.used_globs.UsedGlob.{UsedGlob}
 
 -- a comparison changes no glob
 pub stands_still : (is_folder : Bool) (path : Text) (globs : List UsedGlob) (folder : Bool) (other : Text) → some_stands (map (noted is_folder path) globs) folder other ≡ some_stands globs folder other

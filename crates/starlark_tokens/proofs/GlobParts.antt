@@ -4,10 +4,10 @@ use Rattle.std.specs.Prelude.{◌==◌, if◌then◌else◌, slice_index}
 use Rattle.std.proofs.Math.Dec.{eqb-suc-zero}
 use Rattle.std.proofs.lemmas.Bool.{eqb-true}
 use Rattle.starlark_base.specs.Places.{Text}
-use Rattle.starlark_tokens.specs.Globs.{begins_deep, fits, fits_after, fits_first, fits_names, has_after, item_has, item_len, is_negated, part_len, set_len, some_end, takes_first}
+use Rattle.starlark_tokens.specs.Files.Globs.{begins_deep, fits, fits_after, fits_first, fits_names, has_after, item_has, item_len, is_negated, part_len, set_len, some_end, takes_first}
 use Rattle.starlark_tokens.specs.Inner.GlobAnswers.{IsAnswer, is_fit}
-use Rattle.starlark_tokens.specs.declared.globs.Answer.{Answer}
-use Rattle.starlark_tokens.specs.declared.globs.Answer.TheVariants.{Fits, Differs, FitsNoEnd}
+use Rattle.starlark_tokens.specs.declared.files.globs.Answer.{Answer}
+use Rattle.starlark_tokens.specs.declared.files.globs.Answer.TheVariants.{Fits, Differs, FitsNoEnd}
 
 -- the items of a set after its first bytes are those of what is left
 pub has_rest : (skip : ℕ) (set : Text) (byte : ℕ) → has_after skip set byte ≡ has_after 0 (drop skip set) byte

@@ -2,7 +2,7 @@
 use Rattle.std.proofs.Common.{◌≡◌, ◌∙◌, ℕ, ◌<◌, ◌≤◌, ◌⊎◌, inl, inr, true, false, ◌&&◌, ◌||◌, not, ◌==◌, nat_le, List, [], ◌∷◌, ◌++◌, map, ap, refl, subst, sym}
 use Rattle.std.specs.List.{flat_map, list_all}
 use Rattle.std.proofs.lemmas.Bool.{agree_below_at, and_from, cond_both, eqb-true, le-leb, ltb-false, ltb-true, not_from_false, or_cases, or_parts}
-use Rattle.starlark_tokens.specs.JsonStrings.{Itself, Lettered, Piece, coded, is_piece, json_char, meaning, piece_of, piece_text}
+use Rattle.starlark_tokens.specs.OutputFormats.JsonStrings.{Itself, Lettered, Piece, coded, is_piece, json_char, meaning, piece_of, piece_text}
 
 -- a piece that the grammar allows and that means the character
 abbrev Fits : ℕ → Piece → Type 0

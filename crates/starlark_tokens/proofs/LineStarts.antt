@@ -7,8 +7,8 @@ use Rattle.std.proofs.lemmas.Str.{IsCharBoundary-before_ascii, IsCharBoundary-en
 use Rattle.std.specs.List.{prefix_len, suffix_len}
 use Rattle.std.specs.Str.{IsCharBoundary, IsUtf8}
 use Rattle.starlark_base.specs.Places.{Text, is_lf}
-use Rattle.starlark_tokens.specs.ItemLines.{line_front}
-use Rattle.starlark_tokens.specs.ShownPlaces.{line_start, next_tab}
+use Rattle.starlark_tokens.specs.OutputFormats.ItemLines.{line_front}
+use Rattle.starlark_tokens.specs.ToldFaults.ShownPlaces.{line_start, next_tab}
 
 abbrev is_other : ℕ → Bool
 is_other b = not (is_lf b)

@@ -1,34 +1,31 @@
 -- Problems of a text: what is printed of them as one item more is passed.
 use Rattle.std.proofs.lemmas.Bool.{lt-ltb}
+use Rattle.std.proofs.lemmas.List.{length-append}
 use Rattle.std.proofs.lemmas.List.Elements.{filter-append}
-use Rattle.std.proofs.Common.{◌≡◌, cond, ℕ, zero, suc, ◌+◌, ◌-◌, ◌^◌, ◌≤◌, min, Bool, true, false, List, [], ◌∷◌, ◌++◌, refl, ap, append-nil, arith, count_by, drop, length, map, sym, take, ◌∙◌, None, Some, Ok, Err, nat_lt}
+use Rattle.std.proofs.Common.{◌≡◌, cond, ℕ, zero, suc, ◌+◌, ◌-◌, ◌^◌, ◌≤◌, min, Bool, true, false, List, [], ◌∷◌, ◌++◌, refl, ap, append-nil, append_assoc, arith, count_by, drop, length, map, subst, sym, take, ◌∙◌, None, Some, Ok, Err, nat_lt}
 use Rattle.std.specs.List.{flat_map, slice_get}
 use Rattle.std.specs.Prelude.{IfOk, OnOk, Option, Result, if◌then◌else◌, option_to_list}
-use Rattle.starlark_base.specs.Diagnostics.{Diagnosed}
+use Rattle.std.specs.IoError.{error_kind}
+use Rattle.std.specs.declared.io.Error.{Error}
+use Rattle.std.specs.declared.io.ErrorKind.TheVariants.{OutOfMemory}
 use Rattle.starlark_base.specs.Places.{Text}
-use Rattle.starlark_base.specs.Sources.{SourceFile}
-use Rattle.starlark_checks.specs.CheckTexts.{check_code}
-use Rattle.starlark_checks.specs.Findings.{Passed, finding, open_brackets}
+use Rattle.starlark_checks.specs.Findings.{Passed, open_brackets}
 use Rattle.starlark_checks.specs.Inner.CheckerViews.{HasPassed}
 use Rattle.starlark_checks.specs.OpenStack.{never_closed}
 use Rattle.starlark_checks.specs.declared.check.Finding.{Finding}
 use Rattle.starlark_checks.specs.declared.checker.Checker.{Checker}
-use Rattle.starlark_errors.specs.declared.error.kinds.ErrorKind.{ErrorKind}
-use Rattle.starlark_lexemes.specs.Lexer.{Answers}
+use Rattle.starlark_devices.specs.Calls.{WriterCalls, Going}
 use Rattle.starlark_recovery.specs.RecoveringLexer.{all_items}
-use Rattle.starlark_text.specs.declared.or_memory.OrMemory.TheVariants as refusal
-use Rattle.starlark_grammar.specs.Tokens.{Fault, Spanned}
-use Rattle.starlark_token.specs.Lexemes.{lexeme_view}
-use Rattle.starlark_token.specs.TextItems.{Given, LexerItem, Refused}
-use Rattle.starlark_token.specs.declared.tokens.Token.{Token}
-use Rattle.starlark_tokens.proofs.Reported.{some_left, thrown_told}
-use Rattle.starlark_tokens.specs.Inner.Reporters.{found_count, found_report, shown_problems, told_finding}
-use Rattle.starlark_tokens.specs.Problems.{OfCheck, OfLexer, Problem, is_told, passed, problems, problems_at, problems_from, told}
-use Rattle.starlark_tokens.specs.Reports.{fault_count, has_only_faults, is_fault, items_report, problem_report, problems_report, shown_part, shown_report}
-use Rattle.starlark_tokens.specs.Filters.{tells}
-use Rattle.starlark_tokens.specs.Inner.ShownKinds.{tells_kind}
-use Rattle.starlark_tokens.specs.declared.filters.Filter.{Filter}
-use Rattle.starlark_tokens.specs.declared.form.Style.{Style}
+use Rattle.starlark_token.specs.TextItems.{LexerItem}
+use Rattle.starlark_tokens.proofs.Reported.{some_left}
+use Rattle.starlark_tokens.proofs.ReportWrites.{no_memory, stops_later, stops_longer, took_nil, took_then, takes_later}
+use Rattle.starlark_tokens.specs.Reporting.ReportWrites.{StopsWithin, Takes, Took}
+use Rattle.starlark_tokens.specs.Inner.Reporters.{shown_problems}
+use Rattle.starlark_tokens.specs.Inner.FoundProblems.{done_by, held_after, joined_with}
+use Rattle.starlark_tokens.specs.ToldFaults.Problems.{OfCheck, Problem, both, is_told, joined, joined_after, passed, problem_at, problems, problems_from, told, touch}
+use Rattle.starlark_tokens.specs.Reporting.Reports.{fault_count, has_only_faults, is_fault, items_report, problem_report, problems_report, shown_part}
+use Rattle.starlark_tokens.specs.declared.told_faults.filters.Filter.{Filter}
+use Rattle.starlark_tokens.specs.declared.output_formats.form.Style.{Style}
 
 all_left : (most : ℕ) → most ≡ most - 0
 all_left most = omega arith
@@ -85,80 +82,106 @@ few_if true problem = omega arith
 few_if false problem = omega arith
 
 -- at most one of one problem is told
-pub one_told : (which : Filter) (problem : Problem) → length (told which (problem ∷ [])) ≤ 1
-one_told which problem = few_if (is_told which problem) problem
+pub few_told : (which : Filter) (text : Text) (problem : Option Problem) → length (told which text (option_to_list problem)) ≤ 1
+few_told which text None = omega arith
+few_told which text (Some problem) = few_if (is_told which text problem) problem
 
-few_found : (which : Filter) (found : Option Finding) → length (told which (map OfCheck (option_to_list found))) ≤ 1
-few_found which None = omega arith
-few_found which (Some finding) = one_told which (OfCheck finding)
-
--- an item has at most one problem
-pub few_problems : (which : Filter) (text : Text) (before : List Passed) (item : LexerItem) → length (problems_at which text before item) ≤ 1
-few_problems which text before (Given lexeme) = few_found which (finding text before lexeme)
-few_problems which text before (Refused fault) = one_told which (OfLexer fault)
-
-pub problems_cons : (which : Filter) (text : Text) (before : List Passed) (item : LexerItem) (more : List LexerItem) → problems_from which text before (item ∷ more) ≡ problems_at which text before item ++ problems_from which text (passed item ∷ before) more
+pub problems_cons : (text : Text) (before : List Passed) (item : LexerItem) (more : List LexerItem) → problems_from text before (item ∷ more) ≡ option_to_list (problem_at text before item) ++ problems_from text (passed item ∷ before) more
 unfolding problems_from
-problems_cons which text before item more = refl
+problems_cons text before item more = refl
 
 -- the problems at the end are the brackets that are never closed
-pub problems_end : (which : Filter) (text : Text) (before : List Passed) (checker : Checker) → HasPassed text before checker → problems_from which text before [] ≡ told which (map OfCheck (never_closed checker.stack))
+pub problems_end : (text : Text) (before : List Passed) (checker : Checker) → HasPassed text before checker → problems_from text before [] ≡ map OfCheck (never_closed checker.stack)
 unfolding problems_from open_brackets
-problems_end which text before checker has = ap (λ stack. told which (map OfCheck (never_closed stack))) (sym has.stack)
+problems_end text before checker has = ap (λ stack. map OfCheck (never_closed stack)) (sym has.stack)
 
-told_if : (b : Bool) (finding : Finding) → map OfCheck (option_to_list (if b then Some finding else None)) ≡ cond b (OfCheck finding ∷ []) []
-told_if true finding = refl
-told_if false finding = refl
+by_touch : (b : Bool) (last next : Problem) (more : List Problem) → (if b then joined_after (both last next) more else last ∷ joined_after next more) ≡ option_to_list (if b then None else Some last) ++ joined_with (if b then Some (both last next) else Some next) more
+by_touch true last next more = refl
+by_touch false last next more = refl
 
--- what is told of what a check found, as problems
-pub told_list : (which : Filter) (found : Option Finding) → map OfCheck (option_to_list (told_finding which found)) ≡ told which (map OfCheck (option_to_list found))
-told_list which None = refl
-told_list which (Some finding) = told_if (tells which (check_code finding.check)) finding
+-- the problems that are left, with one that is held, where the next one comes or none
+joined_step : (last next : Option Problem) (more : List Problem) → joined_with last (option_to_list next ++ more) ≡ option_to_list (done_by last next) ++ joined_with (held_after last next) more
+unfolding joined_after
+joined_step None None more = refl
+joined_step (Some last) None more = refl
+joined_step None (Some next) more = refl
+joined_step (Some last) (Some next) more = by_touch (touch last next) last next more
 
--- what is told of a bracket that is never closed, and of those after it
-pub told_open : (which : Filter) (finding : Finding) (rest : List Finding) → told which (map OfCheck (finding ∷ rest)) ≡ told which (OfCheck finding ∷ []) ++ told which (map OfCheck rest)
-told_open which finding rest = filter-append (is_told which) (OfCheck finding ∷ []) (map OfCheck rest)
+-- … of which some are told
+pub told_step : (which : Filter) (text : Text) (last next : Option Problem) (more : List Problem)
+    → told which text (joined_with last (option_to_list next ++ more)) ≡ told which text (option_to_list (done_by last next)) ++ told which text (joined_with (held_after last next) more)
+told_step which text last next more = ap (told which text) (joined_step last next more) ∙ filter-append (is_told which text) (option_to_list (done_by last next)) (joined_with (held_after last next) more)
 
--- what is printed of what a check found, as problems
-pub found_is : (is_shown : Bool) (style : Style) (prefix text : Text) (found : Option Finding) → found_report is_shown style prefix text found ≡ shown_problems is_shown style prefix text (map OfCheck (option_to_list found))
-unfolding problem_report
-found_is true style prefix text None = refl
-found_is false style prefix text None = refl
-found_is true style prefix text (Some finding) = sym (append-nil _)
-found_is false style prefix text (Some finding) = refl
+-- at the end only the problem that is held is left
+pub joined_end : (last : Option Problem) → joined_with last [] ≡ option_to_list last
+unfolding joined_after
+joined_end None = refl
+joined_end (Some last) = refl
 
-pub found_number : (found : Option Finding) → found_count found ≡ length (map OfCheck (option_to_list found))
-found_number None = refl
-found_number (Some finding) = refl
+-- what is printed of the last problem
+last_step : (style : Style) (prefix text : Text) (most found : ℕ) (now : List Problem) → length now ≤ 1 → most ≤ 2 ^ 64 - 1 → problems_report style prefix text (most - found) now ≡ shown_problems (nat_lt found most) style prefix text now
+last_step style prefix text most found now few within =
+    ap (problems_report style prefix text (most - found)) (sym (append-nil now))
+    ∙ left_step style prefix text most found _ now [] few within refl
+    ∙ ap (λ t. shown_problems (nat_lt found most) style prefix text now ++ t) (no_problems style prefix text _)
+    ∙ append-nil (shown_problems (nat_lt found most) style prefix text now)
+
+-- What is to be printed of problems, after some others, is what was written, and what is printed of those that are left; the
+-- problems so far are counted.
+pub record IsPut {W : Type 0} (calls : WriterCalls W) (style : Style) (prefix text : Text) (most start found : ℕ) (old new : W) (all left : List Problem) : Type 0 where
+  pub done : Text
+  pub took : Took calls Going old new done
+  pub whole : done ++ problems_report style prefix text (most - found) left ≡ problems_report style prefix text (most - start) all
+  pub counted : min (found + length left) (2 ^ 64 - 1) ≡ min (start + length all) (2 ^ 64 - 1)
+  pub fits : found ≤ 2 ^ 64 - 1
+
+pub put_none : {W : Type 0} (calls : WriterCalls W) (style : Style) (prefix text : Text) (most start : ℕ) (w : W) (all : List Problem) → start ≤ 2 ^ 64 - 1 → IsPut calls style prefix text most start start w w all all
+put_none calls style prefix text most start w all fits = record { done = []; took = took_nil calls w; whole = refl; counted = refl; fits = fits }
+
+-- … with at most one problem more
+pub put_then : {W : Type 0} (calls : WriterCalls W) (style : Style) (prefix text : Text) (most start found after : ℕ) (a b c : W) (all now later : List Problem) → most ≤ 2 ^ 64 - 1 → length now ≤ 1 → after ≡ min (found + length now) (2 ^ 64 - 1)
+    → IsPut calls style prefix text most start found a b all (now ++ later) → Took calls Going b c (shown_problems (nat_lt found most) style prefix text now) → IsPut calls style prefix text most start after a c all later
+put_then calls style prefix text most start found after a b c all now later within few is put wrote =
+    let item = shown_problems (nat_lt found most) style prefix text now in
+    let rest = problems_report style prefix text (most - after) later in
+    record {
+      done = put.done ++ item;
+      took = took_then calls Going a b c put.done item put.took wrote;
+      whole = append_assoc put.done item rest ∙ ap (λ t. put.done ++ t) (sym (left_step style prefix text most found after now later few within is)) ∙ put.whole;
+      counted = omega (arith, is, length-append now later, put.counted, put.fits);
+      fits = omega (arith, is);
+    }
+
+-- … where memory ran out
+pub put_memory : {W : Type 0} (calls : WriterCalls W) (style : Style) (prefix text : Text) (most start found : ℕ) (a b : W) (error : Error) (all left : List Problem) → error_kind error ≡ OutOfMemory
+    → IsPut calls style prefix text most start found a b all left → StopsWithin calls a b error (problems_report style prefix text (most - start) all)
+put_memory calls style prefix text most start found a b error all left memory put =
+    subst (StopsWithin calls a b error) put.whole (stops_later calls a b b error put.done _ put.took (no_memory calls b error _ memory))
+
+-- … where writing of that one stopped
+pub put_stops : {W : Type 0} (calls : WriterCalls W) (style : Style) (prefix text : Text) (most start found : ℕ) (a b c : W) (error : Error) (all now later : List Problem) → most ≤ 2 ^ 64 - 1 → length now ≤ 1
+    → IsPut calls style prefix text most start found a b all (now ++ later) → StopsWithin calls b c error (shown_problems (nat_lt found most) style prefix text now) → StopsWithin calls a c error (problems_report style prefix text (most - start) all)
+put_stops calls style prefix text most start found a b c error all now later within few put stopped =
+    let item = shown_problems (nat_lt found most) style prefix text now in
+    let longer = stops_longer calls b c error item (problems_report style prefix text (most - min (found + length now) (2 ^ 64 - 1)) later) stopped in
+    subst (StopsWithin calls a c error) (ap (λ t. put.done ++ t) (sym (left_step style prefix text most found _ now later few within refl)) ∙ put.whole) (stops_later calls a b c error put.done _ put.took longer)
+
+-- … and where it was the last one
+pub put_last : {W T : Type 0} (calls : WriterCalls W) (style : Style) (prefix text : Text) (most start found : ℕ) (a b c : W) (all now : List Problem) (result : Result T Error) → most ≤ 2 ^ 64 - 1 → length now ≤ 1
+    → IsPut calls style prefix text most start found a b all now → Takes calls Going b c (shown_problems (nat_lt found most) style prefix text now) result → Takes calls Going a c (problems_report style prefix text (most - start) all) result
+put_last calls style prefix text most start found a b c all now result within few put takes =
+    subst (λ t. Takes calls Going a c t result) (ap (λ t. put.done ++ t) (sym (last_step style prefix text most found now few within)) ∙ put.whole) (takes_later calls _ Going a b c put.done _ result put.took takes)
+
+-- … after which those of others are printed
+pub put_rest : {W T : Type 0} (calls : WriterCalls W) (style : Style) (prefix text : Text) (most start found : ℕ) (a b c : W) (all left : List Problem) (result : Result T Error)
+    → IsPut calls style prefix text most start found a b all left → Takes calls Going b c (problems_report style prefix text (most - found) left) result → Takes calls Going a c (problems_report style prefix text (most - start) all) result
+put_rest calls style prefix text most start found a b c all left result put takes =
+    subst (λ t. Takes calls Going a c t result) put.whole (takes_later calls _ Going a b c put.done _ result put.took takes)
 
 -- what follows of what holds where a result is `Ok`
 pub on_ok : (T E : Type 0) (result : Result T E) (P Q : Type 0) → (P → Q) → OnOk result P → OnOk result Q
 on_ok T E (Ok value) P Q next holds = next holds
 on_ok T E (Err error) P Q next holds = tt
-
--- an item that was answered as a lexeme, and one that was answered as an exception
-pub is_given : (file : SourceFile) (next : LexerItem) (found : ℕ × Token × ℕ) → Answers file next (Ok found) → next ≡ Given (lexeme_view found)
-is_given file (Given lexeme) found answers = ap Given (sym answers)
-is_given file (Refused fault) found answers = absurd answers
-
-fault_shown : (is_shown : Bool) (style : Style) (prefix text : Text) (fault : Spanned Fault) → shown_report is_shown style prefix text (Refused fault) ≡ shown_problems is_shown style prefix text (OfLexer fault ∷ [])
-unfolding problem_report
-fault_shown true style prefix text fault = sym (append-nil _)
-fault_shown false style prefix text fault = refl
-
--- what is printed of a fault that is told, as a problem
-pub refused_is : (is_shown : Bool) (style : Style) (prefix text : Text) (which : Filter) (before : List Passed) (file : SourceFile) (next : LexerItem) (exception : Diagnosed ErrorKind) → Answers file next (Err (refusal.Error exception)) → tells_kind which exception.value ≡ true
-    → shown_report is_shown style prefix text next ≡ shown_problems is_shown style prefix text (problems_at which text before next)
-refused_is is_shown style prefix text which before file (Given lexeme) exception answers is = absurd answers
-refused_is is_shown style prefix text which before file (Refused fault) exception answers is =
-    fault_shown is_shown style prefix text fault
-    ∙ ap (λ b. shown_problems is_shown style prefix text (cond b (OfLexer fault ∷ []) [])) (sym is ∙ thrown_told which file fault exception answers)
-
--- a fault that isn't told is no problem
-pub left_out : (which : Filter) (text : Text) (before : List Passed) (file : SourceFile) (next : LexerItem) (exception : Diagnosed ErrorKind) → Answers file next (Err (refusal.Error exception)) → tells_kind which exception.value ≡ false
-    → [] ≡ problems_at which text before next
-left_out which text before file (Given lexeme) exception answers is = absurd answers
-left_out which text before file (Refused fault) exception answers is = ap (λ b. cond b (OfLexer fault ∷ []) []) (sym is ∙ thrown_told which file fault exception answers)
 
 -- what follows of what holds of an `Ok` value
 pub if_ok : (T E : Type 0) (result : Result T E) (P Q : T → Type 0) → ((value : T) → P value → Q value) → IfOk result P → IfOk result Q
@@ -166,18 +189,18 @@ if_ok T E (Ok value) P Q next holds = next value holds
 if_ok T E (Err error) P Q next holds = tt
 
 -- what is printed of a text, by its form
-pub part_of_problems : (style : Style) (prefix text : Text) → has_only_faults style.form ≡ true → problems_report style prefix text style.most (problems_from style.filter.now text [] (all_items text)) ≡ shown_part style prefix text
+pub part_of_problems : (style : Style) (prefix text : Text) → has_only_faults style.form ≡ true → problems_report style prefix text style.most (told style.filter.now text (joined (problems_from text [] (all_items text)))) ≡ shown_part style prefix text
 unfolding shown_part problems
-part_of_problems style prefix text is = ap (λ b. if b then problems_report style prefix text style.most (problems_from style.filter.now text [] (all_items text)) else items_report style prefix text style.most (all_items text)) (sym is)
+part_of_problems style prefix text is = ap (λ b. if b then problems_report style prefix text style.most (told style.filter.now text (joined (problems_from text [] (all_items text)))) else items_report style prefix text style.most (all_items text)) (sym is)
 
 pub part_of_items : (style : Style) (prefix text : Text) → has_only_faults style.form ≡ false → items_report style prefix text style.most (all_items text) ≡ shown_part style prefix text
 unfolding shown_part problems
-part_of_items style prefix text is = ap (λ b. if b then problems_report style prefix text style.most (problems_from style.filter.now text [] (all_items text)) else items_report style prefix text style.most (all_items text)) (sym is)
+part_of_items style prefix text is = ap (λ b. if b then problems_report style prefix text style.most (told style.filter.now text (joined (problems_from text [] (all_items text)))) else items_report style prefix text style.most (all_items text)) (sym is)
 
-pub count_problems : (style : Style) (text : Text) → has_only_faults style.form ≡ true → length (problems_from style.filter.now text [] (all_items text)) ≡ fault_count style text
+pub count_problems : (style : Style) (text : Text) → has_only_faults style.form ≡ true → length (told style.filter.now text (joined (problems_from text [] (all_items text)))) ≡ fault_count style text
 unfolding fault_count problems
-count_problems style text is = ap (λ b. if b then length (problems_from style.filter.now text [] (all_items text)) else count_by is_fault (all_items text)) (sym is)
+count_problems style text is = ap (λ b. if b then length (told style.filter.now text (joined (problems_from text [] (all_items text)))) else count_by is_fault (all_items text)) (sym is)
 
 pub count_items : (style : Style) (text : Text) → has_only_faults style.form ≡ false → count_by is_fault (all_items text) ≡ fault_count style text
 unfolding fault_count problems
-count_items style text is = ap (λ b. if b then length (problems_from style.filter.now text [] (all_items text)) else count_by is_fault (all_items text)) (sym is)
+count_items style text is = ap (λ b. if b then length (told style.filter.now text (joined (problems_from text [] (all_items text)))) else count_by is_fault (all_items text)) (sym is)

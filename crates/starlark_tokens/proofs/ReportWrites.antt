@@ -10,9 +10,9 @@ use Rattle.std.specs.declared.io.ErrorKind.TheVariants.{OutOfMemory}
 use Rattle.starlark_base.specs.Places.{Text}
 use Rattle.starlark_devices.proofs.Calls.{all_append, flat_map_append, written_append}
 use Rattle.starlark_devices.specs.Calls.{Broken, Done, EndedBy, Ending, FailedWith, Flushed, Going, TookSome, WasWritten, Went, WriterCall, WriterCalls, WritesText, Wrote, taken_by}
-use Rattle.starlark_tokens.specs.Progress.{screen_calls}
-use Rattle.starlark_tokens.specs.ReportWrites.{Stops, StopsWithin, Succeeded, Takes, Took}
-use Rattle.starlark_tokens.specs.declared.screen.Screen.{Screen}
+use Rattle.starlark_tokens.specs.Reporting.Progress.{screen_calls}
+use Rattle.starlark_tokens.specs.Reporting.ReportWrites.{Stops, StopsWithin, Succeeded, Takes, Took}
+use Rattle.starlark_tokens.specs.declared.reporting.screen.Screen.{Screen}
 
 took_some : {W : Type 0} (call : WriterCall W) → TookSome call → Succeeded call
 took_some (Wrote piece result after) some = some

@@ -25,14 +25,13 @@ use Rattle.starlark_token.specs.TextItems.{Given, LexerItem, Refused}
 use Rattle.starlark_token.specs.declared.lexeme_error.LexemeError.{LexemeError}
 use Rattle.starlark_token.specs.declared.lexeme_error.LexemeError.TheVariants as error
 use Rattle.starlark_token.specs.declared.tokens.Token.{Token}
-use Rattle.starlark_tokens.specs.declared.form.Style.{Style}
-use Rattle.starlark_tokens.specs.declared.filters.Filter.{Filter}
-use Rattle.starlark_tokens.specs.FaultHelps.{fault_help}
-use Rattle.starlark_tokens.specs.Filters.{tells_fault}
-use Rattle.starlark_tokens.specs.Inner.ShownKinds.{code_of_kind, help_of_kind, shown_of_kind, tells_kind}
+use Rattle.starlark_tokens.specs.declared.output_formats.form.Style.{Style}
+use Rattle.starlark_tokens.specs.ToldFaults.FaultHelps.{fault_help}
+use Rattle.starlark_tokens.specs.Inner.ShownKinds.{code_of_kind, help_of_kind, shown_of_kind}
 use Rattle.starlark_base.specs.Positions.{position_at}
-use Rattle.starlark_tokens.specs.Reports.{fault_count, fault_report, is_fault, item_report, items_report, prefix_of, report, rest_report, shown_part, shown_report, token_report}
-use Rattle.starlark_tokens.specs.ShownPlaces.{shown_at, shown_of}
+use Rattle.starlark_tokens.specs.Reporting.Reports.{fault_count, fault_report, is_fault, item_report, items_report, prefix_of, report, rest_report, shown_part, shown_report, token_report}
+use Rattle.starlark_tokens.specs.ToldFaults.ShownColumns.{position_in}
+use Rattle.starlark_tokens.specs.ToldFaults.ShownPlaces.{shown_at, shown_of}
 use Rattle.starlark_run.proofs.PrintedItems.{message_is}
 
 -- where the fault of an error of the lexer is shown
@@ -58,25 +57,6 @@ code_is error node e = rw e refl
 help_is : (error : LexemeError) (node : Fault) → fault_view error ≡ Some node → help_of_kind (Parser (message.Lexeme error)) ≡ fault_help node
 help_is error node e = rw e refl
 
--- whether the fault of an error of the lexer is told
-tells_is : (which : Filter) (error : LexemeError) (node : Fault) → fault_view error ≡ Some node → tells_kind which (Parser (message.Lexeme error)) ≡ tells_fault which node
-tells_is which error.Indentation node e = let same : token.Indentation ≡ node = cc in ap (tells_fault which) same
-tells_is which (error.InvalidInput text) node e = let same : token.InvalidInput (string_bytes text) ≡ node = cc in ap (tells_fault which) same
-tells_is which error.InvalidTab node e = let same : token.InvalidTab ≡ node = cc in ap (tells_fault which) same
-tells_is which error.UnfinishedStringLiteral node e = let same : token.UnfinishedStringLiteral ≡ node = cc in ap (tells_fault which) same
-tells_is which (error.InvalidEscapeSequence text) node e = let same : token.InvalidEscapeSequence (string_bytes text) ≡ node = cc in ap (tells_fault which) same
-tells_is which error.EmptyEscapeSequence node e = let same : token.EmptyEscapeSequence ≡ node = cc in ap (tells_fault which) same
-tells_is which (error.ReservedKeyword word) node e = let same : token.ReservedKeyword (string_bytes word) ≡ node = cc in ap (tells_fault which) same
-tells_is which (error.StartsZero word) node e = let same : token.StartsZero (string_bytes word) ≡ node = cc in ap (tells_fault which) same
-tells_is which (error.IntParse text) node e = cc
-tells_is which error.CommentSpanComputedIncorrectly node e = cc
-tells_is which (error.CannotParse text base) node e = cc
-tells_is which error.UnfinishedFStringExpression node e = let same : token.UnfinishedFStringExpression ≡ node = cc in ap (tells_fault which) same
-
--- whether the fault of an exception is told
-pub thrown_told : (which : Filter) (file : SourceFile) (fault : Spanned Fault) (exception : Diagnosed ErrorKind) → IsException file fault exception → tells_kind which exception.value ≡ tells_fault which fault.node
-thrown_told which file fault exception thrown = ap (λ (d : Diagnosed ErrorKind). tells_kind which d.value) thrown.2 ∙ tells_is which thrown.0 fault.node thrown.1
-
 -- what is printed of an item that was answered as a lexeme
 pub given_report : (style : Style) (prefix text : Text) (file : SourceFile) (next : LexerItem) (found : ℕ × Token × ℕ) → Answers file next (Ok found) → item_report style prefix text next ≡ token_report style.form prefix (position_at text found.0) (position_at text found.2) (token_view found.1)
 unfolding item_report
@@ -84,7 +64,7 @@ given_report style prefix text file (Given lexeme) found answers = ap (λ (l : S
 given_report style prefix text file (Refused fault) found answers = absurd answers
 
 -- what is printed of an item that was answered as an exception
-fault_is : (style : Style) (prefix text : Text) (file : SourceFile) (fault : Spanned Fault) (exception : Diagnosed ErrorKind) (place : FileSpan) → IsException file fault exception → exception.span ≡ Some place → item_report style prefix text (Refused fault) ≡ fault_report style.form style.side prefix text (position_at text (shown_at text (shown_of_kind exception.value) place.span.begin place.span.end)) (position_at text place.span.begin) (position_at text place.span.end) (code_of_kind exception.value) (kind_text exception.value) (help_of_kind exception.value)
+fault_is : (style : Style) (prefix text : Text) (file : SourceFile) (fault : Spanned Fault) (exception : Diagnosed ErrorKind) (place : FileSpan) → IsException file fault exception → exception.span ≡ Some place → item_report style prefix text (Refused fault) ≡ fault_report style.form style.side prefix text (position_in style.columns text (shown_at text (shown_of_kind exception.value) place.span.begin place.span.end)) (position_in style.columns text place.span.begin) (position_in style.columns text place.span.end) (code_of_kind exception.value) (kind_text exception.value) (help_of_kind exception.value)
 unfolding item_report
 fault_is style prefix text file fault exception place thrown known =
     let span : ByteSpan = record { begin = fault.begin; end = fault.end } in
@@ -96,7 +76,7 @@ fault_is style prefix text file fault exception place thrown known =
     let help : help_of_kind exception.value ≡ fault_help fault.node = ap (λ (d : Diagnosed ErrorKind). help_of_kind d.value) thrown.2 ∙ help_is thrown.0 fault.node thrown.1 in
     rw (at, said, shown, code, help) refl
 
-pub refused_report : (style : Style) (prefix text : Text) (file : SourceFile) (next : LexerItem) (exception : Diagnosed ErrorKind) (place : FileSpan) → Answers file next (Err (refusal.Error exception)) → exception.span ≡ Some place → item_report style prefix text next ≡ fault_report style.form style.side prefix text (position_at text (shown_at text (shown_of_kind exception.value) place.span.begin place.span.end)) (position_at text place.span.begin) (position_at text place.span.end) (code_of_kind exception.value) (kind_text exception.value) (help_of_kind exception.value)
+pub refused_report : (style : Style) (prefix text : Text) (file : SourceFile) (next : LexerItem) (exception : Diagnosed ErrorKind) (place : FileSpan) → Answers file next (Err (refusal.Error exception)) → exception.span ≡ Some place → item_report style prefix text next ≡ fault_report style.form style.side prefix text (position_in style.columns text (shown_at text (shown_of_kind exception.value) place.span.begin place.span.end)) (position_in style.columns text place.span.begin) (position_in style.columns text place.span.end) (code_of_kind exception.value) (kind_text exception.value) (help_of_kind exception.value)
 refused_report style prefix text file (Given lexeme) exception place answers known = absurd answers
 refused_report style prefix text file (Refused fault) exception place answers known = fault_is style prefix text file fault exception place answers known
 

@@ -4,9 +4,9 @@ use Rattle.std.proofs.lemmas.List.{length-take, take_all}
 use Rattle.std.specs.Option.{option_map}
 use Rattle.std.specs.Prelude.{IfErr, IfOk, IfSome, Option, Result}
 use Rattle.std.specs.declared.io.Error.{Error}
-use Rattle.starlark_tokens.specs.SourceNames.{HasFault}
-use Rattle.starlark_tokens.specs.declared.sources.SourceFault.{SourceFault}
-use Rattle.starlark_tokens.specs.declared.sources.SourceFault.TheVariants.{Unreadable}
+use Rattle.starlark_tokens.specs.Files.SourceNames.{HasFault}
+use Rattle.starlark_tokens.specs.declared.files.sources.SourceFault.{SourceFault}
+use Rattle.starlark_tokens.specs.declared.files.sources.SourceFault.TheVariants.{Unreadable}
 
 pub read_whole : (known : Option (List ℕ)) (read : List ℕ) (most : ℕ)
     → IfSome (option_map (take (most + 1)) known) (λ xs. read ≡ [] ++ xs) → length read ≤ most → IfSome known (λ all. read ≡ all)

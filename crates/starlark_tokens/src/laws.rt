@@ -2,8 +2,8 @@
 //!
 //! Each law is the contract of a function with an empty body. Programs don't call them.
 
-ghost use Rattle.starlark_tokens.specs.GlobLaws.{DeepGlobsAreOfLastNames, PlainGlobsAreNames};
-ghost use Rattle.starlark_tokens.specs.JsonStrings.{WritesJson};
+ghost use Rattle.starlark_tokens.specs.Files.GlobLaws.{DeepGlobsAreOfLastNames, PlainGlobsAreNames};
+ghost use Rattle.starlark_tokens.specs.OutputFormats.JsonStrings.{WritesJson};
 
 /// Each text is written as a string of JSON that means its characters.
 pub fn json_strings_are_json()

@@ -5,57 +5,26 @@
 #![tactic(auto)]
 
 ghost use Rattle.std.specs.Prelude.{◌≡◌, ◌⊎◌, IfOk};
-ghost use Rattle.starlark_tokens.specs.Requests as requests;
-ghost use Rattle.starlark_tokens.specs.ReportStatus.{IsPrintStatus, IsRunStatus, IsStatusOf, status_of_print};
+ghost use Rattle.starlark_tokens.specs.CommandLine.Requests as requests;
+ghost use Rattle.starlark_tokens.specs.Reporting.ReportStatus.{IsPrintStatus, IsRunStatus, IsStatusOf, status_of_print};
 
-mod arguments;
 mod build;
-mod character_widths;
-mod command_words;
-mod counts;
-mod explanations;
-mod fault_lines;
-mod file_names;
-mod file_runs;
-mod filters;
-mod folders;
-mod form;
-mod github_lines;
-mod globs;
-mod helps;
-mod item_lines;
-mod json_strings;
-mod known_positions;
+mod command_line;
+mod files;
 mod laws;
-mod messages;
-mod name_lists;
-mod problems;
-mod python_literals;
-mod report;
-mod report_documents;
-mod reporter;
-mod requests;
-mod rules;
-mod sarif_results;
-mod screen;
-mod shown_places;
-mod source_lines;
-mod sources;
-mod styles;
-mod token_lines;
-mod token_values;
-mod totals;
-mod used_globs;
+mod output_formats;
+mod reporting;
+mod told_faults;
 
-use crate::arguments::arguments;
 use crate::build::BUILD;
-use crate::command_words::{begins_with, takes_value, words_of};
-use crate::explanations::explanation;
-use crate::file_runs::{end_run, report_sources, unwritable};
-use crate::folders::sources_of;
-use crate::form::Terminal;
-use crate::messages::say;
-use crate::requests::{Colour, Reports, Request, asked};
+use crate::command_line::arguments::arguments;
+use crate::command_line::command_words::{begins_with, takes_value, words_of};
+use crate::command_line::requests::{Colour, Reports, Request, asked};
+use crate::files::folders::sources_of;
+use crate::output_formats::form::Terminal;
+use crate::reporting::file_runs::{end_run, report_sources, unwritable};
+use crate::reporting::messages::say;
+use crate::told_faults::explanations::explanation;
 use starlark_run::TROUBLE;
 use std::alloc::AllocError;
 use std::io::IsTerminal;
@@ -81,6 +50,7 @@ standard input.
   --select CODES         tell only these faults: codes, or what they begin with, by commas
   --ignore CODES         leave these faults out
   --names WORDS          take these reserved words as names, by commas
+  --columns UNIT         characters, bytes or utf16: how text and github count columns of faults
   --color WHEN           auto, always or never: whether lines of faults have colours
   --stdin-filename NAME  report standard input by this name
   --explain CODE         say what the code of a fault means, and how to mend it
@@ -136,6 +106,8 @@ fn refusal(option: &[u8]) -> &'static str {
         "the formats are text, json, github and sarif"
     } else if begins_with(option, "--color=") {
         "the values are auto, always and never"
+    } else if begins_with(option, "--columns=") {
+        "the values are characters, bytes and utf16"
     } else if begins_with(option, "--max-faults=") {
         "the value is a number in decimal digits"
     } else if takes_value(option) {

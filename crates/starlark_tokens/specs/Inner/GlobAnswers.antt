@@ -1,8 +1,8 @@
 -- What the comparison of a glob with a text, or with the names of a path, tells.
 use Rattle.std.specs.Prelude.{◌≡◌, Bool, true, false, List}
-use Rattle.starlark_tokens.specs.Globs.{some_end}
-use Rattle.starlark_tokens.specs.declared.globs.Answer.{Answer}
-use Rattle.starlark_tokens.specs.declared.globs.Answer.TheVariants.{Fits, Differs, FitsNoEnd}
+use Rattle.starlark_tokens.specs.Files.Globs.{some_end}
+use Rattle.starlark_tokens.specs.declared.files.globs.Answer.{Answer}
+use Rattle.starlark_tokens.specs.declared.files.globs.Answer.TheVariants.{Fits, Differs, FitsNoEnd}
 
 -- an answer is that a test passes, that it fails, or that it fails for each end of a list
 abbrev pub IsAnswer : {A : Type 0} → (test : List A → Bool) → (xs : List A) → Answer → Type 0

@@ -2,7 +2,7 @@
 use Rattle.std.specs.List.{All}
 use Rattle.std.specs.Str.{IsUtf8}
 use Rattle.starlark_base.specs.Positions.{IsPosition}
-use Rattle.starlark_tokens.specs.declared.known_positions.KnownPositions.{KnownPositions}
+use Rattle.starlark_tokens.specs.declared.told_faults.known_positions.KnownPositions.{KnownPositions}
 
 -- each is a position of the text, which is UTF-8
 pub record AreKnown (known_positions : KnownPositions) : Type 0 where

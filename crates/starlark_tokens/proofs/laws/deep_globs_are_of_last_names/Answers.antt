@@ -1,8 +1,8 @@
 use Rattle.std.proofs.Common.{◌≡◌, ◌-◌, ◌∙◌, Bool, true, false, List, [], ◌∷◌, ap, arith, codes, drop, length, refl, sym, suc}
 use Rattle.std.specs.Prelude.{◌&&◌, ◌||◌}
 use Rattle.starlark_base.specs.Places.{Text}
-use Rattle.starlark_tokens.specs.CommandWords.{is_same}
-use Rattle.starlark_tokens.specs.Globs.{fits, fits_names, last_name, some_end}
+use Rattle.starlark_tokens.specs.CommandLine.CommandWords.{is_same}
+use Rattle.starlark_tokens.specs.Files.Globs.{fits, fits_names, last_name, some_end}
 use Rattle.starlark_tokens.proofs.laws.deep_globs_are_of_last_names.Goals as goal
 
 or_none : (a : Bool) → a || false ≡ a

@@ -1,6 +1,6 @@
 use Rattle.std.proofs.Common.{[], ◌∷◌, ◌++◌, ap, map}
 use Rattle.std.specs.Str.{chars}
-use Rattle.starlark_tokens.specs.JsonStrings.{json_string, piece_of}
+use Rattle.starlark_tokens.specs.OutputFormats.JsonStrings.{json_string, piece_of}
 use Rattle.starlark_tokens.proofs.JsonPieces.{all_allowed, all_meant, all_written}
 use Rattle.starlark_tokens.proofs.laws.json_strings_are_json.Goals as goal
 

@@ -2,9 +2,9 @@ use Rattle.std.proofs.Common.{◌≡◌, Bool, true, false, [], ◌∷◌, ap, n
 use Rattle.std.specs.Prelude.{◌&&◌, ◌||◌, ◌==◌}
 use Rattle.std.specs.List.{list_all}
 use Rattle.starlark_base.specs.Places.{Text}
-use Rattle.starlark_tokens.specs.CommandWords.{is_same}
-use Rattle.starlark_tokens.specs.GlobLaws.{is_plain}
-use Rattle.starlark_tokens.specs.Globs.{fits, fits_after}
+use Rattle.starlark_tokens.specs.CommandLine.CommandWords.{is_same}
+use Rattle.starlark_tokens.specs.Files.GlobLaws.{is_plain}
+use Rattle.starlark_tokens.specs.Files.Globs.{fits, fits_after}
 use Rattle.starlark_tokens.proofs.laws.plain_globs_are_names.Goals as goal
 
 -- what a plain byte isn't, and what the others are

@@ -1,7 +1,0 @@
-use Rattle.std.proofs.Common.{ap, sym}
-use Rattle.starlark_tokens.specs.ItemLines.{ellipsis}
-use Rattle.starlark_tokens.proofs.fault_lines.ellipsis.Goals as goal
-
-pub returns-then-is_cut : goal.returns-then-is_cut
-unfolding lib.Utf8.encode
-returns-then-is_cut c = ap ellipsis (sym c.if-is_cut.true)

@@ -1,8 +1,0 @@
-use Rattle.std.proofs.Common.{◌≡◌, ◌++◌, string_bytes}
-use Rattle.std.specs.List.{flat_map}
-use Rattle.starlark_tokens.specs.JsonStrings.{json_char}
-use Rattle.starlark_tokens.proofs.json_strings.push_json_chars.Given as goal
-
--- what was yielded is put
-abbrev pub invariant-loop-character : goal.invariant-loop-character
-invariant-loop-character l = string_bytes l.line ≡ string_bytes l.fn.line ++ flat_map json_char l.yielded

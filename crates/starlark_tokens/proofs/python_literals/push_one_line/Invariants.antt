@@ -1,8 +1,0 @@
-use Rattle.std.proofs.Common.{◌≡◌, ◌++◌, string_bytes}
-use Rattle.std.specs.List.{flat_map}
-use Rattle.starlark_tokens.specs.PythonLiterals.{line_char}
-use Rattle.starlark_tokens.proofs.python_literals.push_one_line.Given as goal
-
--- what was yielded is put
-abbrev pub invariant-loop-character : goal.invariant-loop-character
-invariant-loop-character l = string_bytes l.line ≡ string_bytes l.fn.line ++ flat_map line_char l.yielded

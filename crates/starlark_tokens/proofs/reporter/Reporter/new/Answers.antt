@@ -1,7 +1,0 @@
-use Rattle.starlark_base.proofs.Pairs.{position_start}
-use Rattle.starlark_tokens.proofs.reporter.Reporter.new.Goals as goal
-
-pub returns-clause-ready : goal.returns-clause-ready
-returns-clause-ready c =
-    let start = position_start c.args.text.now c.utf8.text in
-    record { marked = c.new-known_positions.ensures.text; known_positions = c.new-known_positions.ensures.known; here = start; last_fault = start }

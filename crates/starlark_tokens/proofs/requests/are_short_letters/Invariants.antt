@@ -1,8 +1,0 @@
-use Rattle.std.proofs.Common.{◌≡◌, drop}
-use Rattle.std.specs.List.{list_all}
-use Rattle.starlark_tokens.specs.Requests.{is_short_letter}
-use Rattle.starlark_tokens.proofs.requests.are_short_letters.Given as goal
-
--- all are such letters if those that are left are
-abbrev pub invariant-loop-byte : goal.invariant-loop-byte
-invariant-loop-byte l = list_all is_short_letter (drop l.byte-index l.letters) ≡ list_all is_short_letter l.letters

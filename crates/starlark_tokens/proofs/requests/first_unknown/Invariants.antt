@@ -1,7 +1,0 @@
-use Rattle.std.proofs.Common.{◌≡◌, drop, map}
-use Rattle.starlark_tokens.specs.Requests.{first_unknown}
-use Rattle.starlark_tokens.proofs.requests.first_unknown.Given as goal
-
--- the first unknown option is among the words that are left
-abbrev pub invariant-loop-word : goal.invariant-loop-word
-invariant-loop-word l = first_unknown (map (λ word. word.items) (drop l.word-index l.words)) ≡ first_unknown (map (λ word. word.items) l.words)

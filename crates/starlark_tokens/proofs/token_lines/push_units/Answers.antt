@@ -1,4 +1,0 @@
-use Rattle.starlark_tokens.proofs.token_lines.push_units.Goals as goal
-
-pub returns : goal.returns
-returns c = rw c.utf16_from_one-units.ensures at c.write.ensures.bytes

@@ -1,0 +1,10 @@
+use Rattle.std.proofs.Common.{◌≡◌, ◌+◌, ◌-◌, length}
+use Rattle.starlark_tokens.specs.Inner.ByteColumns.{AreColumns}
+use Rattle.starlark_tokens.proofs.told_faults.byte_columns.ByteColumns.column.Given as goal
+
+abbrev pub invariant-loop-self : goal.invariant-loop-self
+invariant-loop-self l = record { known : AreColumns l.self; text : l.self.text.now ≡ l.fn.self.text.now }
+
+-- how many parts have to be read
+abbrev pub decreases-loop-self : goal.decreases-loop-self
+decreases-loop-self l = l.part + 1 - length l.self.known.items

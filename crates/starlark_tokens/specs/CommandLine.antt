@@ -1,0 +1,3 @@
+-- What the command line asks for.
+pub mod CommandWords
+pub mod Requests

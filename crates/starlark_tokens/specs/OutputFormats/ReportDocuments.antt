@@ -1,0 +1,69 @@
+-- What a document begins and ends with, around the reports of its files.
+use Rattle.std.specs.Prelude.{ℕ, Bool, true, false, ◌==◌, if◌then◌else◌, [], ◌++◌, codes, drop}
+use Rattle.std.specs.Fmt.{decimal}
+use Rattle.starlark_base.specs.Places.{Text}
+use Rattle.starlark_tokens.specs.declared.output_formats.form.Form.{Form}
+use Rattle.starlark_tokens.specs.declared.output_formats.form.Form.TheVariants.{Json, JsonFaults, Sarif}
+use Rattle.starlark_tokens.specs.declared.output_formats.rules.TheConstants.{RULES}
+use Rattle.starlark_tokens.specs.declared.reporting.totals.Totals.{Totals}
+
+-- the first line of a document of JSON
+abbrev pub json_opening : Text
+json_opening = codes "{\"format\":\"starlark_lexemes\",\"version\":1,\"proved\":" ++ (codes "true" ++ codes "}\n")
+
+-- a document of SARIF up to its results
+abbrev pub sarif_opening : Text
+sarif_opening = RULES.now ++ (codes "true" ++ codes "}}},\"columnKind\":\"unicodeCodePoints\",\"results\":[")
+
+-- what a document begins with
+unfoldable pub opening : Form → Text
+opening Json = json_opening
+opening JsonFaults = json_opening
+opening Sarif = sarif_opening
+opening form = []
+
+-- what was found, as fields of an object of JSON, and its end
+unfoldable pub json_counts : Totals → Text
+json_counts totals =
+    codes ",\"files\":" ++ (decimal totals.files ++ (codes ",\"faulty_files\":" ++ (decimal totals.faulty_files
+    ++ (codes ",\"faults\":" ++ (decimal totals.faults ++ (codes ",\"unreadable\":" ++ (decimal totals.unreadable ++ codes "}\n")))))))
+
+-- the last line of a document of JSON
+abbrev pub json_closing : Totals → Text
+json_closing totals = codes "{\"kind\":\"Summary\"" ++ json_counts totals
+
+-- how many files couldn't be read, as a field of an object of JSON
+unfoldable pub notification : (unreadable : ℕ) → Text
+notification unreadable =
+    codes ",\"toolExecutionNotifications\":[{\"level\":\"error\",\"message\":{\"text\":\""
+    ++ ((codes "files that couldn't be read: " ++ decimal unreadable) ++ codes "\"}}]")
+
+-- … if there are some
+abbrev pub notifications : (unreadable : ℕ) → Text
+notifications unreadable = if unreadable == 0 then [] else notification unreadable
+
+-- a document of SARIF after its results
+abbrev pub sarif_closing : Totals → Text
+sarif_closing totals =
+    codes "\n],\"invocations\":[{\"executionSuccessful\":" ++ ((if totals.unreadable == 0 then codes "true" else codes "false")
+    ++ (notifications totals.unreadable ++ codes "}]}]}\n"))
+
+-- what a document ends with
+unfoldable pub closing : Form → Totals → Text
+closing Json totals = json_closing totals
+closing JsonFaults totals = json_closing totals
+closing Sarif totals = sarif_closing totals
+closing form totals = []
+
+-- a form whose reports are collected before they are written
+abbrev pub is_collected : Form → Bool
+is_collected Sarif = true
+is_collected form = false
+
+-- the reports of all files; of those that are collected without the comma before the first result
+abbrev pub body : Form → (reports : Text) → Text
+body form reports = if is_collected form then drop 1 reports else reports
+
+-- a document, by what was found and the reports of all files
+abbrev pub document : Form → Totals → (reports : Text) → Text
+document form totals reports = opening form ++ (body form reports ++ closing form totals)
