@@ -90,7 +90,7 @@ pub struct Reader<'a> {
 }
 
 /// What `take_line_end` has taken.
-// Order matters: the last variant is the one that continues the loop of `next_plain`, and `Newline`
+// Order matters: the last variant is the one after which a loop of the lexer goes on, and `Newline`
 // spares it a look at what is pending (6 % of blank lines).
 #[derive(Clone, Copy)]
 pub enum TakenLineEnd {
