@@ -287,8 +287,7 @@ uint32_t starlark_lex_version(void) STARLARK_LEX_NOEXCEPT;
  * Up to the counts in *outcome the buffers have the records of the text's lexemes, in order, and
  * their values, one after another. After a fault's lexemes the values have the text that the fault
  * names, and `values` counts it. After what is counted the buffers are as they were, except with
- * STARLARK_STATUS_FULL: then they have some more lexemes of the text, and are as they were after
- * those.
+ * STARLARK_STATUS_FULL: then they may have some more lexemes of the text.
  *
  * Where the buffers are full they have the lexemes up to offset `next` of the text, a clean cut: a
  * line ends there, and no bracket, block or f-string is open. The text from there on is lexed by a
