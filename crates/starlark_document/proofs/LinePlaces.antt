@@ -23,6 +23,7 @@ use Rattle.starlark_document.proofs.SegmentOffsets.{HaveLens-laid, IsUtf8-text_o
 use Rattle.starlark_grammar.specs.Words.{Text}
 use Rattle.starlark_grammar.proofs.Joining.Followed.{ends_line, ends_line_of}
 use Rattle.starlark_grammar.specs.Found.{IsClosed}
+use Rattle.starlark_grammar.specs.Reading.{nothing}
 use Rattle.starlark_grammar.proofs.Found.ClosedTexts.{closed_ends}
 use Rattle.starlark_base.specs.Positions.{pairs_before, pairs_in_line, position_at}
 use Rattle.starlark_base.specs.declared.position.Position.{Position}
@@ -78,7 +79,7 @@ ends_line_front (b ∷ (c ∷ bs)) ends =
 pub closed_lines : (text : Text) → IsClosed text → EndsLines text
 unfolding EndsLines
 closed_lines [] closed = inl refl
-closed_lines (b ∷ bs) closed = inr (ends_line_front (b ∷ bs) (ends_line_of (b ∷ bs) (closed_ends (b ∷ bs) closed (omega arith))))
+closed_lines (b ∷ bs) closed = inr (ends_line_front (b ∷ bs) (ends_line_of (b ∷ bs) (closed_ends nothing (b ∷ bs) closed (omega arith))))
 
 lines_append : (first second : Text) → EndsLines first → EndsLines second → EndsLines (first ++ second)
 unfolding EndsLines

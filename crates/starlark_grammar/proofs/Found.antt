@@ -1,9 +1,9 @@
 -- All that is found in a text that is lexed on after its faults.
 pub mod CommentEnds
 pub mod FoundItems
+pub mod PassedFaults
+pub mod Order
 pub mod JoinedTexts
 pub mod ClosedTexts
-pub mod Repairs
-pub mod Order
 pub mod Cuts
 pub mod CutItems

@@ -18,6 +18,7 @@
 -- Order/Gaps, OrderedLexemes, Literals/Silent: order: lexemes are in order, with only gaps between them.
 -- Order/Inside: inside: all lexemes lie inside of the text.
 -- Order/Edges, Boundaries, WholeTexts: UTF-8 boundaries: lexemes begin and end at boundaries.
+-- Order/Rests: rests: the outcome of the rest of a text lies in it, between characters.
 -- ClosingQuotes: literals: closing quotes are bytes of a line, one at least.
 -- MarginComments: margins: what holds of each comment.
 -- Lists, Choices: for all: facts on lists, and on results of a test.
@@ -40,10 +41,9 @@
 -- Recovery/ClosedBlocks, LineCuts: cuts between lines: content at column 0 closes all blocks.
 -- Recovery/NewlinePieces, NewlineCuts: cuts at newlines: a `Newline` of some bytes ends a text of its own.
 -- Words/EachByte: bytes of words: a test that the bytes of names and numbers pass.
--- Repairs/Fronts, Bodies, Margins, Pieces: repairs: what stands before a repair stays.
--- Repairs/Semicolons, States, Faults, Readings: repairs: each `;` is a lexeme, and leaves what is open; where a fault
---   that keeps its line is; the outcome of a repaired text.
--- Repairs/RepairedTexts: repaired texts: their length, and what stands after the repair.
+-- Reading/Onward: readings and outcomes after a history.
+-- KeptLines/Faults, KeptFaultPlaces: faults that keep their lines: where they are, and that they have a byte.
+-- Found/Cuts, CutItems: newlines among what is found: they close the text up to there, and what is found in it.
 -- Rows: worked texts, by computing: outcomes, bodies, cuts, joins and fronts; Rows/Shapes: how a row is written.
 pub mod Lists
 pub mod Choices
@@ -59,5 +59,5 @@ pub mod MarginComments
 pub mod Joining
 pub mod LineEnds
 pub mod Recovery
-pub mod Repairs
+pub mod KeptLines
 pub mod Found

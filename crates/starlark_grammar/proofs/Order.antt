@@ -5,3 +5,4 @@ pub mod Edges
 pub mod Boundaries
 pub mod WholeTexts
 pub mod Inside
+pub mod Rests

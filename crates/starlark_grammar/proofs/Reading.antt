@@ -3,3 +3,4 @@ pub mod Steps
 pub mod Readings
 pub mod Faults
 pub mod EarlierTable
+pub mod Onward

@@ -11,4 +11,4 @@ mod Cuts
 mod LineEnds
 mod EarlierLanguage
 mod Recovery
-mod Repairs
+mod KeptLines

@@ -2,28 +2,25 @@
 use Rattle.std.specs.Prelude.{◌≡◌, ◌<◌, ℕ, Bool, true, false, not, List, [], ◌∷◌, ◌++◌, length, map, drop, take, Some, None}
 use Rattle.std.specs.List.{list_all}
 use Rattle.starlark_grammar.specs.Words.{Text}
-use Rattle.starlark_grammar.specs.AfterFaults.{restart}
-use Rattle.starlark_grammar.specs.Found.{Given, IsClosed, Item, Refused, faults_in, found, found_past, given, lexemes_in, moved_item, parted, passed_count}
+use Rattle.starlark_grammar.specs.Found.{Given, IsClosed, Item, Refused, faults_in, found, found_after, given, lexemes_in, moved_item, parted, passed}
 use Rattle.starlark_grammar.specs.RecoveryLaws.{AreInOrder}
-use Rattle.starlark_grammar.specs.Reading.{outcome}
+use Rattle.starlark_grammar.specs.Reading.{History, nothing, outcome, outcome_after}
 use Rattle.starlark_grammar.specs.Joining.{begins_plainly, has_newline, is_dedent, recovered_joined, without_last_newline}
-use Rattle.starlark_grammar.specs.Repairs.{keeps_line, repaired}
 use Rattle.starlark_grammar.specs.Cuts.{is_newline}
 use Rattle.starlark_grammar.specs.Tokens.{Fault, Lexeme, Spanned}
 
 -- In a text without fault its lexemes are found, …
 abbrev pub FaultlessFound : Type 0
-FaultlessFound = (passed : ℕ) (text : Text) → (outcome text).fault ≡ None → found_past passed text ≡ given (drop passed (outcome text).lexemes)
+FaultlessFound = (history : History) (text : Text) → (outcome_after history text).fault ≡ None → found_after history text ≡ given (outcome_after history text).lexemes
 
--- … in one whose fault keeps its line these, the fault, and what the repaired text has after the repair, …
-abbrev pub FoundAfterRepairs : Type 0
-FoundAfterRepairs = (passed : ℕ) (text : Text) (fault : Spanned Fault) → (outcome text).fault ≡ Some fault → keeps_line text (outcome text).lexemes fault ≡ true
-    → found_past passed text ≡ given (drop passed (outcome text).lexemes) ++ (Refused fault ∷ found_past (passed_count text fault) (repaired text fault))
+-- … in any other these, the fault, and what is found in the rest after it.
+abbrev pub FoundAfterFaults : Type 0
+FoundAfterFaults = (history : History) (text : Text) (fault : Spanned Fault) → (outcome_after history text).fault ≡ Some fault
+    → found_after history text ≡ given (outcome_after history text).lexemes ++ (Refused fault ∷ map (moved_item (passed history text fault).len) (found_after (passed history text fault).history (drop (passed history text fault).len text)))
 
--- … and in any other these, the fault, and what the text has from the next line on.
-abbrev pub FoundAfterLines : Type 0
-FoundAfterLines = (passed : ℕ) (text : Text) (fault : Spanned Fault) → (outcome text).fault ≡ Some fault → keeps_line text (outcome text).lexemes fault ≡ false
-    → found_past passed text ≡ given (drop passed (outcome text).lexemes) ++ (Refused fault ∷ map (moved_item (restart text fault)) (found_past 0 (drop (restart text fault) text)))
+-- After no history that is a text's outcome.
+abbrev pub OutcomeAfterNothing : Type 0
+OutcomeAfterNothing = (text : Text) → outcome_after nothing text ≡ outcome text
 
 -- In a closed text and one after it that begins plainly is found what is found in each.
 abbrev pub FoundJoins : Type 0

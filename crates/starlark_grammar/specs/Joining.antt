@@ -8,7 +8,7 @@ use Rattle.starlark_grammar.specs.Margins.{is_blank, is_lf}
 use Rattle.starlark_grammar.specs.Words.{language}
 use Rattle.starlark_grammar.specs.Cuts.{is_faultless, is_layout, is_outside, is_newline}
 use Rattle.starlark_grammar.specs.Depths.{is_balanced, mode_after}
-use Rattle.starlark_grammar.specs.Reading.{History, Reading, after_all, nothing, outcome, read}
+use Rattle.starlark_grammar.specs.Reading.{History, history_after, nothing, outcome, read_after}
 use Rattle.starlark_grammar.specs.Recovery.{Recovered, restart}
 
 -- The fault of a text ends before the text does, and the text's last byte is an LF. So whatever follows the text, its
@@ -20,13 +20,13 @@ is_decided text fault = nat_lt fault.end (length text) && ends_with nat_eq text 
 unfoldable pub is_between_lines : History → Bool
 is_between_lines history = is_layout history.before && is_outside (mode_after history.tokens) && is_balanced history.tokens
 
--- A cut between lines: a text without fault that ends with the LF of a logical, blank or comment line, and leaves no
--- bracket or f-string open. Content at the start of the next line closes its blocks.
+-- A cut between lines: a text, after a history, without fault that ends with the LF of a logical, blank or comment line,
+-- and leaves no bracket or f-string open. Content at the start of the next line closes its blocks.
+unfoldable pub is_line_cut_after : History → Text → Bool
+is_line_cut_after history text = is_faultless (read_after language history text).last && is_between_lines (history_after history text) && ends_with nat_eq text (codes "\n")
+
 unfoldable pub is_line_cut : Text → Bool
-is_line_cut text = go (read language text)
-  where
-    go : Reading → Bool
-    go reading = is_faultless reading.last && is_between_lines (after_all nothing reading.pieces) && ends_with nat_eq text (codes "\n")
+is_line_cut = is_line_cut_after nothing
 
 -- whether one of the lexemes is a `Newline`
 abbrev pub has_newline : List Lexeme → Bool

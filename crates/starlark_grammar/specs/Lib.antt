@@ -24,7 +24,7 @@ pub mod TextLaws
 pub mod Recovery
 pub mod RecoveryLaws
 pub mod Joining
-pub mod Repairs
-pub mod RepairLaws
+pub mod KeptLines
+pub mod KeptLineLaws
 pub mod Found
 pub mod FoundLaws

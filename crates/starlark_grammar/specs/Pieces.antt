@@ -19,6 +19,10 @@ pub data Before : Type 0 where
   Gap : Before
   Other : Before
 
+abbrev pub is_nothing : Before → Bool
+is_nothing Nothing = true
+is_nothing before = false
+
 -- A piece: its bytes, its lexemes, the width where it leads to a content line, and what it is for the next piece.
 pub record Piece : Type 0 where
   pub len : ℕ

@@ -63,9 +63,13 @@ read_from table history (suc passed) (b ∷ bs) = read_from table history passed
 read_from table history zero (b ∷ bs) =
     read_onward (next_step table history (b ∷ bs)) (λ piece. read_from table (after history piece) (piece.len - 1) bs)
 
--- The longest reading of a text. Its first piece is a margin, which alone may be empty.
+-- The longest reading of a text after a history. After none the first piece is a margin, which alone may be empty.
+unfoldable pub read_after : Table → History → Text → Reading
+read_after table history text = read_onward (next_step table history text) (λ piece. read_from table (after history piece) piece.len text)
+
+-- the longest reading of a text
 unfoldable pub read : Table → Text → Reading
-read table text = read_onward (next_step table nothing text) (λ piece. read_from table (after nothing piece) piece.len text)
+read table text = read_after table nothing text
 
 -- the lexemes of pieces of which the first begins at a place
 abbrev pub lexemes_along : ℕ → List Piece → List Lexeme
@@ -77,25 +81,37 @@ abbrev pub closing : ℕ → History → List Lexeme
 closing at history =
     record { begin = at; node = Newline; end = at } ∷ replicate (length (open_widths history.widths)) (record { begin = at; node = Dedent; end = at })
 
--- The lexemes before a fault: the lexemes of the pieces; where not even the text's first margin stands, the
--- comments of that margin.
-abbrev pub before_fault : Text → List Piece → List Lexeme
-before_fault text [] = (margin_of text).comments
-before_fault text (piece ∷ pieces) = lexemes_along 0 (piece ∷ pieces)
+-- The lexemes before a fault: those of the pieces; where not even the first margin of a text stands, the comments of
+-- that margin.
+abbrev pub lexemes_before : Before → Text → List Piece → List Lexeme
+lexemes_before Nothing text [] = (margin_of text).comments
+lexemes_before before text pieces = lexemes_along 0 pieces
 
--- the outcome of a reading and what stands after it
+-- the outcome of a reading after a history, and of what stands after it
+abbrev pub reading_outcome : History → Text → List Piece → Step → Outcome
+reading_outcome history text pieces (Fails fault) = record { lexemes = lexemes_before history.before text pieces; fault = Some (moved (pieces_len pieces) fault) }
+reading_outcome history text pieces step =
+    record { lexemes = lexemes_along 0 pieces ++ closing (pieces_len pieces) (after_all history pieces); fault = None }
+
+-- the outcome of a reading of a whole text
 abbrev pub outcome_of : Text → List Piece → Step → Outcome
-outcome_of text pieces (Fails fault) = record { lexemes = before_fault text pieces; fault = Some (moved (pieces_len pieces) fault) }
-outcome_of text pieces step =
-    record { lexemes = lexemes_along 0 pieces ++ closing (pieces_len pieces) (after_all nothing pieces); fault = None }
+outcome_of text pieces last = reading_outcome nothing text pieces last
+
+abbrev pub before_fault : Text → List Piece → List Lexeme
+before_fault text pieces = lexemes_before Nothing text pieces
 
 -- The outcome of a text by a table of words.
 unfoldable pub outcome_in : Table → Text → Outcome
-outcome_in table text = go (read table text)
-  where
-    go : Reading → Outcome
-    go reading = outcome_of text reading.pieces reading.last
+outcome_in table text = reading_outcome nothing text (read table text).pieces (read table text).last
 
 -- the outcome of a text
 unfoldable pub outcome : Text → Outcome
 outcome = outcome_in language
+
+-- the outcome of the rest of a text, after a history
+unfoldable pub outcome_after : History → Text → Outcome
+outcome_after history text = reading_outcome history text (read_after language history text).pieces (read_after language history text).last
+
+-- what was read once such a rest is read, or up to its fault
+unfoldable pub history_after : History → Text → History
+history_after history text = after_all history (read_after language history text).pieces

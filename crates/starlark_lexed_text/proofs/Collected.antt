@@ -21,7 +21,7 @@ use Rattle.starlark_lexemes.proofs.LexerCuts.{kept_some}
 use Rattle.starlark_lexed_text.proofs.KeptCuts.{faultless_cut, faulty_cut, in_order, some_lexemes, whole_kept, held_left, held_one, held_right, kept_inside}
 use Rattle.starlark_lexed_text.proofs.Elements.{all_append, all_weaker}
 use Rattle.starlark_lexed_text.proofs.JoinedLists.{begun}
-use Rattle.starlark_reader.proofs.TakenPieces.Onward.{margin_first}
+use Rattle.starlark_reader.proofs.TakenPieces.LeftOutcomes.{margin_first}
 use Rattle.starlark_reader.proofs.TakenPieces.Taken.{no_tab}
 use Rattle.starlark_reader.specs.Inner.Reader.{IsReached, IsStateAfter, Start, begins_with_tab, has_read_none}
 use Rattle.starlark_lexemes.specs.Inner.RawItems.{IsRawIn}

@@ -21,7 +21,7 @@ use Rattle.starlark_errors.specs.Exceptions.{IsFaultIn}
 use Rattle.starlark_token.specs.Lexemes.{lexeme_view, shown_lexeme}
 use Rattle.starlark_lexed_text.specs.Inner.LexedTexts.{later}
 use Rattle.starlark_lexemes.proofs.LexerStates.{or_false}
-use Rattle.starlark_reader.proofs.TakenPieces.Onward.{first_fails}
+use Rattle.starlark_reader.proofs.TakenPieces.LeftOutcomes.{first_fails}
 use Rattle.starlark_token.specs.declared.tokens.Token.{Token}
 
 -- Outcomes

@@ -5,9 +5,8 @@ use Rattle.std.specs.List.{ends_with, AllByRecursion}
 use Rattle.starlark_grammar.specs.Words.{Text, language}
 use Rattle.starlark_grammar.specs.Tokens.{Fault, Spanned, Lexeme, Outcome, moved}
 use Rattle.starlark_grammar.specs.Pieces.{Fails, Piece, Step}
-use Rattle.starlark_grammar.specs.Reading.{outcome, outcome_in, outcome_of, read, after_all, closing, lexemes_along, nothing, pieces_len}
+use Rattle.starlark_grammar.specs.Reading.{outcome, outcome_in, outcome_of, read, after_all, closing, history_after, lexemes_along, nothing, pieces_len}
 use Rattle.starlark_grammar.specs.Cuts.{is_clean_cut, is_clean_cut_in, is_faultless, is_settled, without_closing, is_kept_cut}
-use Rattle.starlark_reader.specs.Inner.Reader.{history_of}
 use Rattle.std.proofs.lemmas.Bool.{and_parts, cases_lt, eq-eqb, eqb-true, or_right}
 use Rattle.std.proofs.lemmas.List.{length-map, length-take-le, take-append-drop, take-take, take_all, take-append-le}
 use Rattle.starlark_grammar.specs.TextLaws.{HasFirstMargin}
@@ -31,16 +30,16 @@ a_fault text pieces (Fails found) fault h = refl
 a_fault text pieces last fault h = cc
 
 -- a text without fault is one where nothing is open at its end and its last byte is an LF
-pub faultless_cut : (text : Text) → (outcome text).fault ≡ None → is_clean_cut text ≡ (is_settled (history_of text) && ends_with nat_eq text (codes "\n"))
-unfolding is_clean_cut is_clean_cut_in outcome outcome_in history_of
+pub faultless_cut : (text : Text) → (outcome text).fault ≡ None → is_clean_cut text ≡ (is_settled (history_after nothing text) && ends_with nat_eq text (codes "\n"))
+unfolding is_clean_cut is_clean_cut_in outcome outcome_in history_after read
 faultless_cut text h =
-    ap (λ (b : Bool). b && is_settled (history_of text) && ends_with nat_eq text (codes "\n")) (no_fault text (read language text).pieces (read language text).last h)
+    ap (λ (b : Bool). b && is_settled (history_after nothing text) && ends_with nat_eq text (codes "\n")) (no_fault text (read language text).pieces (read language text).last h)
 
 -- one with a fault is none
 pub faulty_cut : (text : Text) (fault : Spanned Fault) → (outcome text).fault ≡ Some fault → is_clean_cut text ≡ false
-unfolding is_clean_cut is_clean_cut_in outcome outcome_in history_of
+unfolding is_clean_cut is_clean_cut_in outcome outcome_in history_after read
 faulty_cut text fault h =
-    ap (λ (b : Bool). b && is_settled (history_of text) && ends_with nat_eq text (codes "\n")) (a_fault text (read language text).pieces (read language text).last fault h)
+    ap (λ (b : Bool). b && is_settled (history_after nothing text) && ends_with nat_eq text (codes "\n")) (a_fault text (read language text).pieces (read language text).last fault h)
 
 -- A clean cut has no fault.
 pub clean_faultless : (text : Text) → is_clean_cut text ≡ true → (outcome text).fault ≡ None

@@ -13,7 +13,7 @@ use Rattle.starlark_grammar.specs.TextLaws.{HasFirstMargin}
 use Rattle.starlark_grammar.proofs.Joining.Laws.{cuts_of_joined, faults_join, kept_cuts_keep}
 use Rattle.starlark_grammar.proofs.Joining.LineCuts.{kept_by, kept_parts}
 use Rattle.starlark_reader.specs.Inner.MarginCuts.{IsCutBefore, lexemes_before}
-use Rattle.starlark_reader.proofs.TakenPieces.Onward.{margin_first}
+use Rattle.starlark_reader.proofs.TakenPieces.LeftOutcomes.{margin_first}
 use Rattle.starlark_reader.proofs.TakenPieces.Taken.{no_tab}
 use Rattle.starlark_lexemes.specs.Inner.RawItems.{IsRawIn}
 use Rattle.starlark_lexed_text.specs.Inner.LexedTexts.{AreCuts, IsCutOf, IsMet, IsReadPart, IsReadPartTo, IsRising, PartView, cuts_at, holds_cut, met_part, moved_cut, moved_lexeme, AllAfter, AllNear, AllNearCuts, IsPutIn, later}

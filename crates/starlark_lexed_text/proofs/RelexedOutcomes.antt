@@ -38,7 +38,7 @@ use Rattle.starlark_lexed_text.proofs.LastNewlines.{FoundNewline, none_shown, so
 use Rattle.starlark_lexemes.proofs.LexerStates.{or_false}
 use Rattle.starlark_lexed_text.proofs.ReadParts.{unmoved_fault}
 use Rattle.starlark_lexed_text.specs.LexedTexts.{IsReadFrom, LexedView}
-use Rattle.starlark_reader.proofs.TakenPieces.Onward.{first_fails}
+use Rattle.starlark_reader.proofs.TakenPieces.LeftOutcomes.{first_fails}
 
 -- Cuts
 

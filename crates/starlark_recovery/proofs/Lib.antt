@@ -1,15 +1,13 @@
 -- Where each proof is. What belongs to one function is in a folder that has its name.
 -- RestartPlaces: the place: the next line begins at a character boundary; what the search of it reads.
 -- RecoveredItems: items: those of a text that are left, by its lexemes, its fault, and what is after that.
--- SameRests: what two texts have in common that are the same from an offset on.
--- RepairedParts: a text with one more repair.
+-- PartRests: what is left of a part: its outcome, its fault, and where that is passed.
 -- RecoveryStates: a lexer that goes on: what is left to it after each fault.
 -- RecoverySteps: its answers.
 -- Passes: a fault that was passed, and whether it keeps its line.
+pub mod PartRests
 pub mod RecoveredItems
 pub mod RestartPlaces
-pub mod SameRests
-pub mod RepairedParts
 pub mod RecoveryStates
 pub mod RecoverySteps
 pub mod Passes

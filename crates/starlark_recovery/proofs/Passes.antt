@@ -1,17 +1,21 @@
 -- A fault that was passed.
-use Rattle.std.proofs.Common.{◌≡◌, ℕ, ◌+◌, ◌==◌, List, drop, ap, subst, ◌∙◌, None, Some, refl}
+use Rattle.std.proofs.Common.{◌≡◌, ◌≤◌, ℕ, ◌+◌, ◌-◌, ◌==◌, arith, drop, ap, subst, sym, ◌∙◌, None, Some, refl}
 use Rattle.std.specs.List.{prefix_len}
 use Rattle.std.specs.Prelude.{◌&&◌, ◌||◌, Bool, Option, codes, if◌then◌else◌, nat_eq, not, string_bytes}
 use Rattle.std.specs.Str.{IsCharBoundary, bytes_eq}
 use Rattle.starlark_grammar.specs.Margins.{begins_with_line_end}
-use Rattle.starlark_grammar.specs.Repairs.{ends_by_comment, keeps_line, repair_end}
-use Rattle.starlark_grammar.specs.Tokens.{Fault, Lexeme, Spanned}
+use Rattle.starlark_grammar.specs.Inner.KeptFaults.{is_in_margin}
+use Rattle.starlark_grammar.specs.KeptLines.{ends_by_comment, keeps_line, passed_end}
+use Rattle.starlark_grammar.specs.Tokens.{Fault, Spanned}
 use Rattle.starlark_grammar.specs.Tokens as grammar
 use Rattle.std.proofs.lemmas.Str.{IsCharBoundary-from_rest}
 use Rattle.starlark_base.specs.Diagnostics.{Diagnosed, place_in, unplaced, with_span}
 use Rattle.starlark_base.specs.Sources.{SourceFile}
 use Rattle.starlark_grammar.specs.Words.{Text}
-use Rattle.starlark_reader.specs.Inner.Reader.{IsRaw}
+use Rattle.starlark_lexemes.specs.Inner.LexerStates.{course_of}
+use Rattle.starlark_reader.specs.Inner.Reader.{IsRaw, Origin, begin_of, history_before}
+use Rattle.starlark_recovery.specs.Inner.RecoveryStates.{IsBegun, rest_keeps}
+use Rattle.starlark_recovery.proofs.PartRests.{in_part}
 use Rattle.starlark_recovery.specs.Inner.Passed.{HasPassed, error_keeps_line, is_tab_error}
 use Rattle.starlark_grammar.specs.Recovery.{is_tab, restart}
 use Rattle.starlark_recovery.specs.Restarts.{IsPlaceOf}
@@ -50,22 +54,28 @@ passes file text part begin at fault found tab reads given raw tab_is part_is re
       reads = subst (λ (t : Text). AreReads 1 (search_reads t fault) 0 reads) part_is (searches fault its_place);
     }
 
--- where a repair ends
-pub end_is : (text : Text) (begin end len : ℕ) (tab : Bool) → len ≡ (if tab then begin + prefix_len (nat_eq 9) (drop begin text) else end) → (fault : Spanned Fault) → IsPlaceOf fault begin end tab → len ≡ repair_end text fault
+-- where lexing goes on after a fault that keeps its line
+pub end_is : (text : Text) (begin end len : ℕ) (tab : Bool) → len ≡ (if tab then begin + prefix_len (nat_eq 9) (drop begin text) else end) → (fault : Spanned Fault) → IsPlaceOf fault begin end tab → len ≡ passed_end text fault
 end_is text begin end len tab is fault place = rw (is, place.begins, place.ends, place.is_tab) refl
 
--- whether the code's fault keeps its line, by a text that is the same from it on
-pub keeps_is : (text mended : Text) (before : List Lexeme) (found : Spanned Fault) (begin end : ℕ) (fault : LexemeError) (follows_comment : Bool) → IsRaw found (begin, fault, end) → follows_comment ≡ ends_by_comment found.begin before
-    → drop found.begin text ≡ drop found.begin mended → error_keeps_line text begin fault follows_comment ≡ keeps_line mended before found
+-- whether the code's fault keeps its line
+pub keeps_is : (origin : Origin) (part : Text) (found : Spanned Fault) (begin end : ℕ) (fault : LexemeError) (follows_comment : Bool) → IsBegun origin → begin_of origin ≤ found.begin → IsRaw found (begin, fault, end)
+    → follows_comment ≡ ends_by_comment found.begin (course_of origin part).lexemes → error_keeps_line part begin fault follows_comment ≡ rest_keeps origin part found
 unfolding keeps_line
-keeps_is text mended before found begin end fault follows_comment raw follows same =
+keeps_is origin part found begin end fault follows_comment begun later raw follows =
     by fault found.node raw.1
   where
     goes : Bool → Fault → Type 0
-    goes keeps node = keeps ≡ keeps_line mended before (record { begin = found.begin; node = node; end = found.end })
+    goes keeps node = keeps ≡ rest_keeps origin part (record { begin = found.begin; node = node; end = found.end })
 
-    by : (fault : LexemeError) (node : Fault) → fault_view fault ≡ Some node → goes (error_keeps_line text begin fault follows_comment) node
+    place : begin_of origin + (found.begin - begin_of origin) ≡ found.begin
+    place = omega (arith, later)
+
+    margin : is_in_margin (history_before origin).before part found.begin ≡ (found.begin == 0 || begins_with_line_end (drop found.begin part))
+    margin = subst (λ n. is_in_margin (history_before origin).before part n ≡ (n == 0 || begins_with_line_end (drop n part))) place (in_part origin part begun (found.begin - begin_of origin))
+
+    by : (fault : LexemeError) (node : Fault) → fault_view fault ≡ Some node → goes (error_keeps_line part begin fault follows_comment) node
     by (error.InvalidInput character) node is =
-        subst (goes (error_keeps_line text begin (error.InvalidInput character) follows_comment)) (ap fault_of is) (ap (λ b. not (bytes_eq (string_bytes character) (codes "}")) && not b) follows)
-    by error.InvalidTab node is = subst (goes (error_keeps_line text begin error.InvalidTab follows_comment)) (ap fault_of is) (ap (λ n. not (n == 0 || begins_with_line_end (drop n text))) raw.0 ∙ ap (λ (t : Text). not (found.begin == 0 || begins_with_line_end t)) same)
-    by fault node is = subst (goes (error_keeps_line text begin fault follows_comment)) (ap fault_of is) refl
+        subst (goes (error_keeps_line part begin (error.InvalidInput character) follows_comment)) (ap fault_of is) (ap (λ b. not (bytes_eq (string_bytes character) (codes "}")) && not b) follows)
+    by error.InvalidTab node is = subst (goes (error_keeps_line part begin error.InvalidTab follows_comment)) (ap fault_of is) (ap (λ n. not (n == 0 || begins_with_line_end (drop n part))) raw.0 ∙ ap not (sym margin))
+    by fault node is = subst (goes (error_keeps_line part begin fault follows_comment)) (ap fault_of is) refl

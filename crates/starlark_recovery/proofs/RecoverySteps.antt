@@ -1,33 +1,33 @@
 -- The answers of a lexer that goes on after faults.
 use Rattle.std.proofs.Common.{◌≡◌, ◌≤◌, ◌<◌, ◌+◌, ◌||◌, ◌&&◌, ◌==◌, ℕ, zero, suc, Bool, true, false, List, [], ◌∷◌, ◌++◌, map, length, drop, take, refl, ap, sym, subst, ◌∙◌, arith, rules, Ok, Err, None, Some, IfSome, slice_get}
 use Rattle.std.proofs.lemmas.Bool.{eq-eqb, ne_eqb}
-use Rattle.std.proofs.lemmas.List.{drop-map, length-drop, take_all}
+use Rattle.std.proofs.lemmas.List.{drop-map, take_all}
 use Rattle.std.proofs.lemmas.Str.{IsCharBoundary-from_rest, IsCharBoundary-start}
 use Rattle.std.specs.Prelude.{◌^◌, if◌then◌else◌, Option, Result}
 use Rattle.std.specs.Str.{IsCharBoundary, IsUtf8}
 use Rattle.starlark_base.specs.Diagnostics.{Diagnosed}
 use Rattle.starlark_base.specs.Sources.{SourceFile}
-use Rattle.starlark_grammar.specs.Found.{found}
-use Rattle.starlark_grammar.specs.Reading.{outcome}
-use Rattle.starlark_grammar.specs.Repairs.{ends_by_comment, is_comment_to}
+use Rattle.starlark_grammar.specs.Found as items
+use Rattle.starlark_grammar.specs.Found.{Item, moved_item}
+use Rattle.starlark_grammar.specs.KeptLines.{ends_by_comment, is_comment_to}
 use Rattle.starlark_grammar.specs.Tokens as grammar
 use Rattle.starlark_grammar.specs.Tokens.{Fault, Lexeme, Spanned, moved}
 use Rattle.starlark_grammar.specs.Words.{Text}
-use Rattle.starlark_grammar.proofs.Lists.{drop-sum}
-use Rattle.starlark_reader.specs.Inner.Reader.{IsRaw, IsSomething}
+use Rattle.starlark_reader.specs.Inner.Reader.{IsRaw, IsSomething, Origin, Start, begin_of, history_before}
 use Rattle.starlark_errors.specs.Exceptions.{IsException}
 use Rattle.starlark_lexemes.specs.Inner.LexerStates as lexing
-use Rattle.starlark_lexemes.specs.Inner.LexerStates.{Course, HasFound, IsBegun, IsLexing, IsLexingIn, StateView, whole}
+use Rattle.starlark_lexemes.specs.Inner.LexerStates.{Course, HasFound, IsBegun, IsLexing, IsLexingIn, StateView, course_of, whole}
 use Rattle.starlark_lexemes.specs.Inner.RawItems.{OffsetsHold}
-use Rattle.starlark_recovery.specs.Inner.RecoveryStates.{HasPassedOn, HasReadBefore, IsAdvanced, IsLeftOf, IsMended, IsOnward, IsPart, IsRecovering, IsStopped, Mended, after_faults, course_of, is_comment, is_end, items_after, items_past, last_comment, left_of, moved_item, part_of, view_of}
+use Rattle.starlark_recovery.specs.Inner.RecoveryStates.{HasPassedOn, HasReadBefore, IsAdvanced, IsLeftOf, IsOnward, IsPart, IsRecovering, IsStopped, is_comment, is_end, items_since, last_comment, left_of, part_of, view_of}
 use Rattle.starlark_lexemes.specs.Lexer.{AnswersNext, is_ended_by, yielded_by}
-use Rattle.starlark_recovery.specs.RecoveringLexer.{AreReadsOn, HasReadOn, IsNextOf, RecoveringView, all_items}
+use Rattle.starlark_recovery.specs.RecoveringLexer.{AreReadsOn, HasReadOn, IsNextOf, RecoveringView, all_items, shown_item}
 use Rattle.starlark_errors.specs.declared.error.kinds.ErrorKind.{ErrorKind}
 use Rattle.starlark_lexemes.specs.declared.lexer_state.LexerState.{LexerState}
 use Rattle.starlark_recovery.specs.declared.recovery_state.RecoveryState.{RecoveryState}
-use Rattle.starlark_lexemes.proofs.LexerStates.{lexing_read_in, none_dropped, or_false}
-use Rattle.starlark_recovery.proofs.RecoveredItems.{after_fault, all_moved_by_none, items_drop, items_given, items_none, items_refused}
-use Rattle.starlark_recovery.proofs.RecoveryStates.{is_unmended, on_reads, part_begins, part_len, part_utf8, unmended, unmended_lexing}
+use Rattle.starlark_lexemes.proofs.LexerStates.{lexing_read_in, or_false}
+use Rattle.starlark_recovery.proofs.RecoveredItems.{after_fault, all_moved_by_none, items_are, items_past, no_lexemes, past_given, tail_none, tail_of, tail_some}
+use Rattle.starlark_recovery.proofs.PartRests.{RestFault, rest_fault}
+use Rattle.starlark_recovery.proofs.RecoveryStates.{is_start, on_reads, part_begins, part_len, start_items, start_lexing}
 use Rattle.starlark_text.specs.declared.or_memory.OrMemory.{OrMemory}
 use Rattle.starlark_text.specs.declared.or_memory.OrMemory.TheVariants.{Error, Memory}
 use Rattle.starlark_token.specs.Lexemes.{IsWithin, lexeme_view, shown, shown_lexeme}
@@ -58,30 +58,29 @@ module _ (new : RecoveryState) (utf8 : IsUtf8 new.text.now) (fits : length new.t
   ended : new.state.has_ended ≡ false
   ended = ap (λ (v : StateView). v.has_ended) begun.view
 
-  goes_on : IsLexingIn (course_of (unmended (part_of new))) (part_of new) new.state
-  goes_on = unmended_lexing (part_of new) new.state own lexing
+  goes_on : IsLexingIn (course_of Start (part_of new)) (part_of new) new.state
+  goes_on = start_lexing (part_of new) new.state own lexing
 
-  told : IsLeftOf new (unmended (part_of new))
-  unfolding all_items found
-  told = rw (count, part, start) (sym (all_moved_by_none (items_past 0 new.text.now)))
+  told : IsLeftOf new Start
+  told = rw (count, part, start) (sym (ap (map (moved_item 0)) (start_items new.text.now) ∙ all_moved_by_none (items.found new.text.now)))
 
   pub recovering_start : IsRecovering new
   recovering_start = record {
     is_part = record { fits = fits; utf8 = utf8; boundary = subst (IsCharBoundary new.text.now) (sym start) (IsCharBoundary-start new.text.now utf8); own = own };
-    lexing = (course_of (unmended (part_of new)), goes_on);
+    lexing = (course_of Start (part_of new), goes_on);
     onward = λ goes. record {
-      mended = unmended (part_of new);
-      to = 0;
-      is_mended = is_unmended (part_of new) (subst IsUtf8 (sym part) utf8);
+      origin = Start;
+      rest = is_start (part_of new);
       lexing = goes_on;
       left = told;
-      comment = λ at. ap (λ n. ends_by_comment at (take n (outcome (part_of new)).lexemes)) (let none : 0 + new.state.yielded_count ≡ 0 = omega (arith, yielded) in none) ∙ sym (ap (λ n. is_end None n at) yielded) ∙ sym (ap (λ last. is_end last new.state.yielded_count at) comment);
+      comment = λ at. ap (λ n. ends_by_comment at (take n (course_of Start (part_of new)).lexemes)) yielded ∙ sym (ap (λ n. is_end None n at) yielded) ∙ sym (ap (λ last. is_end last new.state.yielded_count at) comment);
       earlier = rw comment tt;
       reads = record { few = omega (arith, count); first = λ h. start; least = omega (arith, count); most = omega (arith, earlier) };
     };
   }
 
   pub left_start : left_of new ≡ all_items new.text.now
+  unfolding all_items
   left_start = rw (ended, yielded, count) refl
 
 -- One lexeme
@@ -130,23 +129,20 @@ recorded false (Some comment) k end less = omega (arith, less)
 left_ended : (old : RecoveryState) → old.state.has_ended ≡ true → left_of old ≡ []
 left_ended old ended = rw ended refl
 
-left_goes : (old : RecoveryState) → old.state.has_ended ≡ false → (onward : IsOnward old) → left_of old ≡ map (moved_item old.begin) (items_past (onward.mended.passed + old.state.yielded_count) onward.mended.text)
+left_goes : (old : RecoveryState) → old.state.has_ended ≡ false → (onward : IsOnward old)
+    → left_of old ≡ map shown_item (map (moved_item old.begin) (items.given (drop old.state.yielded_count (course_of onward.origin (part_of old)).lexemes) ++ tail_of onward.origin (part_of old)))
 left_goes old goes onward =
     let few = (onward.lexing.1 goes).0 in
     rw goes (
-    ap (λ items. drop old.state.yielded_count items) onward.left ∙ drop-map (moved_item old.begin) old.state.yielded_count (items_past onward.mended.passed onward.mended.text)
-    ∙ ap (λ items. map (moved_item old.begin) items) (items_drop onward.mended.passed old.state.yielded_count onward.mended.text few)
+    ap (λ items. map shown_item (drop old.state.yielded_count items)) onward.left ∙ ap (map shown_item) (drop-map (moved_item old.begin) old.state.yielded_count (items_since onward.origin (part_of old)))
+    ∙ ap (λ items. map shown_item (map (moved_item old.begin) items))
+    (ap (λ items. drop old.state.yielded_count items) (items_are onward.origin (part_of old)) ∙ past_given old.state.yielded_count (course_of onward.origin (part_of old)).lexemes (tail_of onward.origin (part_of old)) few)
     )
 
 -- a lexer that answers something hasn't ended
 pub some_goes : {A : Type 0} {x : A} (b : Bool) → (b ≡ true → ◌≡◌ {A = Option A} (Some x) None) → b ≡ false
 some_goes true none = let wrong = none refl in cc
 some_goes false none = refl
-
--- the lexemes that are left, of all
-left_lexemes : (passed k : ℕ) (lexemes : List Lexeme) (left : List (Spanned TokenView)) → drop k (map shown_lexeme (drop passed lexemes)) ≡ left → drop (passed + k) (map shown_lexeme lexemes) ≡ left
-left_lexemes passed k lexemes left is =
-    drop-sum passed k (map shown_lexeme lexemes) ∙ ap (λ (l : List (Spanned TokenView)). drop k l) (drop-map shown_lexeme passed lexemes) ∙ is
 
 -- an offset of the part, in the text
 text_boundary : (old : RecoveryState) (is : IsPart old) (at : ℕ) → IsCharBoundary (part_of old) at → IsCharBoundary old.text.now (old.begin + at)
@@ -188,16 +184,16 @@ module _ (old : RecoveryState) (is : IsRecovering old) (state : LexerState) (on 
       by true e = left_ended old e
       by false e =
           let onward = is.onward e in
-          let none = on.found e (course_of onward.mended) onward.lexing in
+          let course = course_of onward.origin (part_of old) in
+          let none = on.found e course onward.lexing in
           left_goes old e onward
-          ∙ ap (map (moved_item old.begin)) (items_none onward.mended.text (onward.mended.passed + old.state.yielded_count) (left_lexemes onward.mended.passed old.state.yielded_count (outcome onward.mended.text).lexemes [] none.0) none.1)
+          ∙ ap (λ l. map shown_item (map (moved_item old.begin) l)) (ap (λ ls. items.given ls ++ tail_of onward.origin (part_of old)) (no_lexemes course.lexemes old.state.yielded_count none.0) ∙ tail_none onward.origin (part_of old) none.1)
 
   onward_same : IsOnward old → IsOnward (record old { state = state })
   onward_same onward = record {
-    mended = onward.mended;
-    to = onward.to;
-    is_mended = onward.is_mended;
-    lexing = on.lexing (course_of onward.mended) onward.lexing;
+    origin = onward.origin;
+    rest = onward.rest;
+    lexing = on.lexing (course_of onward.origin (part_of old)) onward.lexing;
     left = onward.left;
     comment = λ at. rw same_count (onward.comment at);
     earlier = subst (λ n. IfSome old.comment (λ comment. comment.0 ≤ n)) (sym same_count) onward.earlier;
@@ -210,8 +206,9 @@ module _ (old : RecoveryState) (is : IsRecovering old) (state : LexerState) (on 
   nothing_reads : old.state.has_ended ≡ false → HasReadOn old.text.now old.fault_count None (more_reads old.earlier_reads state.reader.reads)
   nothing_reads goes =
       let onward = is.onward goes in
-      let found = on.found goes (course_of onward.mended) onward.lexing in
-      let reads = reads_now old is.is_part (course_of onward.mended) state (on.lexing (course_of onward.mended) onward.lexing) (same_end ∙ goes) onward.to old.fault_count onward.is_mended.inside onward.reads in
+      let course = course_of onward.origin (part_of old) in
+      let found = on.found goes course onward.lexing in
+      let reads = reads_now old is.is_part course state (on.lexing course onward.lexing) (same_end ∙ goes) (begin_of onward.origin) old.fault_count onward.rest.inside onward.reads in
       (reads, λ none. (omega (arith, onward.reads.first none, found.2, part_len old is.is_part, is.is_part.fits)))
 
   pub nothing_next : IsNextOf (view_of old) None (view_of (record old { state = state }))
@@ -235,40 +232,30 @@ module _ (old : RecoveryState) (is : IsRecovering old) (state : LexerState) (fro
   abbrev onward : IsOnward old
   onward = is.onward going
 
-  abbrev mended : Mended
-  mended = onward.mended
+  abbrev course : Course
+  course = course_of onward.origin (part_of old)
 
-  abbrev passed : ℕ
-  passed = mended.passed + old.state.yielded_count
+  given : HasFound course (part_of old) old.state (Some (Ok (from, token, to))) state
+  given = on.found going course onward.lexing
 
-  given : HasFound (course_of mended) (part_of old) old.state (Some (Ok (from, token, to))) state
-  given = on.found going (course_of mended) onward.lexing
-
-  goes_on_past : IsLexingIn (course_of mended) (part_of old) state
-  goes_on_past = on.lexing (course_of mended) onward.lexing
+  goes_on_past : IsLexingIn course (part_of old) state
+  goes_on_past = on.lexing course onward.lexing
 
   goes : state.has_ended ≡ false
   goes = on.ends ∙ or_false old.state.has_ended ∙ going
 
-  left_then : drop passed (map shown_lexeme (outcome mended.text).lexemes) ≡ lexeme_view (from, token, to) ∷ given.0
-  left_then = left_lexemes mended.passed old.state.yielded_count (outcome mended.text).lexemes _ given.1
-
-  at : LexemeAt (outcome mended.text).lexemes passed (lexeme_view (from, token, to))
-  at = lexeme_at (outcome mended.text).lexemes passed (lexeme_view (from, token, to)) given.0 left_then
-
-  next_passed : mended.passed + state.yielded_count ≡ passed + 1
-  next_passed = omega (arith, on.count)
+  at : LexemeAt course.lexemes old.state.yielded_count (lexeme_view (from, token, to))
+  at = lexeme_at course.lexemes old.state.yielded_count (lexeme_view (from, token, to)) given.0 given.1
 
   abbrev onward_past : IsOnward past
   onward_past = record {
-    mended = mended;
-    to = onward.to;
-    is_mended = onward.is_mended;
+    origin = onward.origin;
+    rest = onward.rest;
     lexing = goes_on_past;
     left = onward.left;
     comment = λ place.
-        ap (λ n. ends_by_comment place (take n (outcome mended.text).lexemes)) next_passed
-        ∙ ap (ends_by_comment place) at.first ∙ ends_last place (take passed (outcome mended.text).lexemes) at.lexeme
+        ap (λ n. ends_by_comment place (take n course.lexemes)) on.count
+        ∙ ap (ends_by_comment place) at.first ∙ ends_last place (take old.state.yielded_count course.lexemes) at.lexeme
         ∙ sym (comment_shown old.comment old.state.yielded_count place at.lexeme.begin at.lexeme.node at.lexeme.end onward.earlier)
         ∙ ap (λ (x : Spanned TokenView). is_end (last_comment x.node (old.state.yielded_count + 1) x.end old.comment) (old.state.yielded_count + 1) place) at.shows
         ∙ sym (ap (λ n. is_end (last_comment (token_view token) n to old.comment) n place) on.count)
@@ -278,10 +265,14 @@ module _ (old : RecoveryState) (is : IsRecovering old) (state : LexerState) (fro
     reads = onward.reads;
   }
 
+  -- the items of such lexemes, with what is after them
+  abbrev items_by : List Lexeme → List LexerItem
+  items_by lexemes = map shown_item (map (moved_item old.begin) (items.given lexemes ++ tail_of onward.origin (part_of old)))
+
   left_is : left_of old ≡ Given (moved old.begin (lexeme_view (from, token, to))) ∷ left_of past
   left_is =
-      left_goes old going onward ∙ ap (λ items. map (moved_item old.begin) items) (items_given mended.text passed (lexeme_view (from, token, to)) given.0 left_then)
-      ∙ ap (λ items. Given (moved old.begin (lexeme_view (from, token, to))) ∷ items) (ap (λ n. map (moved_item old.begin) (items_past n mended.text)) (sym next_passed) ∙ sym (left_goes past goes onward_past))
+      left_goes old going onward ∙ ap items_by at.left ∙ ap (λ (x : Spanned TokenView). Given (moved old.begin x) ∷ items_by at.more) at.shows
+      ∙ ap (λ l. Given (moved old.begin (lexeme_view (from, token, to))) ∷ l) (ap items_by (sym at.rest ∙ ap (λ n. drop n course.lexemes) (sym on.count)) ∙ sym (left_goes past goes onward_past))
 
   pub lexeme_recovering : IsRecovering past
   lexeme_recovering = record { is_part = part_on old is state _ on last; lexing = lexing_on old is state _ on; onward = λ going. onward_past }
@@ -294,17 +285,19 @@ module _ (old : RecoveryState) (is : IsRecovering old) (state : LexerState) (fro
         within = text_within old is.is_part from to on.within;
         between = (text_boundary old is.is_part from on.between.0, text_boundary old is.is_part to on.between.1);
         after = views old.text.now old.text.now old.code_map _ _ old.fault_count (old.fault_count + 0) state.has_ended (old.state.has_ended || false) _ _ refl same (omega arith) on.ends refl;
-        reads = λ now. (reads_now old is.is_part (course_of mended) state goes_on_past goes onward.to old.fault_count onward.is_mended.inside onward.reads);
+        reads = λ now. (reads_now old is.is_part course state goes_on_past goes (begin_of onward.origin) old.fault_count onward.rest.inside onward.reads);
       }
 
 -- Out of memory is in the place of an item
 
-some_left : (text : Text) (k : ℕ) → IsSomething (drop k (map shown_lexeme (outcome text).lexemes)) (outcome text).fault → (item : LexerItem) × (more : List LexerItem) × (items_past k text ≡ item ∷ more)
-some_left text k some = by (drop k (map shown_lexeme (outcome text).lexemes)) refl (outcome text).fault refl
+some_left : (origin : Origin) (text : Text) (k : ℕ) → IsSomething (drop k (map shown_lexeme (course_of origin text).lexemes)) (course_of origin text).fault
+    → (item : Item) × (more : List Item) × (items.given (drop k (course_of origin text).lexemes) ++ tail_of origin text ≡ item ∷ more)
+some_left origin text k some = by (drop k (course_of origin text).lexemes) (drop-map shown_lexeme k (course_of origin text).lexemes) (course_of origin text).fault refl
   where
-    by : (left : List (Spanned TokenView)) → drop k (map shown_lexeme (outcome text).lexemes) ≡ left → (fault : Option (Spanned Fault)) → (outcome text).fault ≡ fault → (item : LexerItem) × (more : List LexerItem) × (items_past k text ≡ item ∷ more)
-    by (x ∷ more) e fault f = (_, _, items_given text k x more e)
-    by [] e (Some fault) f = (_, _, items_refused text k fault e f)
+    by : (left : List Lexeme) → drop k (map shown_lexeme (course_of origin text).lexemes) ≡ map shown_lexeme left → (fault : Option (Spanned Fault)) → (course_of origin text).fault ≡ fault
+        → (item : Item) × (more : List Item) × (items.given left ++ tail_of origin text ≡ item ∷ more)
+    by (lexeme ∷ more) e fault f = (_, _, refl)
+    by [] e (Some fault) f = (_, _, tail_some origin text fault (rest_fault origin text fault f))
     by [] e None f = absurd (some e f)
 
 -- what is left has a first item, which out of memory answers
@@ -321,10 +314,8 @@ module _ (old : RecoveryState) (is : IsRecovering old) (state : LexerState) (goi
   pub memory_next : IsNextOf (view_of old) (Some (Err Memory)) (view_of (record old { state = state }))
   memory_next =
       let onward = is.onward going in
-      let mended = onward.mended in
-      let found = on.found going (course_of mended) onward.lexing in
-      let some = some_left mended.text (mended.passed + old.state.yielded_count) (λ none. found (sym (left_lexemes mended.passed old.state.yielded_count (outcome mended.text).lexemes _ refl) ∙ none)) in
-      let left = left_goes old going onward ∙ ap (λ items. map (moved_item old.begin) items) some.2 in
+      let some = some_left onward.origin (part_of old) old.state.yielded_count (on.found going (course_of onward.origin (part_of old)) onward.lexing) in
+      let left = left_goes old going onward ∙ ap (λ items. map shown_item (map (moved_item old.begin) items)) some.2 in
       record {
         item = memory_item old.code_map (left_of old) _ _ left;
         within = tt;
@@ -346,20 +337,24 @@ module _ (old : RecoveryState) (is : IsRecovering old) (state : LexerState) (raw
   abbrev pub before : IsOnward old
   before = is.onward going
 
-  abbrev pub whole_part : Mended
-  whole_part = before.mended
+  abbrev pub course_now : Course
+  course_now = course_of before.origin (part_of old)
 
-  abbrev pub reached : HasFound (course_of whole_part) (part_of old) old.state (Some (Err (Error raw))) state
-  reached = on.found going (course_of whole_part) before.lexing
+  abbrev pub reached : HasFound course_now (part_of old) old.state (Some (Err (Error raw))) state
+  reached = on.found going course_now before.lexing
 
-  none_left_then : drop (whole_part.passed + old.state.yielded_count) (map shown_lexeme (outcome whole_part.text).lexemes) ≡ []
-  none_left_then = left_lexemes whole_part.passed old.state.yielded_count (outcome whole_part.text).lexemes [] reached.1
-
-  all_counted : length (course_of whole_part).lexemes ≡ old.state.yielded_count
+  all_counted : length course_now.lexemes ≡ old.state.yielded_count
   all_counted = omega (arith, reached.2.counted, on.count)
 
-  all_taken : take (whole_part.passed + old.state.yielded_count) (outcome whole_part.text).lexemes ≡ (outcome whole_part.text).lexemes
-  all_taken = take_all (whole_part.passed + old.state.yielded_count) (outcome whole_part.text).lexemes (omega (arith, all_counted, length-drop whole_part.passed (outcome whole_part.text).lexemes, before.is_mended.passed))
+  all_taken : take old.state.yielded_count course_now.lexemes ≡ course_now.lexemes
+  all_taken = take_all old.state.yielded_count course_now.lexemes (omega (arith, all_counted))
+
+  in_rest : RestFault before.origin (part_of old) reached.0
+  in_rest = rest_fault before.origin (part_of old) reached.0 reached.2.has
+
+  -- what is left after it
+  abbrev items_then : List LexerItem
+  items_then = map shown_item (map (moved_item old.begin) (items_past before.origin (part_of old) (items.passed (history_before before.origin) (drop (begin_of before.origin) (part_of old)) in_rest.inner)))
 
   pub stopped_here : IsStopped at_fault reached.0
   stopped_here =
@@ -367,9 +362,8 @@ module _ (old : RecoveryState) (is : IsRecovering old) (state : LexerState) (raw
       record {
         is_part = part_on old is state _ on old.comment;
         lexing = lexing_on old is state _ on;
-        mended = whole_part;
-        to = before.to;
-        is_mended = before.is_mended;
+        origin = before.origin;
+        rest = before.rest;
         here = reached.2;
         ended = on.ends ∙ ap (λ b. b || true) going;
         left = before.left;
@@ -381,15 +375,14 @@ module _ (old : RecoveryState) (is : IsRecovering old) (state : LexerState) (raw
         ends = subst (IsCharBoundary (part_of old)) raw_is.2 on.between.1;
       }
 
-  fault_left : left_of old ≡ Refused (moved old.begin reached.0) ∷ map (moved_item old.begin) (items_after whole_part.text reached.0)
+  fault_left : left_of old ≡ Refused (moved old.begin reached.0) ∷ items_then
   fault_left =
       left_goes old going before
-      ∙ ap (map (moved_item old.begin)) (items_refused whole_part.text (whole_part.passed + old.state.yielded_count) reached.0 none_left_then reached.2.has)
+      ∙ ap (λ l. map shown_item (map (moved_item old.begin) l)) (ap (λ ls. items.given ls ++ tail_of before.origin (part_of old)) (no_lexemes course_now.lexemes old.state.yielded_count reached.1) ∙ tail_some before.origin (part_of old) reached.0 in_rest)
 
-  -- what is left after it
   left_after_fault : (new : RecoveryState) → new.state.has_ended ≡ false → new.state.yielded_count ≡ 0 → new.fault_count ≡ old.fault_count + 1 → new.text ≡ old.text → left_of new ≡ drop 1 (left_of old)
   left_after_fault new goes none count text =
-      rw (goes, none, count, text) (after_fault old.fault_count old.begin whole_part.passed whole_part.text (all_items old.text.now) reached.0 before.left reached.2.has) ∙ sym (ap (λ (l : List LexerItem). drop 1 l) fault_left)
+      rw (goes, none, count, text) (ap (map shown_item) (after_fault old.fault_count old.begin before.origin (part_of old) (items.found old.text.now) in_rest.inner before.left in_rest.has)) ∙ sym (ap (λ (l : List LexerItem). drop 1 l) fault_left)
 
   fault_edges : IsCharBoundary old.text.now (old.begin + reached.0.begin) × IsCharBoundary old.text.now (old.begin + reached.0.end)
   fault_edges = (text_boundary old is.is_part reached.0.begin stopped_here.begins, text_boundary old is.is_part reached.0.end stopped_here.ends)

@@ -1,8 +1,8 @@
 //! The lexer that goes on after faults.
 #![tactic(auto)]
 
+mod kept_lines;
 mod passed_faults;
 pub mod recovering_lexer;
 mod recovery_state;
-mod repairs;
 pub mod restarts;

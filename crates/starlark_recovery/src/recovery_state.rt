@@ -2,16 +2,16 @@
 
 ghost use Rattle.std.specs.Prelude.{◌≡◌, ◌≤◌, ◌<◌, ◌+◌, ◌^◌, ◌||◌, None, false, length, true};
 ghost use Rattle.std.specs.Str.{IsCharBoundary};
-ghost use Rattle.starlark_grammar.specs.Repairs.{repair_end};
+ghost use Rattle.starlark_grammar.specs.KeptLines.{passed_end};
 ghost use Rattle.starlark_grammar.specs.Tokens.{Fault, Spanned};
 ghost use Rattle.starlark_reader.specs.Inner.Reader.{IsRaw};
 ghost use Rattle.starlark_recovery.specs.Inner.Passed.{is_tab_error};
-ghost use Rattle.starlark_recovery.specs.Inner.RecoveryStates.{HasPassedOn, IsAdvanced, IsRecovering, IsStopped, is_end, last_comment, mended_keeps, part_of, view_of};
+ghost use Rattle.starlark_recovery.specs.Inner.RecoveryStates.{HasPassedOn, IsAdvanced, IsRecovering, IsStopped, is_end, last_comment, part_of, rest_keeps, view_of};
 ghost use Rattle.starlark_recovery.specs.RecoveringLexer.{IsNextOf, all_items};
 ghost use Rattle.starlark_token.specs.TokenViews.{token_view};
 
+use crate::kept_lines::{keeps_line, passed_end};
 use crate::passed_faults::{is_tab, pass};
-use crate::repairs::{keeps_line, repair_end};
 use starlark_base::codemap::{CodeMap, OrMemory};
 use starlark_errors::eval_exception::EvalException;
 use starlark_errors::fault_exception::exception;
@@ -72,8 +72,8 @@ impl<'a> RecoveryState<'a> {
 
     /// Passes a fault that keeps its line: lexing goes on at a byte of the part.
     fn keep(&mut self, fault: (usize, LexemeError, usize), end: usize) -> OrMemory<EvalException>
-        requires { (found : Spanned Fault) × (stopped : IsStopped self.old found) × IsRaw found fault × (mended_keeps stopped.mended found ≡ true) × (end ≡ repair_end (part_of self.old) found) }
-        ensures { (found : Spanned Fault) (stopped : IsStopped self.old found) → IsRaw found fault → mended_keeps stopped.mended found ≡ true → HasPassedOn self.old found result self.new }
+        requires { (found : Spanned Fault) × (stopped : IsStopped self.old found) × IsRaw found fault × (rest_keeps stopped.origin (part_of self.old) found ≡ true) × (end ≡ passed_end (part_of self.old) found) }
+        ensures { (found : Spanned Fault) (stopped : IsStopped self.old found) → IsRaw found fault → rest_keeps stopped.origin (part_of self.old) found ≡ true → HasPassedOn self.old found result self.new }
     {
         let begin = self.begin;
         let (from, error, to) = fault;
@@ -91,8 +91,8 @@ impl<'a> RecoveryState<'a> {
 
     /// Passes a fault that ends its line: lexing begins again at the next one.
     fn restart(&mut self, fault: (usize, LexemeError, usize)) -> OrMemory<EvalException>
-        requires { (found : Spanned Fault) × (stopped : IsStopped self.old found) × IsRaw found fault × (mended_keeps stopped.mended found ≡ false) }
-        ensures { (found : Spanned Fault) (stopped : IsStopped self.old found) → IsRaw found fault → mended_keeps stopped.mended found ≡ false → HasPassedOn self.old found result self.new }
+        requires { (found : Spanned Fault) × (stopped : IsStopped self.old found) × IsRaw found fault × (rest_keeps stopped.origin (part_of self.old) found ≡ false) }
+        ensures { (found : Spanned Fault) (stopped : IsStopped self.old found) → IsRaw found fault → rest_keeps stopped.origin (part_of self.old) found ≡ false → HasPassedOn self.old found result self.new }
     {
         let Ok(passed) = pass(self.alloc, self.text, self.begin, fault, &self.code_map) else {
             return OrMemory::Memory;
@@ -119,7 +119,7 @@ impl<'a> RecoveryState<'a> {
         if !keeps_line(part, fault.0, &fault.1, follows_comment) {
             return self.restart(fault);
         }
-        let end = repair_end(part, fault.0, fault.2, is_tab(&fault.1));
+        let end = passed_end(part, fault.0, fault.2, is_tab(&fault.1));
         self.keep(fault, end)
     }
 

@@ -1,81 +1,97 @@
 -- Closed texts end with an LF, and two of them are one closed text.
-use Rattle.std.proofs.Common.{◌≡◌, ℕ, ◌+◌, ◌<◌, true, [], ◌++◌, length, drop, refl, ap, ◌∙◌, sym, subst, Some, arith, length-append}
+use Rattle.std.proofs.Common.{◌≡◌, ℕ, ◌+◌, ◌<◌, true, false, [], ◌++◌, length, drop, refl, ap, ◌∙◌, sym, subst, Some, arith, length-append, inl, inr}
 use Rattle.std.specs.Prelude.{◌&&◌, nat_eq, nat_lt, codes}
 use Rattle.std.specs.List.{ends_with}
 use Rattle.std.proofs.lemmas.Bool.{and_parts, lt-ltb}
 use Rattle.std.proofs.lemmas.Bool.Decides.{nat_tests}
 use Rattle.std.proofs.lemmas.List.{drop-append-le}
 use Rattle.std.proofs.Math.Seq.{drop-append-add}
-use Rattle.starlark_grammar.specs.AfterFaults.{restart}
 use Rattle.starlark_grammar.specs.Cuts.{is_faultless}
-use Rattle.starlark_grammar.specs.Found.{Cut, Empty, IsClosed, Kept, Lost}
+use Rattle.starlark_grammar.specs.Found.{Cut, Empty, IsClosed, IsClosedAfter, Passed, Past, passed}
 use Rattle.starlark_grammar.specs.FoundLaws.{ClosedJoin}
-use Rattle.starlark_grammar.specs.Joining.{begins_plainly, is_between_lines, is_decided, is_line_cut}
-use Rattle.starlark_grammar.specs.Reading.{after_all, nothing, read}
-use Rattle.starlark_grammar.specs.Repairs.{repaired}
-use Rattle.starlark_grammar.specs.Tokens.{Fault, Spanned, moved}
-use Rattle.starlark_grammar.specs.Words.{Text, language}
-use Rattle.starlark_grammar.proofs.Found.JoinedTexts.{fault_is, has_both, keeps_as, keeps_both}
-use Rattle.starlark_grammar.proofs.Found.Repairs.{plain_repaired, repaired_moved, repaired_stays}
+use Rattle.starlark_grammar.specs.Joining.{begins_plainly, is_between_lines, is_decided, is_line_cut_after}
+use Rattle.starlark_grammar.specs.Reading.{history_after, History, after_all, nothing, outcome_after}
+use Rattle.starlark_grammar.specs.Tokens.{Fault, Outcome, Spanned, moved}
+use Rattle.starlark_grammar.specs.Words.{Text}
+use Rattle.starlark_grammar.proofs.Found.FoundItems.{passed_bounds}
+use Rattle.starlark_grammar.proofs.Found.JoinedTexts.{Same, fault_is, passed_alike, passed_moved}
+use Rattle.starlark_grammar.proofs.Found.Order.{passed_starts}
+use Rattle.starlark_grammar.proofs.Found.PassedFaults.{has_both, passed_stays}
 use Rattle.starlark_grammar.proofs.Joining.Laws.{ends_after}
-use Rattle.starlark_grammar.proofs.Order.Inside.{fault_within}
-use Rattle.starlark_grammar.proofs.Recovery.DecidedFaults.{decided, decided_faults_stay}
-use Rattle.starlark_grammar.proofs.Recovery.LineCuts.{line_cut_some, line_cuts_of_joined, plain_some}
-use Rattle.starlark_grammar.proofs.Recovery.MovedRestarts.{plain_tab, restart_moved}
-use Rattle.starlark_grammar.proofs.Recovery.RestartBounds.{restart_bounds}
-use Rattle.starlark_grammar.proofs.Repairs.Readings.{repairs_have_bytes}
+use Rattle.starlark_grammar.proofs.Reading.Onward.{Starts, last_after, pieces_after}
+use Rattle.starlark_grammar.proofs.Reading.Steps.{is_nothing}
+use Rattle.starlark_grammar.proofs.Recovery.DecidedFaults.{decided}
+use Rattle.starlark_grammar.proofs.Recovery.LineCuts.{Alike, alike_line_cut, alike_outcome, cut_of_joined, plain_some}
 
 decided_ends : (text : Text) (fault : Spanned Fault) → is_decided text fault ≡ true → ends_with nat_eq text (codes "\n") ≡ true
 unfolding is_decided
 decided_ends text fault is = (and_parts (nat_lt fault.end (length text)) _ is).1
 
-pub closed_ends : (text : Text) → IsClosed text → 0 < length text → ends_with nat_eq text (codes "\n") ≡ true
-unfolding is_line_cut
-closed_ends _ Empty some = absurd (omega (arith, some))
-closed_ends _ (Cut text cut) some = (and_parts (is_faultless (read language text).last && is_between_lines (after_all nothing (read language text).pieces)) _ cut).1
-closed_ends _ (Kept text fault has keeps is rest) some = decided_ends text fault is
-closed_ends _ (Lost text fault has loses is rest) some = decided_ends text fault is
+pub closed_ends : (history : History) (text : Text) → IsClosedAfter history text → 0 < length text → ends_with nat_eq text (codes "\n") ≡ true
+unfolding is_line_cut_after history_after
+closed_ends _ _ Empty some = absurd (omega (arith, some))
+closed_ends _ _ (Cut history text cut) some = (and_parts (is_faultless (last_after history text) && is_between_lines (after_all history (pieces_after history text))) _ cut).1
+closed_ends _ _ (Past history text fault has is rest) some = decided_ends text fault is
 
-module _ (first second : Text) (plain : begins_plainly second ≡ true) where
-  decided_moved : (fault : Spanned Fault) → is_decided (first ++ second) (moved (length first) fault) ≡ is_decided second fault
-  unfolding is_decided
-  decided_moved fault =
-      let less : nat_lt (length first + fault.end) (length (first ++ second)) ≡ nat_lt fault.end (length second) = rw (length-append first second) (less_both (length first) fault.end (length second)) in
-      rw (less, ends_after first second (plain_some second plain)) refl
-    where
-      less_both : (n a b : ℕ) → nat_lt (n + a) (n + b) ≡ nat_lt a b
-      less_both n a b = grind (arith, nat_tests)
+decided_moved : (first second : Text) → begins_plainly second ≡ true → (fault : Spanned Fault) → is_decided (first ++ second) (moved (length first) fault) ≡ is_decided second fault
+unfolding is_decided
+decided_moved first second plain fault =
+    let less : nat_lt (length first + fault.end) (length (first ++ second)) ≡ nat_lt fault.end (length second) = rw (length-append first second) (less_both (length first) fault.end (length second)) in
+    rw (less, ends_after first second (plain_some second plain)) refl
+  where
+    less_both : (n a b : ℕ) → nat_lt (n + a) (n + b) ≡ nat_lt a b
+    less_both n a b = grind (arith, nat_tests)
 
-  decided_both : (fault : Spanned Fault) → is_decided first fault ≡ true → IsClosed second → is_decided (first ++ second) fault ≡ true
-  unfolding is_decided
-  decided_both fault is closed =
-      let less = (decided first fault is).0 in
-      let still : nat_lt fault.end (length (first ++ second)) ≡ true = lt-ltb fault.end (length (first ++ second)) (omega (arith, less, length-append first second)) in
-      rw (still, ends_after first second (plain_some second plain), closed_ends second closed (plain_some second plain)) refl
+decided_both : (first second : Text) → begins_plainly second ≡ true → (fault : Spanned Fault) → is_decided first fault ≡ true → IsClosed second → is_decided (first ++ second) fault ≡ true
+unfolding is_decided
+decided_both first second plain fault is closed =
+    let less = (decided first fault is).0 in
+    let still : nat_lt fault.end (length (first ++ second)) ≡ true = lt-ltb fault.end (length (first ++ second)) (omega (arith, less, length-append first second)) in
+    rw (still, ends_after first second (plain_some second plain), closed_ends nothing second closed (plain_some second plain)) refl
 
-cut_closed : (first : Text) → is_line_cut first ≡ true → (second : Text) → IsClosed second → begins_plainly second ≡ true → IsClosed (first ++ second)
-cut_closed first cut _ Empty plain = let some = plain_some [] plain in absurd (omega (arith, some))
-cut_closed first cut _ (Cut second is) plain = Cut (first ++ second) (line_cuts_of_joined first second cut plain ∙ is)
-cut_closed first cut _ (Kept second fault has keeps is rest) plain =
-    Kept (first ++ second) (moved (length first) fault) (fault_is first cut second plain (Some fault) has) (keeps_as first cut second plain fault has ∙ keeps) (decided_moved first second plain fault ∙ is)
-    (subst IsClosed (sym (repaired_moved first second fault (line_cut_some first cut) (plain_tab second fault plain has))) (cut_closed first cut (repaired second fault) rest (plain_repaired second fault (has, keeps) plain)))
-cut_closed first cut _ (Lost second fault has loses is rest) plain =
-    let place : restart (first ++ second) (moved (length first) fault) ≡ length first + restart second fault = restart_moved first second fault (line_cut_some first cut) (plain_tab second fault plain has) in
-    let left : drop (restart (first ++ second) (moved (length first) fault)) (first ++ second) ≡ drop (restart second fault) second = ap (λ n. drop n (first ++ second)) place ∙ drop-append-add first second (restart second fault) in
-    Lost (first ++ second) (moved (length first) fault) (fault_is first cut second plain (Some fault) has) (keeps_as first cut second plain fault has ∙ loses) (decided_moved first second plain fault ∙ is) (subst IsClosed (sym left) rest)
+-- a text that is closed after one of two histories is so after the other
+closed_alike : (one other : History) (text : Text) → Alike one other → is_nothing other.before ≡ false → IsClosedAfter other text → IsClosedAfter one text
+closed_alike one _ _ alike some Empty = cc
+closed_alike one _ _ alike some (Cut other text cut) = Cut one text (alike_line_cut one other text alike ∙ cut)
+closed_alike one _ _ alike some (Past other text fault has is rest) =
+    let next = passed_alike one other text fault alike in
+    Past one text fault (ap (λ (o : Outcome). o.fault) (alike_outcome one other text alike) ∙ has) is
+    (subst (λ n. IsClosedAfter (passed one text fault).history (drop n text)) (sym next.0)
+    (by next.1 (λ same begun. closed_alike (passed one text fault).history (passed other text fault).history (drop (passed other text fault).len text) same begun rest)))
+  where
+    by : Same (passed one text fault).history (passed other text fault).history
+        → (Alike (passed one text fault).history (passed other text fault).history → is_nothing (passed other text fault).history.before ≡ false → IsClosedAfter (passed one text fault).history (drop (passed other text fault).len text))
+        → IsClosedAfter (passed one text fault).history (drop (passed other text fault).len text)
+    by (inl same) again = subst (λ (h : History). IsClosedAfter h (drop (passed other text fault).len text)) (sym same) rest
+    by (inr same) again = again same.0 same.1
 
-closed_append : (second : Text) → begins_plainly second ≡ true → IsClosed second → (first : Text) → IsClosed first → IsClosed (first ++ second)
-closed_append second plain closed _ Empty = closed
-closed_append second plain closed _ (Cut first cut) = cut_closed first cut second closed plain
-closed_append second plain closed _ (Kept first fault has keeps is rest) =
-    Kept (first ++ second) fault (has_both second plain 0 first fault has is) (keeps_both second plain 0 first fault has is ∙ keeps) (decided_both first second plain fault is closed)
-    (subst IsClosed (sym (repaired_stays first second fault has is (repairs_have_bytes first fault (has, keeps)).1)) (closed_append second plain closed (repaired first fault) rest))
-closed_append second plain closed _ (Lost first fault has loses is rest) =
-    let stay = decided_faults_stay first second fault has is in
-    let inside = (restart_bounds first fault (fault_within first fault has).1).1 in
-    let left : drop (restart (first ++ second) fault) (first ++ second) ≡ drop (restart first fault) first ++ second = ap (λ n. drop n (first ++ second)) stay.1 ∙ drop-append-le (restart first fault) first second inside in
-    Lost (first ++ second) fault (has_both second plain 0 first fault has is) (keeps_both second plain 0 first fault has is ∙ loses) (decided_both first second plain fault is closed)
-    (subst IsClosed (sym left) (closed_append second plain closed (drop (restart first fault) first) rest))
+closed_same : (one other : History) (text : Text) → Same one other → IsClosedAfter other text → IsClosedAfter one text
+closed_same one other text (inl same) closed = subst (λ (h : History). IsClosedAfter h text) (sym same) closed
+closed_same one other text (inr same) closed = closed_alike one other text same.0 same.1 closed
+
+cut_closed : (history : History) (first : Text) → Starts history → is_line_cut_after history first ≡ true → (start : History) (second : Text) → start ≡ nothing → IsClosedAfter start second → begins_plainly second ≡ true → IsClosedAfter history (first ++ second)
+cut_closed history first starts cut _ _ e Empty plain = let some = plain_some [] plain in absurd (omega (arith, some))
+cut_closed history first starts cut _ _ e (Cut start second is) plain =
+    Cut history (first ++ second) (cut_of_joined history first second starts cut plain ∙ ap (λ (h : History). is_line_cut_after h second) (sym e) ∙ is)
+cut_closed history first starts cut _ _ e (Past start second fault has is rest) plain =
+    let found = ap (λ (h : History). (outcome_after h second).fault) (sym e) ∙ has in
+    let next = passed_moved history first second starts cut plain fault found in
+    let place : drop (passed history (first ++ second) (moved (length first) fault)).len (first ++ second) ≡ drop (passed nothing second fault).len second =
+    ap (λ n. drop n (first ++ second)) next.0 ∙ drop-append-add first second (passed nothing second fault).len in
+    Past history (first ++ second) (moved (length first) fault) (fault_is history first second starts cut plain (Some fault) found) (decided_moved first second plain fault ∙ is)
+    (subst (IsClosedAfter (passed history (first ++ second) (moved (length first) fault)).history) (sym place)
+    (closed_same (passed history (first ++ second) (moved (length first) fault)).history (passed nothing second fault).history (drop (passed nothing second fault).len second) next.1
+    (subst (λ (h : History). IsClosedAfter (passed h second fault).history (drop (passed h second fault).len second)) e rest)))
+
+closed_append : (second : Text) → begins_plainly second ≡ true → IsClosed second → (history : History) (first : Text) → Starts history → IsClosedAfter history first → IsClosedAfter history (first ++ second)
+closed_append second plain closed _ _ starts Empty = closed
+closed_append second plain closed _ _ starts (Cut history first cut) = cut_closed history first starts cut nothing second refl closed plain
+closed_append second plain closed _ _ starts (Past history first fault has is rest) =
+    let inside = (passed_bounds history first fault has).1 in
+    let left : drop (passed history first fault).len (first ++ second) ≡ drop (passed history first fault).len first ++ second = drop-append-le (passed history first fault).len first second inside in
+    Past history (first ++ second) fault (has_both history first second fault starts has is) (decided_both first second plain fault is closed)
+    (subst (λ (p : Passed). IsClosedAfter p.history (drop p.len (first ++ second))) (sym (passed_stays history first second fault starts has is))
+    (subst (IsClosedAfter (passed history first fault).history) (sym left) (closed_append second plain closed (passed history first fault).history (drop (passed history first fault).len first) (passed_starts history first fault) rest)))
 
 pub closed_join : ClosedJoin
-closed_join first second one plain other = closed_append second plain other first one
+closed_join first second one plain other = closed_append second plain other nothing first (λ none. refl) one

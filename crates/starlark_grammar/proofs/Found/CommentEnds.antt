@@ -11,13 +11,14 @@ use Rattle.starlark_grammar.specs.Joining.{without_last_newline}
 use Rattle.starlark_grammar.specs.Longest.{IsReading}
 use Rattle.starlark_grammar.specs.Margins.{Margin, comment_of, comment_part, comments_from, fits, has_tab, indentation, is_comment_only, is_content, is_lf, is_widest, lines, margin_len, margin_of, width_of, without_return}
 use Rattle.starlark_grammar.specs.Pieces.{Fails, Layout, Piece, Stands, margin_step}
-use Rattle.starlark_grammar.specs.Reading.{History, after, after_all, lexemes_along, next_step, nothing, outcome, pieces_len}
-use Rattle.starlark_grammar.specs.Repairs.{ends_by_comment, is_comment_to}
+use Rattle.starlark_grammar.specs.Reading.{History, after, after_all, lexemes_along, next_step, nothing, outcome_after, pieces_len}
+use Rattle.starlark_grammar.specs.KeptLines.{ends_by_comment, is_comment_to}
 use Rattle.starlark_grammar.specs.Tokens.{Dedent, Indent, Indentation, InvalidTab, Lexeme, Newline, moved}
 use Rattle.starlark_grammar.specs.Words.{Text, language}
 use Rattle.starlark_grammar.proofs.Joining.Followed.{ends_line, ends_line_drop, ends_line_made}
 use Rattle.starlark_grammar.proofs.Joining.Tabs.{first_step}
 use Rattle.starlark_grammar.proofs.Order.OrderedLexemes.{Split, first_line}
+use Rattle.starlark_grammar.proofs.Reading.Onward.{Starts}
 use Rattle.starlark_grammar.proofs.Reading.Readings.{one_least, piece_fits, started}
 use Rattle.starlark_grammar.proofs.Reading.Steps.{is_nothing}
 use Rattle.starlark_grammar.proofs.Recovery.ClosedBlocks.{dedents, open_count}
@@ -194,7 +195,7 @@ drop_whole (suc n) (b ∷ []) h = by n
 drop_whole (suc n) (b ∷ c ∷ bs) h = drop_whole n (c ∷ bs) h
 
 -- the last piece of a cut between lines
-last_short : (history : History) (text : Text) (piece : Piece) → ends_line text ≡ true → next_step language history text ≡ Stands piece → is_layout piece.sort ≡ true → (is_nothing history.before ≡ true → history ≡ nothing) → AreShort piece.len piece.lexemes
+last_short : (history : History) (text : Text) (piece : Piece) → ends_line text ≡ true → next_step language history text ≡ Stands piece → is_layout piece.sort ≡ true → Starts history → AreShort piece.len piece.lexemes
 last_short history text piece ends e laid fresh = by (is_nothing history.before) refl
   where
     by : (none : Bool) → is_nothing history.before ≡ none → AreShort piece.len piece.lexemes
@@ -206,7 +207,7 @@ last_short history text piece ends e laid fresh = by (is_nothing history.before)
         step_short line.n (record { begin = 0; node = Newline; end = line.n } ∷ []) _ (margin_of (drop line.n text)) piece (λ n. (λ more. refl, tt)) (margin_short (drop line.n text) (drop_whole line.n text ends)) line.stands
 
 along_short : (at : ℕ) (history : History) (text : Text) (pieces : List Piece) → ends_line text ≡ true → IsReading language history text pieces → pieces_len pieces ≡ length text → is_layout (after_all history pieces).before ≡ true
-    → (is_nothing history.before ≡ true → history ≡ nothing) → AreShort (at + length text) (lexemes_along at pieces)
+    → Starts history → AreShort (at + length text) (lexemes_along at pieces)
 unfolding after
 along_short at history text [] ends reads reach laid fresh = tt
 along_short at history text (piece ∷ []) ends reads reach laid fresh =
@@ -226,14 +227,15 @@ along_short at history text (piece ∷ next ∷ pieces) ends reads reach laid fr
     (subst (λ n. AreShort n (lexemes_along (at + piece.len) (next ∷ pieces))) whole
     (along_short (at + piece.len) (after history piece) (drop piece.len text) (next ∷ pieces) (ends_line_drop piece.len text less ends) reads.1 (omega (arith, reach, total, length-drop piece.len text)) laid (λ e. absurd (both_ways _ begun e))))
 
-pub no_comment_after : (text : Text) (pieces : List Piece) (more : ℕ) → LineCut text pieces → ends_by_comment (length text + more) (without_last_newline (outcome text).lexemes) ≡ false
-no_comment_after text pieces more cut =
-    ap (ends_by_comment (length text + more)) (line_cut_lexemes text pieces cut)
-    ∙ short_none (length text) more (lexemes_along 0 pieces ++ dedents (open_count (after_all nothing pieces)) (length text))
-    (short_append (length text) (lexemes_along 0 pieces) (dedents (open_count (after_all nothing pieces)) (length text)) along (short_dedents (length text) (length text) (open_count (after_all nothing pieces))))
+pub no_comment_after : (history : History) (text : Text) (pieces : List Piece) (more : ℕ) → Starts history → LineCut history text pieces → ends_by_comment (length text + more) (without_last_newline (outcome_after history text).lexemes) ≡ false
+no_comment_after history text pieces more starts cut =
+    let count = open_count (after_all history pieces) in
+    ap (ends_by_comment (length text + more)) (line_cut_lexemes history text pieces cut)
+    ∙ short_none (length text) more (lexemes_along 0 pieces ++ dedents count (length text))
+    (short_append (length text) (lexemes_along 0 pieces) (dedents count (length text)) along (short_dedents (length text) (length text) count))
   where
     none : 0 + length text ≡ length text
     none = omega arith
 
     along : AreShort (length text) (lexemes_along 0 pieces)
-    along = subst (λ n. AreShort n (lexemes_along 0 pieces)) none (along_short 0 nothing text pieces cut.ends cut.reads cut.reach cut.layout (λ e. refl))
+    along = subst (λ n. AreShort n (lexemes_along 0 pieces)) none (along_short 0 history text pieces cut.ends cut.reads cut.reach cut.layout starts)

@@ -1,195 +1,84 @@
 -- Newlines that close a text.
-use Rattle.std.proofs.Common.{◌≡◌, ℕ, zero, suc, ◌+◌, ◌-◌, ◌≤◌, ◌<◌, ◌⊎◌, inl, inr, Bool, true, false, List, [], ◌∷◌, ◌++◌, append_assoc, map, length, take, drop, refl, ap, sym, subst, ◌∙◌, arith, Option, None, Some}
+use Rattle.std.proofs.Common.{◌≡◌, ℕ, zero, suc, ◌+◌, ◌≤◌, ◌<◌, ◌⊎◌, inl, inr, Bool, true, false, List, [], ◌∷◌, ◌++◌, map, length, take, drop, refl, ap, sym, subst, ◌∙◌, arith, Option, None, Some}
 use Rattle.std.specs.List.{ends_with, list_all}
 use Rattle.std.specs.Prelude.{◌&&◌, codes, nat_eq, not}
 use Rattle.std.proofs.lemmas.Bool.{lt-ltb}
-use Rattle.std.proofs.lemmas.List.{drop-take, length-drop, length-take-le, take-append-drop, take_all, take_at, append-nil}
-use Rattle.starlark_grammar.specs.AfterFaults.{is_tab, next_line, restart, stopped_at}
+use Rattle.std.proofs.lemmas.List.{drop-take, length-drop, length-take-le, take-append-drop, take_all, append-nil}
 use Rattle.starlark_grammar.specs.Cuts.{is_newline}
-use Rattle.starlark_grammar.specs.Found.{Cut, Given, IsClosed, Item, Kept, Lost, Refused, found, found_after, found_by, found_past, found_within, given, lexemes_in, moved_item, passed_count}
+use Rattle.starlark_grammar.specs.Found.{Cut, Given, IsClosedAfter, Item, Past, Passed, Refused, found, found_after, found_by, found_within, given, lexemes_in, moved_item, passed}
 use Rattle.starlark_grammar.specs.FoundLaws.{LastNewlinesClose, NewlinesClose}
 use Rattle.starlark_grammar.specs.Joining.{begins_plainly, begins_undented, is_decided, is_dedent}
-use Rattle.starlark_grammar.specs.Reading.{outcome}
+use Rattle.starlark_grammar.specs.Reading.{History, nothing, outcome_after}
 use Rattle.starlark_grammar.specs.RecoveryLaws.{AreInOrder}
-use Rattle.starlark_grammar.specs.RepairLaws.{KeepsLine}
-use Rattle.starlark_grammar.specs.Repairs.{keeps_line, repair_end, repaired}
 use Rattle.starlark_grammar.specs.Tokens.{Fault, Lexeme, Outcome, Spanned, moved}
 use Rattle.starlark_grammar.specs.Words.{Text}
 use Rattle.starlark_grammar.proofs.Found.ClosedTexts.{closed_ends}
-use Rattle.starlark_grammar.proofs.Found.FoundItems.{by_keeps, found_after_lines, found_after_repairs}
-use Rattle.starlark_grammar.proofs.Found.Order.{IsFrom, fault_end, from_repair, from_start, good_within}
-use Rattle.starlark_grammar.proofs.Found.Repairs.{end_stays, keeps_stays, repaired_stays}
+use Rattle.starlark_grammar.proofs.Found.FoundItems.{found_after_faults, passed_bounds}
+use Rattle.starlark_grammar.proofs.Found.Order.{good_within, passed_starts}
+use Rattle.starlark_grammar.proofs.Found.PassedFaults.{passed_stays}
 use Rattle.starlark_grammar.proofs.Joining.Laws.{ends_after}
 use Rattle.starlark_grammar.proofs.Lists.{drop-sum}
-use Rattle.starlark_grammar.proofs.Order.Inside.{fault_within}
-use Rattle.starlark_grammar.proofs.Recovery.DecidedFaults.{decided, decided_faults_stay, next_line_stays}
-use Rattle.starlark_grammar.proofs.Recovery.NewlineCuts.{last_newline_cuts, newlines_cut}
+use Rattle.starlark_grammar.proofs.Reading.Onward.{Starts}
+use Rattle.starlark_grammar.proofs.Recovery.LineCuts.{starts_nothing}
+use Rattle.starlark_grammar.proofs.Recovery.NewlineCuts.{last_newline_cuts_after, newlines_cut_after}
 use Rattle.starlark_grammar.proofs.Recovery.Order.{order_reach}
-use Rattle.starlark_grammar.proofs.Recovery.RestartLines.{tab_empty}
 use Rattle.starlark_grammar.proofs.Recovery.ShortenedFaults.{fault_shortened}
-use Rattle.starlark_grammar.proofs.Recovery.RestartBounds.{restart_bounds}
-use Rattle.starlark_grammar.proofs.Repairs.RepairedTexts.{repaired_left, repaired_len}
-use Rattle.starlark_grammar.proofs.Repairs.Readings.{kept as kept_fault, repairs_have_bytes}
 
--- The front of a text with a fault that is left in it
+-- The front of a text with a fault that is left in it, up to so many bytes after what is passed with the fault
+module _ (history : History) (text : Text) (fault : Spanned Fault) (starts : Starts history) (has : (outcome_after history text).fault ≡ Some fault) (n : ℕ) (some : 0 < n) (inside : (passed history text fault).len + n ≤ length text)
+    (closed : IsClosedAfter (passed history text fault).history (take n (drop (passed history text fault).len text))) where
+  abbrev at : ℕ
+  at = (passed history text fault).len
 
--- the line of a fault that keeps it is that of the repair's end
-stopped_kept : (text : Text) (fault : Spanned Fault) → KeepsLine text fault → stopped_at text fault ≤ repair_end text fault
-unfolding stopped_at
-stopped_kept text fault keeps =
-    let bytes = repairs_have_bytes text fault keeps in
-    let is = kept_fault text (outcome text).lexemes fault keeps.1 in
-    let none = is.no_margin in
-    rw none (omega (arith, bytes.0, last (is_tab fault.node) refl))
-  where
-    last : (tab : Bool) → is_tab fault.node ≡ tab → fault.end ≤ repair_end text fault + 1
-    last true e = let bytes = repairs_have_bytes text fault keeps in omega (arith, bytes.0, tab_empty text fault keeps.0 e)
-    last false e = rw e (omega arith)
-
-module _ (text : Text) (fault : Spanned Fault) (has : (outcome text).fault ≡ Some fault) (n : ℕ) (inside : n ≤ length text) (later : fault.end < n) (ends : ends_with nat_eq (take n text) (codes "\n") ≡ true) where
   abbrev so_far : Text
-  so_far = take n text
+  so_far = take (at + n) text
 
-  abbrev after : Text
-  after = drop n text
+  abbrev later : Text
+  later = drop (at + n) text
 
-  whole : so_far ++ after ≡ text
-  whole = take-append-drop n text
+  whole : so_far ++ later ≡ text
+  whole = take-append-drop (at + n) text
 
-  len : length so_far ≡ n
-  len = length-take-le n text inside
+  len : length so_far ≡ at + n
+  len = length-take-le (at + n) text inside
 
-  decided_front : is_decided so_far fault ≡ true
-  unfolding is_decided
-  decided_front = rw (lt-ltb fault.end (length so_far) (omega (arith, len, later)), ends) refl
+  rest_is : drop at so_far ≡ take n (drop at text)
+  rest_is = drop-take at n text
 
-  short : restart text fault ≤ n → outcome so_far ≡ outcome text
-  short less =
-      fault_shortened so_far after fault (ap (λ (t : Text). (outcome t).fault) whole ∙ has) decided_front (omega (arith, ap (λ (t : Text). restart t fault) whole, len, less))
-      ∙ ap outcome whole
-
-  has_short : restart text fault ≤ n → (outcome so_far).fault ≡ Some fault
-  has_short less = ap (λ (o : Outcome). o.fault) (short less) ∙ has
-
-  keeps_short : (less : restart text fault ≤ n) (keeps : Bool) → keeps_line text (outcome text).lexemes fault ≡ keeps → keeps_line so_far (outcome so_far).lexemes fault ≡ keeps
-  keeps_short less keeps e =
-      ap (λ (o : Outcome). keeps_line so_far o.lexemes fault) (short less)
-      ∙ sym (keeps_stays so_far after fault (has_short less) decided_front (outcome text).lexemes)
-      ∙ ap (λ (t : Text). keeps_line t (outcome text).lexemes fault) whole ∙ e
-
--- after a repair
-module _ (text : Text) (fault : Spanned Fault) (keeps : KeepsLine text fault) (n : ℕ) (inside : n ≤ length text) (later : repair_end text fault < n) (closed : IsClosed (take n (repaired text fault))) (reach : fault.end ≤ repair_end text fault) where
-  abbrev end : ℕ
-  end = repair_end text fault
-
-  front_ends : ends_with nat_eq (take n text) (codes "\n") ≡ true
+  front_ends : ends_with nat_eq so_far (codes "\n") ≡ true
   front_ends =
-      let more : end + (n - end) ≡ n = omega (arith, later) in
-      let len = length-take-le n text inside in
-      let other = length-take-le n (repaired text fault) (let same = repaired_len text fault keeps in omega (arith, inside, same)) in
-      let rest : drop end (take n text) ≡ drop end (take n (repaired text fault)) =
-      ap (λ k. drop end (take k text)) (sym more) ∙ drop-take end (n - end) text ∙ sym (ap (take (n - end)) (repaired_left text fault keeps)) ∙ sym (drop-take end (n - end) (repaired text fault)) ∙ ap (λ k. drop end (take k (repaired text fault))) more in
-      let some : 0 < length (drop end (take n text)) = omega (arith, len, later, length-drop end (take n text)) in
-      ap (λ (t : Text). ends_with nat_eq t (codes "\n")) (sym (take-append-drop end (take n text))) ∙ ends_after (take end (take n text)) (drop end (take n text)) some
-      ∙ ap (λ (t : Text). ends_with nat_eq t (codes "\n")) rest
-      ∙ sym (ends_after (take end (take n (repaired text fault))) (drop end (take n (repaired text fault))) (subst (λ (t : Text). 0 < length t) rest some))
-      ∙ ap (λ (t : Text). ends_with nat_eq t (codes "\n")) (take-append-drop end (take n (repaired text fault)))
-      ∙ closed_ends (take n (repaired text fault)) closed (omega (arith, other, later))
-
-  reaches : fault.end < n
-  reaches = omega (arith, reach, later)
-
-  line_inside : restart text fault ≤ n
-  unfolding restart next_line
-  line_inside =
-      let is = decided_front text fault keeps.0 n inside reaches front_ends in
-      let size = length-take-le n text inside in
-      let less : stopped_at text fault < length (take n text) = omega (arith, stopped_kept text fault keeps, later, size) in
-      let stays = next_line_stays (take n text) (drop n text) (stopped_at text fault) (decided (take n text) fault is).1 less in
-      let same : next_line text (stopped_at text fault) ≡ next_line (take n text) (stopped_at text fault) = ap (λ (t : Text). next_line t (stopped_at text fault)) (sym (take-append-drop n text)) ∙ stays in
-      omega (arith, same, size)
-
-  front_has : (outcome (take n text)).fault ≡ Some fault
-  front_has = has_short text fault keeps.0 n inside reaches front_ends line_inside
-
-  front_keeps : keeps_line (take n text) (outcome (take n text)).lexemes fault ≡ true
-  front_keeps = keeps_short text fault keeps.0 n inside reaches front_ends line_inside true keeps.1
-
-  front_repaired : repaired (take n text) fault ≡ take n (repaired text fault)
-  front_repaired =
-      let is = decided_front text fault keeps.0 n inside reaches front_ends in
-      let bytes = repairs_have_bytes (take n text) fault (front_has, front_keeps) in
-      let size = repaired_len (take n text) fault (front_has, front_keeps) ∙ length-take-le n text inside in
-      let both : repaired text fault ≡ repaired (take n text) fault ++ drop n text =
-      ap (λ (t : Text). repaired t fault) (sym (take-append-drop n text)) ∙ repaired_stays (take n text) (drop n text) fault front_has is bytes.1 in
-      sym (ap (λ (t : Text). take n t) both ∙ take_at (repaired (take n text) fault) (drop n text) n size)
-
-  front_outcome : outcome (take n text) ≡ outcome text
-  front_outcome = short text fault keeps.0 n inside reaches front_ends line_inside
-
-  front_count : passed_count (take n text) fault ≡ passed_count text fault
-  front_count =
-      let is = decided_front text fault keeps.0 n inside reaches front_ends in
-      let ends : repair_end text fault ≡ repair_end (take n text) fault = ap (λ (t : Text). repair_end t fault) (sym (take-append-drop n text)) ∙ end_stays (take n text) (drop n text) fault front_has is in
-      ap (λ (o : Outcome). length o.lexemes + (repair_end (take n text) fault - fault.begin)) front_outcome ∙ ap (λ end. length (outcome text).lexemes + (end - fault.begin)) (sym ends)
-
-  pub kept_found : (k : ℕ) → found_past k (take n text) ≡ given (drop k (outcome text).lexemes) ++ (Refused fault ∷ found_past (passed_count text fault) (take n (repaired text fault)))
-  kept_found k =
-      found_after_repairs k (take n text) fault front_has front_keeps
-      ∙ ap (λ (o : Outcome). given (drop k o.lexemes) ++ (Refused fault ∷ found_past (passed_count (take n text) fault) (repaired (take n text) fault))) front_outcome
-      ∙ ap (λ m. given (drop k (outcome text).lexemes) ++ (Refused fault ∷ found_past m (repaired (take n text) fault))) front_count
-      ∙ ap (λ (t : Text). given (drop k (outcome text).lexemes) ++ (Refused fault ∷ found_past (passed_count text fault) t)) front_repaired
-
-  kept_closed : IsClosed (take n text)
-  kept_closed = Kept (take n text) fault front_has front_keeps (decided_front text fault keeps.0 n inside reaches front_ends) (subst IsClosed (sym front_repaired) closed)
-
--- after a restart
-module _ (text : Text) (fault : Spanned Fault) (has : (outcome text).fault ≡ Some fault) (loses : keeps_line text (outcome text).lexemes fault ≡ false) (n : ℕ) (some : 0 < n) (inside : restart text fault + n ≤ length text) (closed : IsClosed (take n (drop (restart text fault) text))) where
-  abbrev line : ℕ
-  line = restart text fault
-
-  rest_is : drop line (take (line + n) text) ≡ take n (drop line text)
-  rest_is = drop-take line n text
-
-  line_ends : ends_with nat_eq (take (line + n) text) (codes "\n") ≡ true
-  line_ends =
-      let size = length-take-le (line + n) text inside in
-      let left : 0 < length (drop line (take (line + n) text)) = omega (arith, some, size, length-drop line (take (line + n) text)) in
-      ap (λ (t : Text). ends_with nat_eq t (codes "\n")) (sym (take-append-drop line (take (line + n) text)))
-      ∙ ends_after (take line (take (line + n) text)) (drop line (take (line + n) text)) left
+      let left : 0 < length (drop at so_far) = omega (arith, some, len, length-drop at so_far) in
+      ap (λ (t : Text). ends_with nat_eq t (codes "\n")) (sym (take-append-drop at so_far)) ∙ ends_after (take at so_far) (drop at so_far) left
       ∙ ap (λ (t : Text). ends_with nat_eq t (codes "\n")) rest_is
-      ∙ closed_ends (take n (drop line text)) closed (omega (arith, left, ap (λ (t : Text). length t) rest_is))
+      ∙ closed_ends (passed history text fault).history (take n (drop at text)) closed (subst (λ (t : Text). 0 < length t) rest_is left)
 
-  before_end : fault.end < line + n
-  before_end = let bounds = restart_bounds text fault (fault_within text fault has).1 in let end = bounds.0 in omega (arith, end, some)
+  front_decided : is_decided so_far fault ≡ true
+  unfolding is_decided
+  front_decided = let bounds = passed_bounds history text fault has in rw (lt-ltb fault.end (length so_far) (omega (arith, bounds.0, some, len)), front_ends) refl
 
-  lost_is : is_decided (take (line + n) text) fault ≡ true
-  lost_is = decided_front text fault has (line + n) inside before_end line_ends
+  front_outcome : outcome_after history so_far ≡ outcome_after history text
+  front_outcome =
+      (fault_shortened history so_far later fault starts (ap (λ (t : Text). (outcome_after history t).fault) whole ∙ has) front_decided
+      (omega (arith, ap (λ (t : Text). (passed history t fault).len) whole, len))).0
+      ∙ ap (outcome_after history) whole
 
-  lost_outcome : outcome (take (line + n) text) ≡ outcome text
-  lost_outcome = short text fault has (line + n) inside before_end line_ends (omega arith)
+  front_has : (outcome_after history so_far).fault ≡ Some fault
+  front_has = ap (λ (o : Outcome). o.fault) front_outcome ∙ has
 
-  lost_has : (outcome (take (line + n) text)).fault ≡ Some fault
-  lost_has = has_short text fault has (line + n) inside before_end line_ends (omega arith)
+  front_passed : passed history so_far fault ≡ passed history text fault
+  front_passed = sym (passed_stays history so_far later fault starts front_has front_decided) ∙ ap (λ (t : Text). passed history t fault) whole
 
-  lost_loses : keeps_line (take (line + n) text) (outcome (take (line + n) text)).lexemes fault ≡ false
-  lost_loses = keeps_short text fault has (line + n) inside before_end line_ends (omega arith) false loses
+  pub front_closed : IsClosedAfter history so_far
+  front_closed =
+      Past history so_far fault front_has front_decided
+      (subst (λ (p : Passed). IsClosedAfter p.history (drop p.len so_far)) (sym front_passed) (subst (IsClosedAfter (passed history text fault).history) (sym rest_is) closed))
 
-  lost_again : restart (take (line + n) text) fault ≡ line
-  lost_again = sym (decided_faults_stay (take (line + n) text) (drop (line + n) text) fault lost_has lost_is).1 ∙ ap (λ (t : Text). restart t fault) (take-append-drop (line + n) text)
-
-  lost_rest : drop (restart (take (line + n) text) fault) (take (line + n) text) ≡ take n (drop line text)
-  lost_rest = ap (λ k. drop k (take (line + n) text)) lost_again ∙ rest_is
-
-  lost_closed : IsClosed (take (line + n) text)
-  lost_closed = Lost (take (line + n) text) fault lost_has lost_loses lost_is (subst IsClosed (sym lost_rest) closed)
-
-  pub lost_found : (k : ℕ) → found_past k (take (line + n) text) ≡ given (drop k (outcome text).lexemes) ++ (Refused fault ∷ map (moved_item line) (found_past 0 (take n (drop line text))))
-  lost_found k =
-      found_after_lines k (take (line + n) text) fault lost_has lost_loses
-      ∙ ap (λ (o : Outcome). given (drop k o.lexemes) ++ (Refused fault ∷ map (moved_item (restart (take (line + n) text) fault)) (found_past 0 (drop (restart (take (line + n) text) fault) (take (line + n) text))))) lost_outcome
-      ∙ ap (λ m. given (drop k (outcome text).lexemes) ++ (Refused fault ∷ map (moved_item m) (found_past 0 (drop (restart (take (line + n) text) fault) (take (line + n) text))))) lost_again
-      ∙ ap (λ (t : Text). given (drop k (outcome text).lexemes) ++ (Refused fault ∷ map (moved_item line) (found_past 0 t))) lost_rest
+  pub front_found : found_after history so_far ≡ given (outcome_after history text).lexemes ++ (Refused fault ∷ map (moved_item at) (found_after (passed history text fault).history (take n (drop at text))))
+  front_found =
+      found_after_faults history so_far fault front_has
+      ∙ ap (λ (o : Outcome). given o.lexemes ++ (Refused fault ∷ map (moved_item (passed history so_far fault).len) (found_after (passed history so_far fault).history (drop (passed history so_far fault).len so_far)))) front_outcome
+      ∙ ap (λ (p : Passed). given (outcome_after history text).lexemes ++ (Refused fault ∷ map (moved_item p.len) (found_after p.history (drop p.len so_far)))) front_passed
+      ∙ ap (λ (t : Text). given (outcome_after history text).lexemes ++ (Refused fault ∷ map (moved_item at) (found_after (passed history text fault).history t))) rest_is
 
 -- Where the newline is
 
@@ -285,101 +174,108 @@ abbrev pub EndsPlainly : Text → Lexeme → Type 0
 EndsPlainly text line = (begins_plainly (drop line.end text) ≡ true) ⊎ (line.end ≡ length text)
 
 -- it is a lexeme of the text's own outcome
-own_line : (k : ℕ) (text : Text) (before : List Lexeme) (line : Lexeme) (rest : List Lexeme) → drop k (outcome text).lexemes ≡ before ++ (line ∷ rest) → is_newline line.node ≡ true → line.begin < line.end → EndsPlainly text line → IsClosed (take line.end text)
-own_line k text before line rest e is some ends = by ends
-  where
-    lexemes : List Lexeme
-    lexemes = (outcome text).lexemes
-
-    all : lexemes ≡ (take k lexemes ++ before) ++ (line ∷ rest)
-    all = sym (take-append-drop k lexemes) ∙ ap (λ (l : List Lexeme). take k lexemes ++ l) e ∙ sym (append_assoc (take k lexemes) before (line ∷ rest))
-
-    by : EndsPlainly text line → IsClosed (take line.end text)
-    by (inl plain) =
-        let parts = undent rest in
-        let whole = parts.whole in
-        let cut = newlines_cut text (take k lexemes ++ before) line parts.dedents parts.more (all ∙ ap (λ (l : List Lexeme). (take k lexemes ++ before) ++ (line ∷ l)) whole) is some parts.are parts.undented plain in
-        Cut (take line.end text) cut.0
-    by (inr last) =
-        let cut = last_newline_cuts text (take k lexemes ++ before) line rest all is some last in
-        subst IsClosed (sym (take_all line.end text (omega (arith, last)))) (Cut text cut.0)
+own_line : (history : History) (text : Text) (before : List Lexeme) (line : Lexeme) (rest : List Lexeme) → Starts history → (outcome_after history text).lexemes ≡ before ++ (line ∷ rest) → is_newline line.node ≡ true → line.begin < line.end → EndsPlainly text line → IsClosedAfter history (take line.end text)
+own_line history text before line rest starts e is some (inl plain) =
+    let parts = undent rest in
+    let whole = parts.whole in
+    let cut = newlines_cut_after history text before line parts.dedents parts.more starts (e ∙ ap (λ (l : List Lexeme). before ++ (line ∷ l)) whole) is some parts.are parts.undented plain in
+    Cut history (take line.end text) cut.0
+own_line history text before line rest starts e is some (inr last) =
+    let cut = last_newline_cuts_after history text before line rest starts e is some last in
+    subst (IsClosedAfter history) (sym (take_all line.end text (omega (arith, last)))) (Cut history text cut.0)
 
 -- the newlines that are found with so many faults at most
 abbrev pub ClosesWithin : ℕ → Type 0
-ClosesWithin n = (k from : ℕ) (text : Text) (front : List Item) (line : Lexeme) (more : List Item) → IsFrom from k text → found_within n k text ≡ front ++ (Given line ∷ more) → is_newline line.node ≡ true → line.begin < line.end → EndsPlainly text line → IsClosed (take line.end text)
+ClosesWithin n = (history : History) (text : Text) (front : List Item) (line : Lexeme) (more : List Item) → Starts history → found_within n history text ≡ front ++ (Given line ∷ more) → is_newline line.node ≡ true → line.begin < line.end → EndsPlainly text line
+    → IsClosedAfter history (take line.end text)
+
+-- A newline after a fault is one of the rest of the text.
+pub record RestLine (n : ℕ) (history : History) (text : Text) (fault : Spanned Fault) (later : List Item) (line : Lexeme) (more : List Item) : Type 0 where
+  pub own : MovedLine (passed history text fault).len (found_within n (passed history text fault).history (drop (passed history text fault).len text)) later line more
+  pub is : is_newline own.own.node ≡ true
+  pub some : own.own.begin < own.own.end
+  pub end : (passed history text fault).len + own.own.end ≡ line.end
+  pub inside : (passed history text fault).len + own.own.end ≤ length text
+
+pub rest_line : (n : ℕ) (history : History) (text : Text) (fault : Spanned Fault) (later : List Item) (line : Lexeme) (more : List Item) → (outcome_after history text).fault ≡ Some fault
+    → map (moved_item (passed history text fault).len) (found_within n (passed history text fault).history (drop (passed history text fault).len text)) ≡ later ++ (Given line ∷ more) → is_newline line.node ≡ true → line.begin < line.end → RestLine n history text fault later line more
+rest_line n history text fault later line more has items is some =
+    record { own = own; is = ap (λ (l : Lexeme). is_newline l.node) own.same ∙ is; some = omega (arith, some, begins, end); end = end; inside = omega (arith, place.2, bounds.1, length-drop at text) }
+  where
+    at : ℕ
+    at = (passed history text fault).len
+
+    past : History
+    past = (passed history text fault).history
+
+    rest : Text
+    rest = drop at text
+
+    own : MovedLine (passed history text fault).len (found_within n (passed history text fault).history (drop (passed history text fault).len text)) later line more
+    own = moved_line at (found_within n past rest) later line more items
+
+    begins : at + own.own.begin ≡ line.begin
+    begins = ap (λ (l : Lexeme). l.begin) own.same
+
+    end : at + own.own.end ≡ line.end
+    end = ap (λ (l : Lexeme). l.end) own.same
+
+    bounds : (fault.end ≤ at) × (at ≤ length text)
+    bounds = passed_bounds history text fault has
+
+    place : (0 ≤ own.own.begin) × (own.own.begin ≤ own.own.end) × (own.own.end ≤ length rest)
+    place =
+        let whole = own.whole in
+        in_order 0 own.before own.own own.rest (length rest) (subst (λ (l : List Item). AreInOrder 0 (lexemes_in l) (length rest)) whole (good_within n past rest (passed_starts history text fault)).0)
+
+rest_ends : (text : Text) (at end to : ℕ) → at + end ≡ to → at ≤ length text → (begins_plainly (drop to text) ≡ true) ⊎ (to ≡ length text) → (begins_plainly (drop end (drop at text)) ≡ true) ⊎ (end ≡ length (drop at text))
+rest_ends text at end to last within (inl plain) = inl (ap begins_plainly (sym (drop-sum at end text) ∙ ap (λ m. drop m text) last) ∙ plain)
+rest_ends text at end to last within (inr whole) = inr (omega (arith, last, whole, within, length-drop at text))
 
 pub closes_within : (n : ℕ) → ClosesWithin n
 unfolding found_within
-closes_within zero k from text front line more here e is some ends = go (line_at (drop k (outcome text).lexemes) [] front line more (append-nil (given (drop k (outcome text).lexemes)) ∙ e))
+closes_within zero history text front line more starts e is some ends = go (line_at (outcome_after history text).lexemes [] front line more (append-nil (given (outcome_after history text).lexemes) ∙ e))
   where
-    go : LineAt (drop k (outcome text).lexemes) [] front line more → IsClosed (take line.end text)
-    go (Inside before rest whole front_is more_is) = own_line k text before line rest whole is some ends
+    go : LineAt (outcome_after history text).lexemes [] front line more → IsClosedAfter history (take line.end text)
+    go (Inside before rest whole front_is more_is) = own_line history text before line rest starts whole is some ends
     go (Later later front_is wrong) = absurd (none_later later line more wrong)
-closes_within (suc n) k from text front line more here e is some ends = by (outcome text).fault refl (closes_within n) e
+closes_within (suc n) history text front line more starts e is some ends = by (outcome_after history text).fault refl (closes_within n) e
   where
     lexemes : List Lexeme
-    lexemes = drop k (outcome text).lexemes
+    lexemes = (outcome_after history text).lexemes
 
-    alone : LineAt lexemes [] front line more → IsClosed (take line.end text)
-    alone (Inside before rest whole front_is more_is) = own_line k text before line rest whole is some ends
+    alone : LineAt lexemes [] front line more → IsClosedAfter history (take line.end text)
+    alone (Inside before rest whole front_is more_is) = own_line history text before line rest starts whole is some ends
     alone (Later later front_is wrong) = absurd (none_later later line more wrong)
 
-    repaired_line : (fault : Spanned Fault) → (outcome text).fault ≡ Some fault → keeps_line text (outcome text).lexemes fault ≡ true → ClosesWithin n → (later : List Item) → found_within n (passed_count text fault) (repaired text fault) ≡ later ++ (Given line ∷ more) → IsClosed (take line.end text)
-    repaired_line fault has keeps again later items =
-        let end : ℕ = repair_end text fault in
-        let len = repaired_len text fault (has, keeps) in
-        let start = from_repair from k text here fault has keeps in
-        let order = (good_within n end (passed_count text fault) (repaired text fault) start).0 in
-        let place = in_order end later line more (length (repaired text fault)) (subst (λ (l : List Item). AreInOrder end (lexemes_in l) (length (repaired text fault))) items order) in
-        let more_bytes : end + (line.end - end) ≡ line.end = omega (arith, place.0, some) in
-        let rest : drop line.end (repaired text fault) ≡ drop line.end text =
-        ap (λ m. drop m (repaired text fault)) (sym more_bytes) ∙ drop-sum end (line.end - end) (repaired text fault) ∙ ap (λ (t : Text). drop (line.end - end) t) (repaired_left text fault (has, keeps))
-        ∙ sym (drop-sum end (line.end - end) text) ∙ ap (λ m. drop m text) more_bytes in
-        let closed = again (passed_count text fault) end (repaired text fault) later line more start items is some (same_end rest len ends) in
-        kept_closed text fault (has, keeps) line.end (omega (arith, place.2, len)) (omega (arith, place.0, some)) closed (fault_end from k text here fault has keeps)
-      where
-        same_end : drop line.end (repaired text fault) ≡ drop line.end text → length (repaired text fault) ≡ length text → EndsPlainly text line → EndsPlainly (repaired text fault) line
-        same_end rest len (inl plain) = inl (ap begins_plainly rest ∙ plain)
-        same_end rest len (inr last) = inr (last ∙ sym len)
+    later_line : (fault : Spanned Fault) → (outcome_after history text).fault ≡ Some fault → ClosesWithin n → (later : List Item) → RestLine n history text fault later line more → IsClosedAfter history (take line.end text)
+    later_line fault has again later rest =
+        let own = rest.own in
+        let last = rest.end in
+        let bounds = passed_bounds history text fault has in
+        let left = again (passed history text fault).history (drop (passed history text fault).len text) own.before own.own own.rest (passed_starts history text fault) own.whole rest.is rest.some
+        (rest_ends text (passed history text fault).len own.own.end line.end last bounds.1 ends) in
+        let less = rest.some in
+        subst (λ m. IsClosedAfter history (take m text)) last (front_closed history text fault starts has own.own.end (omega (arith, less)) rest.inside left)
 
-    later_line : (fault : Spanned Fault) → (outcome text).fault ≡ Some fault → keeps_line text (outcome text).lexemes fault ≡ false → ClosesWithin n → (later : List Item) → map (moved_item (restart text fault)) (found_within n 0 (drop (restart text fault) text)) ≡ later ++ (Given line ∷ more) → IsClosed (take line.end text)
-    later_line fault has loses again later items =
-        let at : ℕ = restart text fault in
-        let rest : Text = drop at text in
-        let own = moved_line at (found_within n 0 rest) later line more items in
-        let bounds = restart_bounds text fault (fault_within text fault has).1 in
-        let begins : at + own.own.begin ≡ line.begin = ap (λ (l : Lexeme). l.begin) own.same in
-        let last : at + own.own.end ≡ line.end = ap (λ (l : Lexeme). l.end) own.same in
-        let node : own.own.node ≡ line.node = ap (λ (l : Lexeme). l.node) own.same in
-        let whole = own.whole in
-        let order = (good_within n 0 0 rest (from_start rest)).0 in
-        let place = in_order 0 own.before own.own own.rest (length rest) (subst (λ (l : List Item). AreInOrder 0 (lexemes_in l) (length rest)) whole order) in
-        let within = bounds.1 in
-        let inside : at + own.own.end ≤ length text = omega (arith, place.2, within, length-drop at text) in
-        let closed = again 0 0 rest own.before own.own own.rest (from_start rest) whole (ap is_newline node ∙ is) (omega (arith, some, begins, last)) (rest_ends at own.own.end last within ends) in
-        subst (λ m. IsClosed (take m text)) last (lost_closed text fault has loses own.own.end (omega (arith, some, begins, last)) inside closed)
-      where
-        rest_ends : (at end : ℕ) → at + end ≡ line.end → at ≤ length text → EndsPlainly text line → (begins_plainly (drop end (drop at text)) ≡ true) ⊎ (end ≡ length (drop at text))
-        rest_ends at end last within (inl plain) = inl (ap begins_plainly (sym (drop-sum at end text) ∙ ap (λ m. drop m text) last) ∙ plain)
-        rest_ends at end last within (inr whole) = inr (omega (arith, last, whole, within, length-drop at text))
+    after : (fault : Spanned Fault) → List Item
+    after fault = map (moved_item (passed history text fault).len) (found_within n (passed history text fault).history (drop (passed history text fault).len text))
 
-    found_line : (fault : Spanned Fault) → (outcome text).fault ≡ Some fault → ClosesWithin n → LineAt lexemes (Refused fault ∷ found_after text fault (keeps_line text (outcome text).lexemes fault) (found_within n)) front line more → IsClosed (take line.end text)
-    found_line fault has again (Inside before rest whole front_is more_is) = own_line k text before line rest whole is some ends
+    found_line : (fault : Spanned Fault) → (outcome_after history text).fault ≡ Some fault → ClosesWithin n → LineAt lexemes (Refused fault ∷ after fault) front line more → IsClosedAfter history (take line.end text)
+    found_line fault has again (Inside before rest whole front_is more_is) = own_line history text before line rest starts whole is some ends
     found_line fault has again (Later later front_is items) =
-        let past = after_fault fault (found_after text fault (keeps_line text (outcome text).lexemes fault) (found_within n)) later line more items in
-        by_keeps text fault
-        (λ keeps. repaired_line fault has keeps again past.0 (sym (ap (λ b. found_after text fault b (found_within n)) keeps) ∙ past.2))
-        (λ loses. later_line fault has loses again past.0 (sym (ap (λ b. found_after text fault b (found_within n)) loses) ∙ past.2))
+        let past = after_fault fault (after fault) later line more items in
+        later_line fault has again past.0 (rest_line n history text fault past.0 line more has past.2 is some)
 
-    by : (has : Option (Spanned Fault)) → (outcome text).fault ≡ has → ClosesWithin n → found_by text k has (found_within n) ≡ front ++ (Given line ∷ more) → IsClosed (take line.end text)
+    by : (has : Option (Spanned Fault)) → (outcome_after history text).fault ≡ has → ClosesWithin n → found_by history text has (found_within n) ≡ front ++ (Given line ∷ more) → IsClosedAfter history (take line.end text)
     by None none again e = alone (line_at lexemes [] front line more (append-nil (given lexemes) ∙ e))
-    by (Some fault) has again e = found_line fault has again (line_at lexemes _ front line more e)
+    by (Some fault) has again e = found_line fault has again (line_at lexemes (Refused fault ∷ after fault) front line more e)
 
 pub newlines_close : NewlinesClose
-unfolding found found_past
-newlines_close text front newline more e is some plain = closes_within (suc (length text)) 0 0 text front newline more (from_start text) e is some (inl plain)
+unfolding found found_after
+newlines_close text front newline more e is some plain = closes_within (suc (length text)) nothing text front newline more starts_nothing e is some (inl plain)
 
 pub last_newlines_close : LastNewlinesClose
-unfolding found found_past
+unfolding found found_after
 last_newlines_close text front newline more e is some last =
-    subst IsClosed (take_all newline.end text (omega (arith, last))) (closes_within (suc (length text)) 0 0 text front newline more (from_start text) e is some (inr last))
+    subst (IsClosedAfter nothing) (take_all newline.end text (omega (arith, last))) (closes_within (suc (length text)) nothing text front newline more starts_nothing e is some (inr last))

@@ -1,41 +1,46 @@
 -- What is found before and after a fault.
 use Rattle.std.proofs.Common.{◌≡◌, ℕ, zero, suc, ◌+◌, ◌-◌, ◌≤◌, ◌<◌, Bool, true, false, List, [], ◌∷◌, ◌++◌, length, map, drop, refl, ap, ◌∙◌, sym, subst, Option, Some, None, arith}
 use Rattle.std.proofs.lemmas.List.{length-drop}
-use Rattle.std.specs.Prelude.{IfSome, if◌then◌else◌, max}
-use Rattle.starlark_grammar.proofs.Order.Inside.{fault_within}
-use Rattle.starlark_grammar.proofs.Recovery.RestartBounds.{empty_faultless, restart_bounds, restart_later}
-use Rattle.starlark_grammar.proofs.Repairs.RepairedTexts.{repaired_len}
-use Rattle.starlark_grammar.proofs.Repairs.Readings.{repairs_have_bytes, repairs_leave_later}
+use Rattle.std.specs.Prelude.{if◌then◌else◌, max}
 use Rattle.starlark_grammar.specs.AfterFaults.{is_margin_tab, line_end_len, margin_line, next_line, restart, stopped_at}
-use Rattle.starlark_grammar.specs.Found.{Item, Refused, found_after, found_by, found_past, found_within, given, moved_item, passed_count}
-use Rattle.starlark_grammar.specs.FoundLaws.{FaultlessFound, FoundAfterLines, FoundAfterRepairs}
-use Rattle.starlark_grammar.specs.Reading.{outcome}
-use Rattle.starlark_grammar.specs.RepairLaws.{KeepsLine}
-use Rattle.starlark_grammar.specs.Repairs.{keeps_line, repair_end, repaired}
-use Rattle.starlark_grammar.specs.Tokens.{Fault, Spanned}
+use Rattle.starlark_grammar.specs.Found.{Item, Passed, Refused, found_after, found_by, found_within, given, moved_item, passed}
+use Rattle.starlark_grammar.specs.FoundLaws.{FaultlessFound, FoundAfterFaults}
+use Rattle.starlark_grammar.specs.KeptLines.{keeps_line, passed_end}
+use Rattle.starlark_grammar.specs.Pieces.{Other}
+use Rattle.starlark_grammar.specs.Reading.{History, history_after, nothing, outcome_after}
+use Rattle.starlark_grammar.specs.Tokens.{Fault, Outcome, Spanned}
 use Rattle.starlark_grammar.specs.Words.{Text}
+use Rattle.starlark_grammar.proofs.KeptLines.KeptFaultPlaces.{kept_end, kept_faults_have_bytes}
+use Rattle.starlark_grammar.proofs.Reading.Onward.{outcome_after_nothing, stops_at}
+use Rattle.starlark_grammar.proofs.Recovery.RestartBounds.{empty_faultless, restart_bounds}
 
--- so many faults are enough for what is found in a text
-abbrev pub Enough : ℕ → Text → Type 0
-Enough n text = (fault : Spanned Fault) → (outcome text).fault ≡ Some fault → length text < fault.begin + n
+-- whether a fault keeps its line
+abbrev pub keeps : History → Text → Spanned Fault → Bool
+keeps history text fault = keeps_line history.before text (outcome_after history text).lexemes fault
 
--- and one fewer for the repaired text, …
-pub enough_repaired : (n : ℕ) (text : Text) (fault : Spanned Fault) → KeepsLine text fault → Enough (suc n) text → Enough n (repaired text fault)
-enough_repaired n text fault keeps enough = λ later has.
-    let bytes = repairs_have_bytes text fault keeps in
-    let after : repair_end text fault ≤ later.begin = subst (λ (found : Option (Spanned Fault)). IfSome found (λ later. repair_end text fault ≤ later.begin)) has (repairs_leave_later text fault keeps) in
-    omega (arith, after, bytes.0, enough fault keeps.0, repaired_len text fault keeps)
+-- by whether the fault keeps its line
+pub by_keeps : {A : Type 0} (history : History) (text : Text) (fault : Spanned Fault) → (keeps history text fault ≡ true → A) → (keeps history text fault ≡ false → A) → A
+by_keeps {A} history text fault hit miss = go (keeps history text fault) refl
+  where
+    go : (is : Bool) → keeps history text fault ≡ is → A
+    go true e = hit e
+    go false e = miss e
 
-some_bytes : (text : Text) (fault : Spanned Fault) → (outcome text).fault ≡ Some fault → 0 < length text
-some_bytes [] fault has = let none = empty_faultless in cc
-some_bytes (b ∷ bs) fault has = omega arith
+-- what is passed with a fault that keeps its line, …
+abbrev pub kept_past : History → Text → Spanned Fault → Passed
+kept_past history text fault = record { len = passed_end text fault; history = record (history_after history text) { before = Other } }
 
--- … and as many as bytes for the text from the next line on
-enough_rest : (n : ℕ) (text : Text) (fault : Spanned Fault) → (outcome text).fault ≡ Some fault → length text ≤ n → suc (length (drop (restart text fault) text)) ≤ n
-enough_rest n text fault has most =
-    let later = restart_later text fault (some_bytes text fault has) in
-    let inside = restart_bounds text fault (fault_within text fault has).1 in
-    omega (arith, later, inside.1, most, length-drop (restart text fault) text, some_bytes text fault has)
+pub passed_kept : (history : History) (text : Text) (fault : Spanned Fault) → keeps history text fault ≡ true → passed history text fault ≡ kept_past history text fault
+unfolding passed
+passed_kept history text fault is = rw is refl
+
+-- … and with any other
+abbrev pub lost_past : Text → Spanned Fault → Passed
+lost_past text fault = record { len = restart text fault; history = nothing }
+
+pub passed_lost : (history : History) (text : Text) (fault : Spanned Fault) → keeps history text fault ≡ false → passed history text fault ≡ lost_past text fault
+unfolding passed
+passed_lost history text fault is = rw is refl
 
 -- lexing stops at a fault, or later
 pub stopped_past : (text : Text) (fault : Spanned Fault) → fault.begin ≤ stopped_at text fault
@@ -50,88 +55,109 @@ restart_past : (text : Text) (fault : Spanned Fault) → fault.begin < length te
 unfolding restart next_line
 restart_past text fault less = let past = stopped_past text fault in omega (arith, less, past)
 
-pub enough_bytes : (n : ℕ) (text : Text) → suc (length text) ≤ n → Enough n text
-enough_bytes n text most = λ fault has. omega (arith, most)
+-- the text without bytes has no fault
+pub none_at_end : (fault : Spanned Fault) → (outcome_after nothing []).fault ≡ Some fault → ⊥
+none_at_end fault has =
+    let none : None ≡ Some fault = sym (ap (λ (o : Outcome). o.fault) (outcome_after_nothing []) ∙ empty_faultless) ∙ has in cc
 
--- by whether the fault keeps its line
-pub by_keeps : {A : Type 0} (text : Text) (fault : Spanned Fault) → (keeps_line text (outcome text).lexemes fault ≡ true → A) → (keeps_line text (outcome text).lexemes fault ≡ false → A) → A
-by_keeps {A} text fault hit miss = go (keeps_line text (outcome text).lexemes fault) refl
+-- the rest after a fault is in the text
+pub passed_bounds : (history : History) (text : Text) (fault : Spanned Fault) → (outcome_after history text).fault ≡ Some fault → (fault.end ≤ (passed history text fault).len) × ((passed history text fault).len ≤ length text)
+passed_bounds history text fault has =
+    let here = stops_at history text fault has in
+    let inside = here.inside in
+    by_keeps history text fault
+    (λ is. subst (λ (p : Passed). (fault.end ≤ p.len) × (p.len ≤ length text)) (sym (passed_kept history text fault is)) (after_end is, (kept_faults_have_bytes history text fault (has, is)).1))
+    (λ is. subst (λ (p : Passed). (fault.end ≤ p.len) × (p.len ≤ length text)) (sym (passed_lost history text fault is)) (restart_bounds text fault inside))
   where
-    go : (keeps : Bool) → keeps_line text (outcome text).lexemes fault ≡ keeps → A
-    go true e = hit e
-    go false e = miss e
+    after_end : keeps history text fault ≡ true → fault.end ≤ passed_end text fault
+    after_end is = kept_end history text fault (has, is)
 
-after_is : (text : Text) (passed : ℕ) (fault : Spanned Fault) (again other : ℕ → Text → List Item) (keeps : Bool) → keeps_line text (outcome text).lexemes fault ≡ keeps → found_after text fault keeps again ≡ found_after text fault keeps other
-    → found_by text passed (Some fault) again ≡ found_by text passed (Some fault) other
-after_is text passed fault again other keeps e same =
-    ap (λ keeps. given (drop passed (outcome text).lexemes) ++ (Refused fault ∷ found_after text fault keeps again)) e
-    ∙ ap (λ after. given (drop passed (outcome text).lexemes) ++ (Refused fault ∷ after)) same
-    ∙ sym (ap (λ keeps. given (drop passed (outcome text).lexemes) ++ (Refused fault ∷ found_after text fault keeps other)) e)
+-- so many faults are enough for what is found in a text
+abbrev pub Enough : ℕ → History → Text → Type 0
+Enough n history text = (fault : Spanned Fault) → (outcome_after history text).fault ≡ Some fault → length text < fault.begin + n
+
+-- and one fewer for the rest after its fault
+pub enough_rest : (n : ℕ) (history : History) (text : Text) (fault : Spanned Fault) → (outcome_after history text).fault ≡ Some fault → Enough (suc n) history text
+    → Enough n (passed history text fault).history (drop (passed history text fault).len text)
+enough_rest n history text fault has enough = by_keeps history text fault
+    (λ is. subst (λ (p : Passed). Enough n p.history (drop p.len text)) (sym (passed_kept history text fault is)) (kept is))
+    (λ is. subst (λ (p : Passed). Enough n p.history (drop p.len text)) (sym (passed_lost history text fault is)) (lost is))
+  where
+    less : length text < fault.begin + suc n
+    less = enough fault has
+
+    kept : keeps history text fault ≡ true → Enough n (kept_past history text fault).history (drop (passed_end text fault) text)
+    kept is = λ later there.
+        let bytes = kept_faults_have_bytes history text fault (has, is) in
+        omega (arith, bytes.0, less, length-drop (passed_end text fault) text)
+
+    lost : keeps history text fault ≡ false → Enough n nothing (drop (restart text fault) text)
+    lost is = λ later there.
+        let here = stops_at history text fault has in
+        let order = here.order in
+        let bounds = restart_bounds text fault here.inside in
+        let some : 0 < length (drop (restart text fault) text) = some_rest (drop (restart text fault) text) later there in
+        let past = restart_past text fault in
+        omega (arith, order, bounds.0, bounds.1, some, past, less, length-drop (restart text fault) text)
+      where
+        some_rest : (rest : Text) (later : Spanned Fault) → (outcome_after nothing rest).fault ≡ Some later → 0 < length rest
+        some_rest [] later there = absurd (none_at_end later there)
+        some_rest (b ∷ bs) later there = omega arith
+
+pub enough_bytes : (n : ℕ) (history : History) (text : Text) → suc (length text) ≤ n → Enough n history text
+enough_bytes n history text most = λ fault has. omega (arith, most)
 
 -- one more changes nothing where there are enough
-one_more : (n passed : ℕ) (text : Text) → Enough n text → found_within (suc n) passed text ≡ found_within n passed text
+one_more : (n : ℕ) (history : History) (text : Text) → Enough n history text → found_within (suc n) history text ≡ found_within n history text
 unfolding found_within
-one_more zero passed text enough = go (outcome text).fault refl
+one_more zero history text enough = go (outcome_after history text).fault refl
   where
-    go : (has : Option (Spanned Fault)) → (outcome text).fault ≡ has → found_by text passed has (found_within 0) ≡ given (drop passed (outcome text).lexemes)
+    go : (has : Option (Spanned Fault)) → (outcome_after history text).fault ≡ has → found_by history text has (found_within 0) ≡ given (outcome_after history text).lexemes
     go None e = refl
-    go (Some fault) e = let within = fault_within text fault e in let less = enough fault e in absurd (omega (arith, within.0, within.1, less))
-one_more (suc n) passed text enough = go (outcome text).fault refl (one_more n)
+    go (Some fault) e =
+        let here = stops_at history text fault e in
+        let order = here.order in
+        let inside = here.inside in
+        let less = enough fault e in absurd (omega (arith, order, inside, less))
+one_more (suc n) history text enough = go (outcome_after history text).fault refl (one_more n)
   where
-    rest : (fault : Spanned Fault) → (outcome text).fault ≡ Some fault → Enough n (drop (restart text fault) text)
-    rest fault e = λ later has.
-        let within = fault_within text fault e in
-        let inside = restart_bounds text fault within.1 in
-        let some = some_bytes (drop (restart text fault) text) later has in
-        let less = enough fault e in
-        let past = restart_past text fault in
-        omega (arith, within.0, within.1, inside.0, inside.1, less, past, some, length-drop (restart text fault) text)
-
-    go : (has : Option (Spanned Fault)) → (outcome text).fault ≡ has → ((passed : ℕ) (text : Text) → Enough n text → found_within (suc n) passed text ≡ found_within n passed text)
-        → found_by text passed has (found_within (suc n)) ≡ found_by text passed has (found_within n)
+    go : (has : Option (Spanned Fault)) → (outcome_after history text).fault ≡ has → ((history : History) (text : Text) → Enough n history text → found_within (suc n) history text ≡ found_within n history text)
+        → found_by history text has (found_within (suc n)) ≡ found_by history text has (found_within n)
     go None e again = refl
-    go (Some fault) e again = by_keeps text fault
-        (λ keeps. after_is text passed fault (found_within (suc n)) (found_within n) true keeps (again (passed_count text fault) (repaired text fault) (enough_repaired n text fault (e, keeps) enough)))
-        (λ lost. after_is text passed fault (found_within (suc n)) (found_within n) false lost (ap (map (moved_item (restart text fault))) (again 0 (drop (restart text fault) text) (rest fault e))))
+    go (Some fault) e again =
+        ap (λ items. given (outcome_after history text).lexemes ++ (Refused fault ∷ map (moved_item (passed history text fault).len) items))
+        (again (passed history text fault).history (drop (passed history text fault).len text) (enough_rest n history text fault e enough))
 
 -- so each number that is enough finds the same
-more_find : (more passed : ℕ) (text : Text) → found_within (more + suc (length text)) passed text ≡ found_past passed text
-unfolding found_past
-more_find zero passed text = let same : 0 + suc (length text) ≡ suc (length text) = omega arith in ap (λ n. found_within n passed text) same
-more_find (suc more) passed text =
+more_find : (more : ℕ) (history : History) (text : Text) → found_within (more + suc (length text)) history text ≡ found_after history text
+unfolding found_after
+more_find zero history text = let same : 0 + suc (length text) ≡ suc (length text) = omega arith in ap (λ n. found_within n history text) same
+more_find (suc more) history text =
     let same : suc more + suc (length text) ≡ suc (more + suc (length text)) = omega arith in
-    ap (λ n. found_within n passed text) same
-    ∙ one_more (more + suc (length text)) passed text (enough_bytes (more + suc (length text)) text (omega arith)) ∙ more_find more passed text
+    ap (λ n. found_within n history text) same
+    ∙ one_more (more + suc (length text)) history text (enough_bytes (more + suc (length text)) history text (omega arith)) ∙ more_find more history text
 
-pub enough_find : (n passed : ℕ) (text : Text) → suc (length text) ≤ n → found_within n passed text ≡ found_past passed text
-enough_find n passed text most =
+pub enough_find : (n : ℕ) (history : History) (text : Text) → suc (length text) ≤ n → found_within n history text ≡ found_after history text
+enough_find n history text most =
     let same : n ≡ (n - suc (length text)) + suc (length text) = omega (arith, most) in
-    ap (λ n. found_within n passed text) same ∙ more_find (n - suc (length text)) passed text
+    ap (λ n. found_within n history text) same ∙ more_find (n - suc (length text)) history text
 
 -- The laws
 
-past_is : (passed : ℕ) (text : Text) → found_past passed text ≡ found_by text passed (outcome text).fault (found_within (length text))
-unfolding found_past found_within
-past_is passed text = refl
+after_is : (history : History) (text : Text) → found_after history text ≡ found_by history text (outcome_after history text).fault (found_within (length text))
+unfolding found_after found_within
+after_is history text = refl
 
 pub faultless_found : FaultlessFound
-faultless_found passed text none = past_is passed text ∙ ap (λ has. found_by text passed has (found_within (length text))) none
+faultless_found history text none = after_is history text ∙ ap (λ has. found_by history text has (found_within (length text))) none
 
-pub found_after_repairs : FoundAfterRepairs
-unfolding found_past
-found_after_repairs passed text fault has keeps =
-    let enough = enough_repaired (length text) text fault (has, keeps) (enough_bytes (suc (length text)) text (omega arith)) in
-    let again : found_within (length text) (passed_count text fault) (repaired text fault) ≡ found_within (suc (length (repaired text fault))) (passed_count text fault) (repaired text fault) =
-    sym (one_more (length text) (passed_count text fault) (repaired text fault) enough)
-    ∙ ap (λ n. found_within (suc n) (passed_count text fault) (repaired text fault)) (sym (repaired_len text fault (has, keeps))) in
-    past_is passed text
-    ∙ ap (λ has. found_by text passed has (found_within (length text))) has
-    ∙ ap (λ keeps. given (drop passed (outcome text).lexemes) ++ (Refused fault ∷ found_after text fault keeps (found_within (length text)))) keeps
-    ∙ ap (λ after. given (drop passed (outcome text).lexemes) ++ (Refused fault ∷ after)) again
-
-pub found_after_lines : FoundAfterLines
-found_after_lines passed text fault has lost =
-    past_is passed text
-    ∙ ap (λ has. found_by text passed has (found_within (length text))) has
-    ∙ ap (λ keeps. given (drop passed (outcome text).lexemes) ++ (Refused fault ∷ found_after text fault keeps (found_within (length text)))) lost
-    ∙ ap (λ after. given (drop passed (outcome text).lexemes) ++ (Refused fault ∷ map (moved_item (restart text fault)) after)) (enough_find (length text) 0 (drop (restart text fault) text) (enough_rest (length text) text fault has (omega arith)))
+pub found_after_faults : FoundAfterFaults
+found_after_faults history text fault has =
+    let next : Passed = passed history text fault in
+    let rest : Text = drop (passed history text fault).len text in
+    let enough = enough_rest (length text) history text fault has (enough_bytes (suc (length text)) history text (omega arith)) in
+    after_is history text
+    ∙ ap (λ has. found_by history text has (found_within (length text))) has
+    ∙ ap (λ items. given (outcome_after history text).lexemes ++ (Refused fault ∷ map (moved_item (passed history text fault).len) items))
+    (sym (one_more (length text) (passed history text fault).history rest enough)
+    ∙ enough_find (suc (length text)) (passed history text fault).history rest (omega (arith, length-drop (passed history text fault).len text)))

@@ -1,39 +1,36 @@
 -- What is found in a closed text and one after it.
-use Rattle.std.proofs.Common.{◌≡◌, ℕ, zero, suc, ◌+◌, ◌-◌, ◌≤◌, ◌<◌, Bool, true, false, List, [], ◌∷◌, ◌++◌, map, length, take, drop, refl, ap, ◌∙◌, sym, Option, Some, None, arith, append_assoc, append-nil, length-append}
+use Rattle.std.proofs.Common.{◌≡◌, ℕ, zero, suc, ◌+◌, ◌≤◌, ◌<◌, Bool, true, false, List, [], ◌∷◌, ◌++◌, map, length, drop, refl, ap, ◌∙◌, sym, subst, Option, Some, None, arith, append_assoc, append-nil, ◌⊎◌, inl, inr}
 use Rattle.std.specs.Prelude.{◌&&◌, ◌==◌, option_map}
 use Rattle.std.proofs.lemmas.Bool.Decides.{nat_tests}
-use Rattle.std.proofs.lemmas.List.{drop-append-le, length-drop, length-map, length-take-le, take-append-drop, map-append}
+use Rattle.std.proofs.lemmas.List.{drop-append-le, length-drop, map-append}
 use Rattle.std.proofs.Math.Seq.{drop-append-add}
-use Rattle.std.specs.List.{drop-map}
-use Rattle.starlark_grammar.specs.AfterFaults.{restart}
-use Rattle.starlark_grammar.specs.Found.{Cut, Empty, IsClosed, Item, Kept, Lost, Given, Refused, faults_in, found, found_past, given, lexemes_in, moved_item, parted, passed_count}
+use Rattle.starlark_grammar.specs.AfterFaults.{is_tab}
+use Rattle.starlark_grammar.specs.Found.{Cut, Empty, Given, IsClosedAfter, Item, Passed, Past, Refused, faults_in, found, found_after, found_by, found_within, given, lexemes_in, moved_item, parted, passed}
 use Rattle.starlark_grammar.specs.FoundLaws.{FoundJoins}
-use Rattle.starlark_grammar.specs.Joining.{begins_plainly, has_newline, is_decided, is_line_cut, recovered_joined, without_last_newline}
-use Rattle.starlark_grammar.specs.Pieces.{Ends, Fails, Piece, Stands, Step}
-use Rattle.starlark_grammar.specs.Reading.{History, after_all, closing, lexemes_along, outcome, pieces_len, read, read_from}
+use Rattle.starlark_grammar.specs.Joining.{begins_plainly, has_newline, is_decided, is_line_cut_after, recovered_joined, without_last_newline}
+use Rattle.starlark_grammar.specs.KeptLines.{ends_by_comment, is_comment_to, keeps_line, passed_end}
+use Rattle.starlark_grammar.specs.Pieces.{Other}
+use Rattle.starlark_grammar.specs.Reading.{History, history_after, nothing, outcome_after}
 use Rattle.starlark_grammar.specs.Recovery.{Recovered}
-use Rattle.starlark_grammar.specs.RepairLaws.{KeepsLine, semicolons}
-use Rattle.starlark_grammar.specs.Repairs.{ends_by_comment, is_comment_to, keeps_line, repair_end, repaired}
 use Rattle.starlark_grammar.specs.Tokens.{Fault, Lexeme, Newline, Outcome, Spanned, moved}
-use Rattle.starlark_grammar.specs.Words.{Text, language}
+use Rattle.starlark_grammar.specs.Words.{Text}
 use Rattle.starlark_grammar.proofs.Found.CommentEnds.{no_comment_after}
-use Rattle.starlark_grammar.proofs.Found.FoundItems.{Enough, by_keeps, enough_bytes, enough_repaired, faultless_found, found_after_lines, found_after_repairs}
-use Rattle.starlark_grammar.proofs.Found.Repairs.{end_moved, end_stays, keeps_moved, keeps_stays, plain_repaired, repaired_moved, repaired_stays}
+use Rattle.starlark_grammar.proofs.Found.FoundItems.{by_keeps, faultless_found, found_after_faults, keeps, kept_past, lost_past, passed_bounds, passed_kept, passed_lost}
+use Rattle.starlark_grammar.proofs.Found.Order.{passed_starts}
+use Rattle.starlark_grammar.proofs.Found.PassedFaults.{end_moved, has_both, keeps_moved, passed_stays, same_outcome}
 use Rattle.starlark_grammar.proofs.Joining.Joined.{moved_both, twice, unmoved}
-use Rattle.starlark_grammar.proofs.Order.Inside.{fault_within}
-use Rattle.starlark_grammar.proofs.Recovery.DecidedFaults.{decided_faults_stay}
-use Rattle.starlark_grammar.proofs.Recovery.LineCuts.{has_newline_later, has_newline_moved, left_out_later, left_out_moved, line_cut, line_cut_faultless, line_cut_some, line_cuts_join, outcome_newline}
+use Rattle.starlark_grammar.proofs.Reading.Onward.{Starts, outcome_after_nothing, pieces_after}
+use Rattle.starlark_grammar.proofs.Reading.Steps.{is_nothing}
+use Rattle.starlark_grammar.proofs.Recovery.LineCuts.{Alike, alike_before, alike_after, alike_joined, alike_other, alike_outcome, cut_joins, has_newline_later, has_newline_moved, left_out_later, left_out_moved, line_cut, line_cut_faultless, line_cut_some, outcome_newline}
 use Rattle.starlark_grammar.proofs.Recovery.MovedRestarts.{plain_tab, restart_moved}
-use Rattle.starlark_grammar.proofs.Recovery.RestartBounds.{empty_faultless, empty_lexemes, restart_bounds}
-use Rattle.starlark_grammar.proofs.Repairs.RepairedTexts.{repaired_len}
-use Rattle.starlark_grammar.proofs.Repairs.Readings.{closes, is_repaired, outcome_from, repairs_have_bytes}
+use Rattle.starlark_grammar.proofs.Recovery.RestartBounds.{empty_faultless, empty_lexemes}
 
 -- Items
 
 given_append : (one other : List Lexeme) → given (one ++ other) ≡ given one ++ given other
 given_append one other = map-append (λ (lexeme : Lexeme). Given lexeme) one other
 
-given_moved : (n : ℕ) (lexemes : List Lexeme) → given (map (moved n) lexemes) ≡ map (moved_item n) (given lexemes)
+pub given_moved : (n : ℕ) (lexemes : List Lexeme) → given (map (moved n) lexemes) ≡ map (moved_item n) (given lexemes)
 given_moved n [] = refl
 given_moved n (lexeme ∷ lexemes) = ap (λ items. Given (moved n lexeme) ∷ items) (given_moved n lexemes)
 
@@ -116,281 +113,215 @@ pub comments_after : (n at : ℕ) (front lexemes : List Lexeme) → ends_by_comm
 comments_after n at front [] none = ap (ends_by_comment (n + at)) (append-nil front) ∙ none
 comments_after n at front (lexeme ∷ lexemes) none = ends_later (n + at) front (moved n lexeme) (map (moved n) lexemes) ∙ comments_moved n at (lexeme ∷ lexemes)
 
+-- Histories after which the same is found
+
+abbrev pub Same : History → History → Type 0
+Same one other = (one ≡ other) ⊎ (Alike one other × (is_nothing other.before ≡ false))
+
+pub passed_alike : (one other : History) (text : Text) (fault : Spanned Fault) → Alike one other → ((passed one text fault).len ≡ (passed other text fault).len) × Same (passed one text fault).history (passed other text fault).history
+passed_alike one other text fault alike = by_keeps other text fault
+    (λ is. rw (passed_kept one text fault (keeps_alike ∙ is), passed_kept other text fault is) (refl, inr (alike_other (history_after one text) (history_after other text) (alike_after one other text alike), refl)))
+    (λ is. rw (passed_lost one text fault (keeps_alike ∙ is), passed_lost other text fault is) (refl, inl refl))
+  where
+    keeps_alike : keeps one text fault ≡ keeps other text fault
+    keeps_alike =
+        ap (λ (o : Outcome). keeps_line one.before text o.lexemes fault) (alike_outcome one other text alike)
+        ∙ ap (λ before. keeps_line before text (outcome_after other text).lexemes fault) (alike_before one other alike)
+
+-- the same is found after alike histories
+alike_within : (n : ℕ) (one other : History) (text : Text) → Alike one other → found_within n one text ≡ found_within n other text
+unfolding found_within
+alike_within zero one other text alike = ap (λ (o : Outcome). given o.lexemes) (alike_outcome one other text alike)
+alike_within (suc n) one other text alike =
+    ap (λ (o : Outcome). found_by one text o.fault (found_within n)) same ∙ by (outcome_after other text).fault refl (alike_within n)
+  where
+    same : outcome_after one text ≡ outcome_after other text
+    same = alike_outcome one other text alike
+
+    by : (has : Option (Spanned Fault)) → (outcome_after other text).fault ≡ has → ((one other : History) (text : Text) → Alike one other → found_within n one text ≡ found_within n other text)
+        → found_by one text has (found_within n) ≡ found_by other text has (found_within n)
+    by None e again = ap (λ (o : Outcome). given o.lexemes) same
+    by (Some fault) e again =
+        let next = passed_alike one other text fault alike in
+        ap (λ (o : Outcome). given o.lexemes ++ (Refused fault ∷ map (moved_item (passed one text fault).len) (found_within n (passed one text fault).history (drop (passed one text fault).len text)))) same
+        ∙ ap (λ len. given (outcome_after other text).lexemes ++ (Refused fault ∷ map (moved_item len) (found_within n (passed one text fault).history (drop len text)))) next.0
+        ∙ ap (λ items. given (outcome_after other text).lexemes ++ (Refused fault ∷ map (moved_item (passed other text fault).len) items)) (rest next.1)
+      where
+        rest : Same (passed one text fault).history (passed other text fault).history
+            → found_within n (passed one text fault).history (drop (passed other text fault).len text) ≡ found_within n (passed other text fault).history (drop (passed other text fault).len text)
+        rest (inl is) = ap (λ (h : History). found_within n h (drop (passed other text fault).len text)) is
+        rest (inr is) = again (passed one text fault).history (passed other text fault).history (drop (passed other text fault).len text) is.0
+
+same_found : (one other : History) (text : Text) → Same one other → found_after one text ≡ found_after other text
+unfolding found_after
+same_found one other text (inl is) = ap (λ (h : History). found_after h text) is
+same_found one other text (inr is) = alike_within (suc (length text)) one other text is.0
+
 -- A cut between lines, and a text after it
 
-module _ (first : Text) (cut : is_line_cut first ≡ true) where
+module _ (history : History) (first second : Text) (starts : Starts history) (cut : is_line_cut_after history first ≡ true) (plain : begins_plainly second ≡ true) where
+  abbrev both : Text
+  both = first ++ second
+
   abbrev n : ℕ
   n = length first
 
   abbrev own : List Lexeme
-  own = without_last_newline (outcome first).lexemes
+  own = without_last_newline (outcome_after history first).lexemes
 
-  module _ (second : Text) (plain : begins_plainly second ≡ true) where
-    join : outcome (first ++ second) ≡ record { lexemes = own ++ map (moved n) (outcome second).lexemes; fault = option_map (moved n) (outcome second).fault }
-    join = line_cuts_join first second cut plain
+  join : outcome_after history both ≡ record { lexemes = own ++ map (moved n) (outcome_after nothing second).lexemes; fault = option_map (moved n) (outcome_after nothing second).fault }
+  join = cut_joins history first second starts cut plain
 
-    lexemes_are : (outcome (first ++ second)).lexemes ≡ own ++ map (moved n) (outcome second).lexemes
-    lexemes_are = ap (λ (o : Outcome). o.lexemes) join
+  lexemes_are : (outcome_after history both).lexemes ≡ own ++ map (moved n) (outcome_after nothing second).lexemes
+  lexemes_are = ap (λ (o : Outcome). o.lexemes) join
 
-    pub fault_is : (has : Option (Spanned Fault)) → (outcome second).fault ≡ has → (outcome (first ++ second)).fault ≡ option_map (moved n) has
-    fault_is has e = ap (λ (o : Outcome). o.fault) join ∙ ap (option_map (moved n)) e
+  pub fault_is : (has : Option (Spanned Fault)) → (outcome_after nothing second).fault ≡ has → (outcome_after history both).fault ≡ option_map (moved n) has
+  fault_is has e = ap (λ (o : Outcome). o.fault) join ∙ ap (option_map (moved n)) e
 
-    -- so many lexemes of both are some before and then those of the second text after so many
-    abbrev Passes : ℕ → ℕ → List Lexeme → Type 0
-    Passes p k before = drop p (own ++ map (moved n) (outcome second).lexemes) ≡ before ++ map (moved n) (drop k (outcome second).lexemes)
+  given_both : given (outcome_after history both).lexemes ≡ given own ++ map (moved_item n) (given (outcome_after nothing second).lexemes)
+  given_both = ap given lexemes_are ∙ given_append own (map (moved n) (outcome_after nothing second).lexemes) ∙ ap (λ items. given own ++ items) (given_moved n (outcome_after nothing second).lexemes)
 
-    given_after : (p k : ℕ) (before : List Lexeme) → Passes p k before → given (drop p (outcome (first ++ second)).lexemes) ≡ given before ++ map (moved_item n) (given (drop k (outcome second).lexemes))
-    given_after p k before passes =
-        ap (λ ls. given (drop p ls)) lexemes_are ∙ ap given passes ∙ given_append before (map (moved n) (drop k (outcome second).lexemes))
-        ∙ ap (λ items. given before ++ items) (given_moved n (drop k (outcome second).lexemes))
+  -- what is passed with a fault of the second text
+  pub passed_moved : (fault : Spanned Fault) → (outcome_after nothing second).fault ≡ Some fault
+      → ((passed history both (moved n fault)).len ≡ n + (passed nothing second fault).len) × Same (passed history both (moved n fault)).history (passed nothing second fault).history
+  passed_moved fault has = by_keeps nothing second fault
+      (λ is. rw (passed_kept history both (moved n fault) (keeps_as ∙ is), passed_kept nothing second fault is) (
+        end_moved history.before first second fault some later,
+        inr (alike_other (history_after history both) (history_after nothing second) (alike_joined history first second starts cut plain), refl),
+      ))
+      (λ is. rw (passed_lost history both (moved n fault) (keeps_as ∙ is), passed_lost nothing second fault is) (restart_moved first second fault some later, inl refl))
+    where
+      some : 0 < n
+      some = line_cut_some history first cut
 
-    abbrev Finds : ℕ → ℕ → List Lexeme → Type 0
-    Finds p k before = found_past p (first ++ second) ≡ given before ++ map (moved_item n) (found_past k second)
+      later : is_tab fault.node ≡ true → 0 < fault.begin
+      later = plain_tab second fault plain has
 
-    no_fault : (p k : ℕ) (before : List Lexeme) → Passes p k before → (outcome second).fault ≡ None → Finds p k before
-    no_fault p k before passes none =
-        faultless_found p (first ++ second) (fault_is None none)
-        ∙ given_after p k before passes
-        ∙ ap (λ items. given before ++ map (moved_item n) items) (sym (faultless_found k second none))
-
-    module _ (fault : Spanned Fault) (has : (outcome second).fault ≡ Some fault) where
-      pub keeps_as : keeps_line (first ++ second) (outcome (first ++ second)).lexemes (moved n fault) ≡ keeps_line second (outcome second).lexemes fault
+      keeps_as : keeps history both (moved n fault) ≡ keeps nothing second fault
       keeps_as =
-          keeps_moved first second fault (line_cut_some first cut) (plain_tab second fault plain has) (outcome (first ++ second)).lexemes (outcome second).lexemes
-          (ap (ends_by_comment (n + fault.begin)) lexemes_are ∙ comments_after n fault.begin own (outcome second).lexemes (no_comment_after first (read language first).pieces fault.begin (line_cut first cut)))
+          keeps_moved history.before first second fault some later (outcome_after history both).lexemes (outcome_after nothing second).lexemes
+          (ap (ends_by_comment (n + fault.begin)) lexemes_are
+          ∙ comments_after n fault.begin own (outcome_after nothing second).lexemes (no_comment_after history first (pieces_after history first) fault.begin starts (line_cut history first cut)))
 
-      -- what is before and after a fault, of both and of the second text
-      fault_both : (p k : ℕ) (before : List Lexeme) (one other : List Item) → Passes p k before → one ≡ map (moved_item n) other
-          → given (drop p (outcome (first ++ second)).lexemes) ++ (Refused (moved n fault) ∷ one) ≡ given before ++ map (moved_item n) (given (drop k (outcome second).lexemes) ++ (Refused fault ∷ other))
-      fault_both p k before one other passes same =
-          ap (λ items. items ++ (Refused (moved n fault) ∷ one)) (given_after p k before passes)
-          ∙ ap (λ items. (given before ++ map (moved_item n) (given (drop k (outcome second).lexemes))) ++ (Refused (moved n fault) ∷ items)) same
-          ∙ append_assoc (given before) (map (moved_item n) (given (drop k (outcome second).lexemes))) (Refused (moved n fault) ∷ map (moved_item n) other)
-          ∙ ap (λ items. given before ++ items) (sym (map-append (moved_item n) (given (drop k (outcome second).lexemes)) (Refused fault ∷ other)))
-
-      lost : (p k : ℕ) (before : List Lexeme) → Passes p k before → keeps_line second (outcome second).lexemes fault ≡ false → Finds p k before
-      lost p k before passes is =
-          let place : restart (first ++ second) (moved n fault) ≡ n + restart second fault = restart_moved first second fault (line_cut_some first cut) (plain_tab second fault plain has) in
-          let left : drop (n + restart second fault) (first ++ second) ≡ drop (restart second fault) second = drop-append-add first second (restart second fault) in
-          let rest : List Item = found_past 0 (drop (restart second fault) second) in
-          found_after_lines p (first ++ second) (moved n fault) (fault_is (Some fault) has) (keeps_as ∙ is)
-          ∙ fault_both p k before (map (moved_item (restart (first ++ second) (moved n fault))) (found_past 0 (drop (restart (first ++ second) (moved n fault)) (first ++ second)))) (map (moved_item (restart second fault)) rest) passes
-          (ap (λ at. map (moved_item at) (found_past 0 (drop at (first ++ second)))) place ∙ ap (λ (t : Text). map (moved_item (n + restart second fault)) (found_past 0 t)) left ∙ sym (items_twice n (restart second fault) rest))
-          ∙ ap (λ items. given before ++ map (moved_item n) items) (sym (found_after_lines k second fault has is))
-
-      kept : (p k : ℕ) (before : List Lexeme) → Passes p k before → keeps_line second (outcome second).lexemes fault ≡ true
-          → found_past (length own + passed_count second fault) (first ++ repaired second fault) ≡ map (moved_item n) (found_past (passed_count second fault) (repaired second fault)) → Finds p k before
-      kept p k before passes is again =
-          let count : passed_count (first ++ second) (moved n fault) ≡ length own + passed_count second fault =
-          ap (λ ls. length ls + (repair_end (first ++ second) (moved n fault) - (n + fault.begin))) lexemes_are
-          ∙ omega (arith, length-append own (map (moved n) (outcome second).lexemes), length-map (outcome second).lexemes (moved n), end_moved first second fault (line_cut_some first cut) (plain_tab second fault plain has)) in
-          found_after_repairs p (first ++ second) (moved n fault) (fault_is (Some fault) has) (keeps_as ∙ is)
-          ∙ fault_both p k before (found_past (passed_count (first ++ second) (moved n fault)) (repaired (first ++ second) (moved n fault))) (found_past (passed_count second fault) (repaired second fault)) passes
-          (ap (λ c. found_past c (repaired (first ++ second) (moved n fault))) count
-          ∙ ap (found_past (length own + passed_count second fault)) (repaired_moved first second fault (line_cut_some first cut) (plain_tab second fault plain has))
-          ∙ again)
-          ∙ ap (λ items. given before ++ map (moved_item n) items) (sym (found_after_repairs k second fault has is))
-
-  own_passed : (other : Text) (k : ℕ) → drop (length own + k) (own ++ map (moved n) (outcome other).lexemes) ≡ [] ++ map (moved n) (drop k (outcome other).lexemes)
-  own_passed other k = drop-append-add own (map (moved n) (outcome other).lexemes) k ∙ drop-map (moved n) k (outcome other).lexemes
-
-  pub cut_found : (m : ℕ) (second : Text) (plain : begins_plainly second ≡ true) → Enough m second → (p k : ℕ) (before : List Lexeme) → Passes second plain p k before → Finds second plain p k before
-  cut_found zero second plain enough p k before passes = by (outcome second).fault refl
+  -- what is found in both
+  pub cut_found : found_after history both ≡ given own ++ map (moved_item n) (found_after nothing second)
+  cut_found = by (outcome_after nothing second).fault refl
     where
-      by : (has : Option (Spanned Fault)) → (outcome second).fault ≡ has → Finds second plain p k before
-      by None e = no_fault second plain p k before passes e
-      by (Some fault) e = let within = fault_within second fault e in let less = enough fault e in absurd (omega (arith, within.0, within.1, less))
-  cut_found (suc m) second plain enough p k before passes = by (outcome second).fault refl (cut_found m)
-    where
-      by : (has : Option (Spanned Fault)) → (outcome second).fault ≡ has
-          → ((second : Text) (plain : begins_plainly second ≡ true) → Enough m second → (p k : ℕ) (before : List Lexeme) → Passes second plain p k before → Finds second plain p k before)
-          → Finds second plain p k before
-      by None e again = no_fault second plain p k before passes e
-      by (Some fault) e again = by_keeps second fault
-          (λ keeps. kept second plain fault e p k before passes keeps
-          (again (repaired second fault) (plain_repaired second fault (e, keeps) plain) (enough_repaired m second fault (e, keeps) enough) (length own + passed_count second fault) (passed_count second fault) [] (own_passed (repaired second fault) (passed_count second fault))))
-          (λ is. lost second plain fault e p k before passes is)
+      by : (has : Option (Spanned Fault)) → (outcome_after nothing second).fault ≡ has → found_after history both ≡ given own ++ map (moved_item n) (found_after nothing second)
+      by None none =
+          faultless_found history both (fault_is None none) ∙ given_both
+          ∙ ap (λ items. given own ++ map (moved_item n) items) (sym (faultless_found nothing second none))
+      by (Some fault) has =
+          let next = passed_moved fault has in
+          let len : ℕ = (passed nothing second fault).len in
+          let rest : List Item = found_after (passed nothing second fault).history (drop (passed nothing second fault).len second) in
+          found_after_faults history both (moved n fault) (fault_is (Some fault) has)
+          ∙ ap (λ items. items ++ (Refused (moved n fault) ∷ map (moved_item (passed history both (moved n fault)).len) (found_after (passed history both (moved n fault)).history (drop (passed history both (moved n fault)).len both)))) given_both
+          ∙ ap (λ k. (given own ++ map (moved_item n) (given (outcome_after nothing second).lexemes)) ++ (Refused (moved n fault) ∷ map (moved_item k) (found_after (passed history both (moved n fault)).history (drop k both)))) next.0
+          ∙ ap (λ items. (given own ++ map (moved_item n) (given (outcome_after nothing second).lexemes)) ++ (Refused (moved n fault) ∷ items))
+          (ap (λ (t : Text). map (moved_item (n + len)) (found_after (passed history both (moved n fault)).history t)) (drop-append-add first second len)
+          ∙ ap (map (moved_item (n + len))) (same_found (passed history both (moved n fault)).history (passed nothing second fault).history (drop len second) next.1)
+          ∙ sym (items_twice n len rest))
+          ∙ append_assoc (given own) (map (moved_item n) (given (outcome_after nothing second).lexemes)) (Refused (moved n fault) ∷ map (moved_item n) (map (moved_item len) rest))
+          ∙ ap (λ items. given own ++ items) (sym (map-append (moved_item n) (given (outcome_after nothing second).lexemes) (Refused fault ∷ map (moved_item len) rest)))
+          ∙ ap (λ items. given own ++ map (moved_item n) items) (sym (found_after_faults nothing second fault has))
 
 -- Closed texts
 
--- A faultless text has a `Newline` after so many lexemes.
-abbrev EndsLater : ℕ → Text → Type 0
-EndsLater p text = (outcome text).fault ≡ None → has_newline (drop p (outcome text).lexemes) ≡ true
-
--- what is found in a text after so many lexemes, and in it and a text after it
-record Joined (p : ℕ) (first second : Text) : Type 0 where
-  newline : has_newline (lexemes_in (found_past p first)) ≡ true
-  same : parted (found_past p (first ++ second)) ≡ recovered_joined (length first) (parted (found_past p first)) (parted (found_past 0 second))
-
-some_lexeme : (lexemes : List Lexeme) → has_newline lexemes ≡ true → 0 < length lexemes
-some_lexeme [] h = cc
-some_lexeme (lexeme ∷ lexemes) h = omega arith
-
-pub semicolon_count : (n at : ℕ) → length (semicolons n at) ≡ n
-semicolon_count zero at = refl
-semicolon_count (suc n) at = ap suc (semicolon_count n (at + 1))
-
-closes_newline : (at : ℕ) (history : History) (pieces : List Piece) (last : Step) → (closes at history pieces last).fault ≡ None → has_newline (closes at history pieces last).lexemes ≡ true
-closes_newline at history pieces (Fails fault) e = cc
-closes_newline at history pieces (Stands piece) e = has_newline_later (lexemes_along at pieces) (closing (at + pieces_len pieces) (after_all history pieces)) refl
-closes_newline at history pieces Ends e = has_newline_later (lexemes_along at pieces) (closing (at + pieces_len pieces) (after_all history pieces)) refl
-
-from_newline : (history : History) (at : ℕ) (text : Text) → (outcome_from history at text).fault ≡ None → has_newline (outcome_from history at text).lexemes ≡ true
-unfolding outcome_from
-from_newline history at text none = closes_newline at history (read_from language history 0 text).pieces (read_from language history 0 text).last none
-
--- the lexemes of a repaired text after those of its repair
-pub repaired_rest : (text : Text) (fault : Spanned Fault) (keeps : KeepsLine text fault)
-    → drop (passed_count text fault) (outcome (repaired text fault)).lexemes ≡ (outcome_from (is_repaired text fault keeps).history (repair_end text fault) (drop (repair_end text fault) text)).lexemes
-repaired_rest text fault keeps =
-    let is = is_repaired text fault keeps in
-    let fillers : List Lexeme = semicolons (repair_end text fault - fault.begin) fault.begin in
-    let rest : Outcome = outcome_from is.history (repair_end text fault) (drop (repair_end text fault) text) in
-    let lexemes = is.lexemes in
-    let both : (outcome (repaired text fault)).lexemes ≡ ((outcome text).lexemes ++ fillers) ++ rest.lexemes = lexemes ∙ sym (append_assoc (outcome text).lexemes fillers rest.lexemes) in
-    let count : passed_count text fault ≡ length ((outcome text).lexemes ++ fillers) + 0 = omega (arith, length-append (outcome text).lexemes fillers, semicolon_count (repair_end text fault - fault.begin) fault.begin) in
-    ap (drop (passed_count text fault)) both
-    ∙ ap (λ k. drop k (((outcome text).lexemes ++ fillers) ++ rest.lexemes)) count
-    ∙ drop-append-add ((outcome text).lexemes ++ fillers) rest.lexemes 0
-
--- after a repair
-repaired_ends : (text : Text) (fault : Spanned Fault) → KeepsLine text fault → EndsLater (passed_count text fault) (repaired text fault)
-repaired_ends text fault keeps = λ none.
-    let is = is_repaired text fault keeps in
-    let later = is.later in
-    ap has_newline (repaired_rest text fault keeps) ∙ from_newline is.history (repair_end text fault) (drop (repair_end text fault) text) (sym later ∙ none)
+-- what is found in a text, and in it and a text after it
+record Joined (history : History) (first second : Text) : Type 0 where
+  newline : has_newline (lexemes_in (found_after history first)) ≡ true
+  same : parted (found_after history (first ++ second)) ≡ recovered_joined (length first) (parted (found_after history first)) (parted (found_after nothing second))
 
 module _ (second : Text) (plain : begins_plainly second ≡ true) where
-  empty_joined : (p : ℕ) → EndsLater p [] → Joined p [] second
-  empty_joined zero ends = record {
+  empty_joined : Joined nothing [] second
+  empty_joined = record {
     newline = ap (λ (r : Recovered). has_newline r.lexemes) alone;
-    same = sym (ap (λ (r : Recovered). recovered_joined 0 r (parted (found_past 0 second))) alone ∙ same_recovered (unmoved (lexemes_in (found_past 0 second))) (unmoved (faults_in (found_past 0 second))));
+    same = sym (ap (λ (r : Recovered). recovered_joined 0 r (parted (found_after nothing second))) alone ∙ same_recovered (unmoved (lexemes_in (found_after nothing second))) (unmoved (faults_in (found_after nothing second))));
   }
     where
-      alone : parted (found_past 0 []) ≡ record { lexemes = record { begin = 0; node = Newline; end = 0 } ∷ []; faults = [] }
-      alone = ap parted (faultless_found 0 [] empty_faultless) ∙ parted_given (outcome []).lexemes ∙ ap (λ ls. let r : Recovered = record { lexemes = ls; faults = [] } in r) empty_lexemes
-  empty_joined (suc p) ends = absurd (none p (ap (λ ls. has_newline (drop (suc p) ls)) (sym empty_lexemes) ∙ ends empty_faultless))
-    where
-      none : (p : ℕ) → has_newline (drop (suc p) (record { begin = 0; node = Newline; end = 0 } ∷ [])) ≡ true → ⊥
-      none zero h = cc
-      none (suc p) h = cc
+      none : (outcome_after nothing []).fault ≡ None
+      none = ap (λ (o : Outcome). o.fault) (outcome_after_nothing []) ∙ empty_faultless
 
-  cut_joined : (p : ℕ) (first : Text) → is_line_cut first ≡ true → EndsLater p first → Joined p first second
+      alone : parted (found_after nothing []) ≡ record { lexemes = record { begin = 0; node = Newline; end = 0 } ∷ []; faults = [] }
+      alone =
+          ap parted (faultless_found nothing [] none) ∙ parted_given (outcome_after nothing []).lexemes
+          ∙ ap (λ ls. let r : Recovered = record { lexemes = ls; faults = [] } in r) (ap (λ (o : Outcome). o.lexemes) (outcome_after_nothing []) ∙ empty_lexemes)
+
+  cut_joined : (history : History) (first : Text) → Starts history → is_line_cut_after history first ≡ true → Joined history first second
   unfolding in_front moved_recovered
-  cut_joined p first cut ends = record {
-    newline = ap (λ (r : Recovered). has_newline r.lexemes) alone ∙ newline;
+  cut_joined history first starts cut = record {
+    newline = ap (λ (r : Recovered). has_newline r.lexemes) alone ∙ outcome_newline history first none;
     same =
-        ap parted (cut_found first cut (suc (length second)) second plain (enough_bytes (suc (length second)) second (omega arith)) p 0 (drop p own) passes)
-        ∙ parted_front (drop p own) (map (moved_item (length first)) (found_past 0 second))
-        ∙ ap (in_front (drop p own)) (parted_moved (length first) (found_past 0 second))
-        ∙ shown
-        ∙ sym (ap (λ (r : Recovered). recovered_joined (length first) r (parted (found_past 0 second))) alone);
+        ap parted (cut_found history first second starts cut plain)
+        ∙ parted_front (without_last_newline (outcome_after history first).lexemes) (map (moved_item (length first)) (found_after nothing second))
+        ∙ ap (in_front (without_last_newline (outcome_after history first).lexemes)) (parted_moved (length first) (found_after nothing second))
+        ∙ sym (ap (λ (r : Recovered). recovered_joined (length first) r (parted (found_after nothing second))) alone);
   }
     where
-      own : List Lexeme
-      own = without_last_newline (outcome first).lexemes
+      none : (outcome_after history first).fault ≡ None
+      none = line_cut_faultless history first (pieces_after history first) (line_cut history first cut)
 
-      none : (outcome first).fault ≡ None
-      none = line_cut_faultless first (read language first).pieces (line_cut first cut)
+      alone : parted (found_after history first) ≡ record { lexemes = (outcome_after history first).lexemes; faults = [] }
+      alone = ap parted (faultless_found history first none) ∙ parted_given (outcome_after history first).lexemes
 
-      newline : has_newline (drop p (outcome first).lexemes) ≡ true
-      newline = ends none
+  past_joined : (history : History) (first : Text) (fault : Spanned Fault) → Starts history → (outcome_after history first).fault ≡ Some fault → is_decided first fault ≡ true
+      → Joined (passed history first fault).history (drop (passed history first fault).len first) second → Joined history first second
+  unfolding with_fault moved_recovered
+  past_joined history first fault starts has is after = record {
+    newline = ap (λ (r : Recovered). has_newline r.lexemes) alone ∙ has_newline_later left (map (moved at) (lexemes_in one)) (has_newline_moved at (lexemes_in one) ∙ newline);
+    same =
+        ap parted whole ∙ parted_fault left fault (map (moved_item at) two)
+        ∙ ap (with_fault left fault) (parted_moved at two ∙ ap (moved_recovered at) same ∙ moved_joined at (length (drop at first)) (parted one) (parted (found_after nothing second))
+        ∙ ap (λ len. recovered_joined len (moved_recovered at (parted one)) (parted (found_after nothing second))) total)
+        ∙ fault_joined left fault (length first) (moved_recovered at (parted one)) (parted (found_after nothing second)) (has_newline_moved at (lexemes_in one) ∙ newline)
+        ∙ sym (ap (λ (r : Recovered). recovered_joined (length first) r (parted (found_after nothing second))) alone);
+  }
+    where
+      next : Passed
+      next = passed history first fault
 
-      alone : parted (found_past p first) ≡ record { lexemes = drop p (outcome first).lexemes; faults = [] }
-      alone = ap parted (faultless_found p first none) ∙ parted_given (drop p (outcome first).lexemes)
+      at : ℕ
+      at = (passed history first fault).len
 
-      inside : p < length (outcome first).lexemes
-      inside = omega (arith, some_lexeme (drop p (outcome first).lexemes) newline, length-drop p (outcome first).lexemes)
+      left : List Lexeme
+      left = (outcome_after history first).lexemes
 
-      front_len : length (take p (outcome first).lexemes) ≡ p
-      front_len = length-take-le p (outcome first).lexemes (omega (arith, inside))
+      one : List Item
+      one = found_after (passed history first fault).history (drop (passed history first fault).len first)
 
-      whole : own ≡ take p (outcome first).lexemes ++ without_last_newline (drop p (outcome first).lexemes)
-      whole = ap without_last_newline (sym (take-append-drop p (outcome first).lexemes)) ∙ left_out_later (take p (outcome first).lexemes) (drop p (outcome first).lexemes) newline
+      two : List Item
+      two = found_after (passed history first fault).history (drop (passed history first fault).len first ++ second)
 
-      own_inside : p ≤ length own
-      own_inside = omega (arith, ap (λ (ls : List Lexeme). length ls) whole, length-append (take p (outcome first).lexemes) (without_last_newline (drop p (outcome first).lexemes)), front_len)
+      newline : has_newline (lexemes_in one) ≡ true
+      newline = after.newline
 
-      own_left : drop p own ≡ without_last_newline (drop p (outcome first).lexemes)
-      own_left =
-          let zero_more : p ≡ length (take p (outcome first).lexemes) + 0 = omega (arith, front_len) in
-          ap (drop p) whole ∙ ap (λ k. drop k (take p (outcome first).lexemes ++ without_last_newline (drop p (outcome first).lexemes))) zero_more
-          ∙ drop-append-add (take p (outcome first).lexemes) (without_last_newline (drop p (outcome first).lexemes)) 0
+      same : parted two ≡ recovered_joined (length (drop at first)) (parted one) (parted (found_after nothing second))
+      same = after.same
 
-      passes : drop p (own ++ map (moved (length first)) (outcome second).lexemes) ≡ drop p own ++ map (moved (length first)) (drop 0 (outcome second).lexemes)
-      passes = drop-append-le p own (map (moved (length first)) (outcome second).lexemes) own_inside
+      inside : at ≤ length first
+      inside = (passed_bounds history first fault has).1
 
-      shown : in_front (drop p own) (moved_recovered (length first) (parted (found_past 0 second))) ≡ recovered_joined (length first) (record { lexemes = drop p (outcome first).lexemes; faults = [] }) (parted (found_past 0 second))
-      shown = ap (λ ls. let r : Recovered = record { lexemes = ls ++ map (moved (length first)) (lexemes_in (found_past 0 second)); faults = map (moved (length first)) (faults_in (found_past 0 second)) } in r) own_left
+      total : at + length (drop at first) ≡ length first
+      total = omega (arith, inside, length-drop at first)
 
-  module _ (p : ℕ) (first : Text) (fault : Spanned Fault) (has : (outcome first).fault ≡ Some fault) (is : is_decided first fault ≡ true) where
-    stay : (outcome (first ++ second) ≡ outcome first) × (restart (first ++ second) fault ≡ restart first fault)
-    stay = decided_faults_stay first second fault has is
+      alone : parted (found_after history first) ≡ with_fault left fault (moved_recovered at (parted one))
+      alone = ap parted (found_after_faults history first fault has) ∙ parted_fault left fault (map (moved_item at) one) ∙ ap (with_fault left fault) (parted_moved at one)
 
-    pub has_both : (outcome (first ++ second)).fault ≡ Some fault
-    has_both = ap (λ (o : Outcome). o.fault) stay.0 ∙ has
+      whole : found_after history (first ++ second) ≡ given left ++ (Refused fault ∷ map (moved_item at) two)
+      whole =
+          let stays = passed_stays history first second fault starts has is in
+          found_after_faults history (first ++ second) fault (has_both history first second fault starts has is)
+          ∙ ap (λ (p : Passed). given (outcome_after history (first ++ second)).lexemes ++ (Refused fault ∷ map (moved_item p.len) (found_after p.history (drop p.len (first ++ second))))) stays
+          ∙ ap (λ (o : Outcome). given o.lexemes ++ (Refused fault ∷ map (moved_item at) (found_after (passed history first fault).history (drop at (first ++ second))))) (same_outcome history first second fault starts has is).0
+          ∙ ap (λ (t : Text). given left ++ (Refused fault ∷ map (moved_item at) (found_after (passed history first fault).history t))) (drop-append-le at first second inside)
 
-    pub keeps_both : keeps_line (first ++ second) (outcome (first ++ second)).lexemes fault ≡ keeps_line first (outcome first).lexemes fault
-    keeps_both = ap (λ (o : Outcome). keeps_line (first ++ second) o.lexemes fault) stay.0 ∙ keeps_stays first second fault has is (outcome first).lexemes
-
-    -- the lexemes before the fault, the fault, and what is found after it
-    after_fault : (text : Text) (items : List Item) → found_past p text ≡ given (drop p (outcome text).lexemes) ++ (Refused fault ∷ items) → parted (found_past p text) ≡ with_fault (drop p (outcome text).lexemes) fault (parted items)
-    after_fault text items e = ap parted e ∙ parted_fault (drop p (outcome text).lexemes) fault items
-
-    joined_after : (one both : List Item) → has_newline (lexemes_in one) ≡ true → parted both ≡ recovered_joined (length first) (parted one) (parted (found_past 0 second))
-        → found_past p first ≡ given (drop p (outcome first).lexemes) ++ (Refused fault ∷ one) → found_past p (first ++ second) ≡ given (drop p (outcome (first ++ second)).lexemes) ++ (Refused fault ∷ both) → Joined p first second
-    unfolding with_fault
-    joined_after one both newline same e f = record {
-      newline = ap (λ (r : Recovered). has_newline r.lexemes) (after_fault first one e) ∙ has_newline_later (drop p (outcome first).lexemes) (lexemes_in one) newline;
-      same =
-          after_fault (first ++ second) both f
-          ∙ ap (λ (o : Outcome). with_fault (drop p o.lexemes) fault (parted both)) stay.0
-          ∙ ap (with_fault (drop p (outcome first).lexemes) fault) same
-          ∙ fault_joined (drop p (outcome first).lexemes) fault (length first) (parted one) (parted (found_past 0 second)) newline
-          ∙ sym (ap (λ (r : Recovered). recovered_joined (length first) r (parted (found_past 0 second))) (after_fault first one e));
-    }
-
-    kept_joined : keeps_line first (outcome first).lexemes fault ≡ true → Joined (passed_count first fault) (repaired first fault) second → Joined p first second
-    kept_joined keeps rest =
-        let bytes = repairs_have_bytes first fault (has, keeps) in
-        let count : passed_count (first ++ second) fault ≡ passed_count first fault =
-        ap (λ (o : Outcome). length o.lexemes + (repair_end (first ++ second) fault - fault.begin)) stay.0 ∙ ap (λ end. length (outcome first).lexemes + (end - fault.begin)) (end_stays first second fault has is) in
-        let same = rest.same in
-        joined_after (found_past (passed_count first fault) (repaired first fault)) (found_past (passed_count first fault) (repaired first fault ++ second)) rest.newline
-        (same ∙ ap (λ len. recovered_joined len (parted (found_past (passed_count first fault) (repaired first fault))) (parted (found_past 0 second))) (repaired_len first fault (has, keeps)))
-        (found_after_repairs p first fault has keeps)
-        (found_after_repairs p (first ++ second) fault has_both (keeps_both ∙ keeps)
-        ∙ ap (λ c. given (drop p (outcome (first ++ second)).lexemes) ++ (Refused fault ∷ found_past c (repaired (first ++ second) fault))) count
-        ∙ ap (λ (t : Text). given (drop p (outcome (first ++ second)).lexemes) ++ (Refused fault ∷ found_past (passed_count first fault) t)) (repaired_stays first second fault has is bytes.1))
-
-    lost_joined : keeps_line first (outcome first).lexemes fault ≡ false → Joined 0 (drop (restart first fault) first) second → Joined p first second
-    unfolding moved_recovered
-    lost_joined loses rest =
-        let at : ℕ = restart first fault in
-        let within = fault_within first fault has in
-        let inside = restart_bounds first fault within.1 in
-        let left : List Item = found_past 0 (drop (restart first fault) first) in
-        let both : List Item = found_past 0 (drop (restart first fault) first ++ second) in
-        let total : at + length (drop (restart first fault) first) ≡ length first = omega (arith, inside.1, length-drop (restart first fault) first) in
-        let newline = rest.newline in
-        let same = rest.same in
-        joined_after (map (moved_item (restart first fault)) left) (map (moved_item (restart first fault)) both)
-        (ap (λ (r : Recovered). has_newline r.lexemes) (parted_moved (restart first fault) left) ∙ has_newline_moved (restart first fault) (lexemes_in left) ∙ newline)
-        (parted_moved (restart first fault) both ∙ ap (moved_recovered (restart first fault)) same
-        ∙ moved_joined (restart first fault) (length (drop (restart first fault) first)) (parted left) (parted (found_past 0 second))
-        ∙ ap (λ len. recovered_joined len (moved_recovered (restart first fault) (parted left)) (parted (found_past 0 second))) total
-        ∙ sym (ap (λ (r : Recovered). recovered_joined (length first) r (parted (found_past 0 second))) (parted_moved (restart first fault) left)))
-        (found_after_lines p first fault has loses)
-        (found_after_lines p (first ++ second) fault has_both (keeps_both ∙ loses)
-        ∙ ap (λ k. given (drop p (outcome (first ++ second)).lexemes) ++ (Refused fault ∷ map (moved_item k) (found_past 0 (drop k (first ++ second))))) stay.1
-        ∙ ap (λ (t : Text). given (drop p (outcome (first ++ second)).lexemes) ++ (Refused fault ∷ map (moved_item (restart first fault)) (found_past 0 t))) (drop-append-le (restart first fault) first second inside.1))
-
-  closed_joined : (first : Text) → IsClosed first → (p : ℕ) → EndsLater p first → Joined p first second
-  closed_joined _ Empty p ends = empty_joined p ends
-  closed_joined _ (Cut first cut) p ends = cut_joined p first cut ends
-  closed_joined _ (Kept first fault has keeps is rest) p ends = kept_joined p first fault has is keeps (closed_joined (repaired first fault) rest (passed_count first fault) (repaired_ends first fault (has, keeps)))
-  closed_joined _ (Lost first fault has loses is rest) p ends = lost_joined p first fault has is loses (closed_joined (drop (restart first fault) first) rest 0 (outcome_newline (drop (restart first fault) first)))
+  closed_joined : (history : History) (first : Text) → Starts history → IsClosedAfter history first → Joined history first second
+  closed_joined _ _ starts Empty = empty_joined
+  closed_joined _ _ starts (Cut history first cut) = cut_joined history first starts cut
+  closed_joined _ _ starts (Past history first fault has is rest) =
+      past_joined history first fault starts has is (closed_joined (passed history first fault).history (drop (passed history first fault).len first) (passed_starts history first fault) rest)
 
 pub found_joins : FoundJoins
 unfolding found
-found_joins first second closed plain = (closed_joined second plain first closed 0 (outcome_newline first)).same
+found_joins first second closed plain = (closed_joined second plain nothing first (λ none. refl) closed).same

@@ -72,12 +72,12 @@ along_follows table history text (piece ∷ pieces) at tail start reads h =
     (omega (arith, few, dedents_same)) (omega (arith, total, dedents_same, indents_same))
     (subst (λ (ws : List ℕ). Follows (levels_len ws) (lexemes_along (at + piece.len) pieces ++ tail)) (after_widths history piece) more))
 
-record AlongBalances (history : History) (pieces : List Piece) (lexemes : List Lexeme) : Type 0 where
-  total : dedents lexemes + levels_len (after_all history pieces).widths ≡ indents lexemes + levels_len history.widths
-  bytes : length lexemes ≤ pieces_len pieces + dedents lexemes
-  wide : indents lexemes ≤ pieces_len pieces
+pub record AlongBalances (history : History) (pieces : List Piece) (lexemes : List Lexeme) : Type 0 where
+  pub total : dedents lexemes + levels_len (after_all history pieces).widths ≡ indents lexemes + levels_len history.widths
+  pub bytes : length lexemes ≤ pieces_len pieces + dedents lexemes
+  pub wide : indents lexemes ≤ pieces_len pieces
 
-along_balances : (table : Table) (history : History) (text : Text) (pieces : List Piece) (at : ℕ) → StartsSo history.before history.widths → IsReading table history text pieces → AlongBalances history pieces (lexemes_along at pieces)
+pub along_balances : (table : Table) (history : History) (text : Text) (pieces : List Piece) (at : ℕ) → StartsSo history.before history.widths → IsReading table history text pieces → AlongBalances history pieces (lexemes_along at pieces)
 along_balances table history text [] at start reads = record { total = refl; bytes = omega arith; wide = omega arith }
 along_balances table history text (piece ∷ pieces) at start reads =
     let balances = piece_balances table history text piece start reads.0 in
@@ -100,7 +100,7 @@ along_balances table history text (piece ∷ pieces) at start reads =
     }
 
 -- what closes a text
-closing_dedents : (at : ℕ) (history : History) → (dedents (closing at history) ≡ levels_len history.widths) × (indents (closing at history) ≡ 0) × (length (closing at history) ≡ 1 + levels_len history.widths)
+pub closing_dedents : (at : ℕ) (history : History) → (dedents (closing at history) ≡ levels_len history.widths) × (indents (closing at history) ≡ 0) × (length (closing at history) ≡ 1 + levels_len history.widths)
 closing_dedents at history =
     let newline : Lexeme = record { begin = at; node = Newline; end = at } in
     let dedent : Lexeme = record { begin = at; node = Dedent; end = at } in

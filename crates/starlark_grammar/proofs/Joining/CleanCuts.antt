@@ -8,12 +8,13 @@ use Rattle.std.proofs.lemmas.List.Sums.{sum_by-cons, sum_by-append}
 use Rattle.starlark_grammar.specs.Words.{Text, Table, language}
 use Rattle.starlark_grammar.specs.Tokens.{Newline, Dedent, Lexeme, Spanned, moved, Fault, Outcome}
 use Rattle.starlark_grammar.specs.Margins.{open_widths}
-use Rattle.starlark_grammar.specs.Pieces.{Piece, Step, Stands, Fails, Ends, first_margin, step_at}
-use Rattle.starlark_grammar.specs.Reading.{History, nothing, after, after_all, situation, next_step, pieces_len, read, read_from, lexemes_along, closing, before_fault, outcome_of, outcome_in, outcome}
+use Rattle.starlark_grammar.specs.Pieces.{Before, Nothing, Piece, Step, Stands, Fails, Ends, first_margin, step_at}
+use Rattle.starlark_grammar.specs.Reading.{History, nothing, after, after_all, situation, next_step, pieces_len, read, read_from, lexemes_along, closing, lexemes_before, outcome_of, outcome_in, outcome}
 use Rattle.starlark_grammar.specs.Longest.{IsReading, IsLongestReading}
 use Rattle.starlark_grammar.specs.Cuts.{is_layout, is_clean_cut, is_clean_cut_in, is_faultless, is_settled, joined}
 use Rattle.starlark_grammar.specs.TextLaws.{CutsJoin}
 use Rattle.starlark_grammar.proofs.Lists.{drop-sum}
+use Rattle.starlark_grammar.proofs.Order.OrderedLexemes.{some_lexemes_before}
 use Rattle.starlark_grammar.proofs.Reading.Readings.{longest_onward, read_from_is, read_is, reading_fits, ends_at_end, started, piece_fits, outcome_only}
 use Rattle.starlark_grammar.proofs.Joining.Followed.{ends_line, ends_line_of}
 use Rattle.starlark_grammar.proofs.Joining.Settled.{Settled, settled, remainder, widths_settled, all_after, longest_after}
@@ -56,7 +57,7 @@ longest_append table history text (piece ∷ one) other last reads longest =
 pub but_last : {A : Type 0} (xs : List A) (x : A) → take (length (xs ++ x ∷ []) - 1) (xs ++ x ∷ []) ≡ xs
 but_last xs x = let len : length (xs ++ x ∷ []) - 1 ≡ length xs = omega (arith, length-append xs (x ∷ [])) in ap (λ n. take n (xs ++ x ∷ [])) len ∙ take-append_seam xs (x ∷ [])
 
-map_replicate : (n k : ℕ) (x : Lexeme) → map (moved n) (replicate k x) ≡ replicate k (moved n x)
+pub map_replicate : (n k : ℕ) (x : Lexeme) → map (moved n) (replicate k x) ≡ replicate k (moved n x)
 map_replicate n zero x = refl
 map_replicate n (suc k) x = ap (λ ls. moved n x ∷ ls) (map_replicate n k x)
 
@@ -83,8 +84,8 @@ closed text pieces last e reach none =
     ∙ ap (λ n. lexemes_along 0 pieces ++ record { begin = n; node = Newline; end = n } ∷ []) reach
 
 -- a longest reading without fault stops at the text's end, …
-longest_ends : (text : Text) (pieces : List Piece) (last : Step) → IsLongestReading language nothing text pieces last → is_faultless last ≡ true → last ≡ Ends
-longest_ends text pieces last longest faultless = go last refl faultless
+longest_ends : (history : History) (text : Text) (pieces : List Piece) (last : Step) → IsLongestReading language history text pieces last → is_faultless last ≡ true → last ≡ Ends
+longest_ends history text pieces last longest faultless = go last refl faultless
   where
     go : (step : Step) → last ≡ step → is_faultless step ≡ true → last ≡ Ends
     go (Stands piece) e h = absurd (longest.no_piece piece e)
@@ -92,16 +93,16 @@ longest_ends text pieces last longest faultless = go last refl faultless
     go Ends e h = e
 
 -- … and its pieces are the whole text
-longest_reaches : (text : Text) (pieces : List Piece) (last : Step) → IsLongestReading language nothing text pieces last → last ≡ Ends → pieces_len pieces ≡ length text
-longest_reaches text pieces last longest at_end =
-    let none = ends_at_end language (after_all nothing pieces) (drop (pieces_len pieces) text) (longest.stands_last ∙ at_end) in
-    omega (arith, reading_fits language nothing text pieces longest.reads, length-drop (pieces_len pieces) text, ap length none)
+longest_reaches : (history : History) (text : Text) (pieces : List Piece) (last : Step) → IsLongestReading language history text pieces last → last ≡ Ends → pieces_len pieces ≡ length text
+longest_reaches history text pieces last longest at_end =
+    let none = ends_at_end language (after_all history pieces) (drop (pieces_len pieces) text) (longest.stands_last ∙ at_end) in
+    omega (arith, reading_fits language history text pieces longest.reads, length-drop (pieces_len pieces) text, ap length none)
 
 -- a longest reading without a fault: it ends, and its pieces are the whole text
-pub faultless_reading : (text : Text) (pieces : List Piece) (last : Step) → IsLongestReading language nothing text pieces last → is_faultless last ≡ true → (last ≡ Ends) × (pieces_len pieces ≡ length text)
-faultless_reading text pieces last longest faultless =
-    let at_end = longest_ends text pieces last longest faultless in
-    (at_end, longest_reaches text pieces last longest at_end)
+pub faultless_reading : (history : History) (text : Text) (pieces : List Piece) (last : Step) → IsLongestReading language history text pieces last → is_faultless last ≡ true → (last ≡ Ends) × (pieces_len pieces ≡ length text)
+faultless_reading history text pieces last longest faultless =
+    let at_end = longest_ends history text pieces last longest faultless in
+    (at_end, longest_reaches history text pieces last longest at_end)
 
 cut_of : (text : Text) (pieces : List Piece) (last : Step) → IsLongestReading language nothing text pieces last → (outcome text).lexemes ≡ (outcome_of text pieces last).lexemes → is_faultless last ≡ true → is_settled (after_all nothing pieces) ≡ true → ends_line text ≡ true → Cut text pieces
 cut_of text pieces last longest same faultless settled_end ends = record {
@@ -117,7 +118,7 @@ cut_of text pieces last longest same faultless settled_end ends = record {
     is = settled (after_all nothing pieces) settled_end
 
     whole : (last ≡ Ends) × (pieces_len pieces ≡ length text)
-    whole = faultless_reading text pieces last longest faultless
+    whole = faultless_reading nothing text pieces last longest faultless
 
 pub cut : (text : Text) → is_clean_cut text ≡ true → Cut text (read language text).pieces
 unfolding is_clean_cut is_clean_cut_in outcome outcome_in
@@ -149,9 +150,9 @@ margin_of_first : (text : Text) (first : Piece) → next_step language nothing t
 unfolding next_step situation step_at
 margin_of_first text first stands = stands
 
-pub some_before : (text : Text) (pieces : List Piece) → ¬ (pieces ≡ []) → before_fault text pieces ≡ lexemes_along 0 pieces
-some_before text [] some = absurd (some refl)
-some_before text (piece ∷ pieces) some = refl
+pub some_before : (before : Before) (text : Text) (pieces : List Piece) → ¬ (pieces ≡ []) → lexemes_before before text pieces ≡ lexemes_along 0 pieces
+some_before before text [] some = absurd (some refl)
+some_before before text (piece ∷ pieces) some = some_lexemes_before before text piece pieces
 
 pub some_append : (one other : List Piece) → ¬ (one ≡ []) → ¬ (one ++ other ≡ [])
 some_append [] other some e = some refl
@@ -218,7 +219,7 @@ module _ (text more : Text) (first : Piece) (pieces : List Piece) (here : Cut te
   by_last : (last : Step) → outcome_of (text ++ more) (both.pieces' ++ there.pieces) last
       ≡ record { lexemes = joined (length text) (outcome text).lexemes (outcome_of more (first ∷ there.pieces) last).lexemes; fault = option_map (moved (length text)) (outcome_of more (first ∷ there.pieces) last).fault }
   by_last (Fails fault) =
-      same_outcome (some_before (text ++ more) (both.pieces' ++ there.pieces) (some_append both.pieces' there.pieces both.some) ∙ lexemes ∙ cut_lexemes (lexemes_along 0 (first ∷ there.pieces)))
+      same_outcome (some_before Nothing (text ++ more) (both.pieces' ++ there.pieces) (some_append both.pieces' there.pieces both.some) ∙ lexemes ∙ cut_lexemes (lexemes_along 0 (first ∷ there.pieces)))
       (ap Some (sym (moved_both (length text) (pieces_len (first ∷ there.pieces)) (pieces_len (both.pieces' ++ there.pieces)) fault (sym total))))
   by_last (Stands piece) = same_outcome to_end refl
   by_last Ends = same_outcome to_end refl

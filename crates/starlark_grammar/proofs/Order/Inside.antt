@@ -14,7 +14,7 @@ order_reach : (text : Text) (from : ℕ) (lexemes : List Lexeme) (to : ℕ) → 
 order_reach text from [] to h = h.0
 order_reach text from (l ∷ ls) to h = omega (arith, h.0, h.1, order_reach text l.end ls to h.3)
 
-order_within : (text : Text) (from : ℕ) (lexemes : List Lexeme) (to : ℕ) → InOrder text from lexemes to → to ≤ length text → AllByRecursion (λ (l : Lexeme). (l.begin ≤ l.end) × (l.end ≤ length text)) lexemes
+pub order_within : (text : Text) (from : ℕ) (lexemes : List Lexeme) (to : ℕ) → InOrder text from lexemes to → to ≤ length text → AllByRecursion (λ (l : Lexeme). (l.begin ≤ l.end) × (l.end ≤ length text)) lexemes
 order_within text from [] to h inside = tt
 order_within text from (l ∷ ls) to h inside =
     let reach = order_reach text l.end ls to h.3 in

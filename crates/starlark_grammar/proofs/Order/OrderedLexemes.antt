@@ -17,13 +17,14 @@ use Rattle.starlark_grammar.specs.Items.{Stop, Closing, Line, Ended, OpeningBrac
 use Rattle.starlark_grammar.specs.Depths.{Mode, Outside, InText, AtTop, Deeper}
 use Rattle.starlark_grammar.specs.Margins.{is_blank, is_lf, blanks_len, lines, begins_comment, is_comment_only, without_return, comment_part, comments_from, comment_lines, margin_from, Margin, margin_of, margin_len, is_content, has_tab, width_of, fits, is_widest, indentation}
 use Rattle.starlark_grammar.specs.Pieces.{Before, Nothing, Layout, Gap, Other, Piece, Step, Stands, Fails, Ends, Situation, token, margin_step, line_end, opening_of, more_quotes, escape_fault, literal_token, literal_by, opener, chunk_text, chunk_piece, chunk_by, chunk, terminal_token, counts, starts_zero, word_step, front_step, takes_bang, is_bang, in_code, by_mode, by_before, step_at}
-use Rattle.starlark_grammar.specs.Reading.{History, nothing, after, after_all, situation, next_step, pieces_len, lexemes_along, closing, outcome_of, outcome_in, outcome, read}
+use Rattle.starlark_grammar.specs.Reading.{History, nothing, after, after_all, situation, next_step, pieces_len, lexemes_along, lexemes_before, closing, outcome, outcome_after, reading_outcome}
 use Rattle.starlark_grammar.specs.Longest.{IsReading, IsLongestReading}
 use Rattle.starlark_grammar.specs.Gaps.{IsGap, InOrder}
 use Rattle.starlark_grammar.proofs.Words.Fronts.{front_sound}
 use Rattle.starlark_grammar.proofs.Lists.{take_fits, drop-sum}
 use Rattle.starlark_grammar.proofs.Reading.Steps.{Each, margin_fits}
-use Rattle.starlark_grammar.proofs.Reading.Readings.{ends_at_end, reading_fits, read_is}
+use Rattle.starlark_grammar.proofs.Reading.Onward.{last_after, longest_after, outcome_after_nothing, outcome_is, pieces_after}
+use Rattle.starlark_grammar.proofs.Reading.Readings.{ends_at_end, reading_fits}
 use Rattle.starlark_grammar.proofs.Order.Gaps.{gap_none, gap_shift, gap_cons, gap_first, blank_gap, feed_gap, blanks_gap, order_extend, order_append, order_shift, all_gaps, word_gap}
 use Rattle.starlark_grammar.proofs.Words.Bytes.{is_plain, word_fits, language_fits}
 use Rattle.starlark_grammar.proofs.Literals.Silent.{silent_gap}
@@ -374,7 +375,7 @@ piece_order history text piece e = subst (StepOrdered text) e (by_before_order (
 
 -- Readings
 
-along_order : (whole : Text) (at : ℕ) (history : History) (pieces : List Piece) → IsReading language history (drop at whole) pieces → InOrder whole at (lexemes_along at pieces) (at + pieces_len pieces)
+pub along_order : (whole : Text) (at : ℕ) (history : History) (pieces : List Piece) → IsReading language history (drop at whole) pieces → InOrder whole at (lexemes_along at pieces) (at + pieces_len pieces)
 along_order whole at history [] reads = (omega arith, subst (IsGap whole at) same (gap_none whole at))
   where
     same : at ≡ at + pieces_len []
@@ -391,7 +392,7 @@ along_order whole at history (piece ∷ pieces) reads =
     (subst (λ n. InOrder whole n (map (moved at) piece.lexemes) (at + piece.len)) start here) more)
 
 -- what closes a text stands at its end
-closing_order : (text : Text) (at : ℕ) (history : History) → InOrder text at (closing at history) at
+pub closing_order : (text : Text) (at : ℕ) (history : History) → InOrder text at (closing at history) at
 closing_order text at history = (omega arith, omega arith, gap_none text at, dedents_order text at at _ (omega arith) (gap_none text at))
 
 -- the comments of a text's first margin alone
@@ -400,17 +401,17 @@ comments_alone text =
     subst (λ (ls : List Lexeme). InOrder text 0 ls (margin_len (margin_of text))) (append-nil (margin_of text).comments) (margin_order text [] (omega arith, margin_gap text))
 
 -- a longest reading after which nothing fails reaches the text's end
-whole_len : (text : Text) (pieces : List Piece) → IsLongestReading language nothing text pieces Ends → pieces_len pieces ≡ length text
-whole_len text pieces h =
-    let none = ends_at_end language (after_all nothing pieces) (drop (pieces_len pieces) text) h.stands_last in
-    let inside = reading_fits language nothing text pieces h.reads in
+whole_len : (history : History) (text : Text) (pieces : List Piece) → IsLongestReading language history text pieces Ends → pieces_len pieces ≡ length text
+whole_len history text pieces h =
+    let none = ends_at_end language (after_all history pieces) (drop (pieces_len pieces) text) h.stands_last in
+    let inside = reading_fits language history text pieces h.reads in
     let left : length (drop (pieces_len pieces) text) ≡ 0 = ap (λ (t : Text). length t) none in
     omega (arith, inside, left, length-drop (pieces_len pieces) text)
 
-along : (text : Text) (pieces : List Piece) → IsReading language nothing text pieces → InOrder text 0 (lexemes_along 0 pieces) (pieces_len pieces)
-along text pieces reads =
+along : (history : History) (text : Text) (pieces : List Piece) → IsReading language history text pieces → InOrder text 0 (lexemes_along 0 pieces) (pieces_len pieces)
+along history text pieces reads =
     let same : 0 + pieces_len pieces ≡ pieces_len pieces = omega arith in
-    subst (InOrder text 0 (lexemes_along 0 pieces)) same (along_order text 0 nothing pieces reads)
+    subst (InOrder text 0 (lexemes_along 0 pieces)) same (along_order text 0 history pieces reads)
 
 -- The laws, by what stands after the longest reading.
 abbrev pub OutcomeInOrder : Text → Outcome → Type 0
@@ -418,19 +419,40 @@ OutcomeInOrder text found =
     ((to : ℕ) × (to ≤ length text) × InOrder text 0 found.lexemes to)
     × (found.fault ≡ None → InOrder text 0 found.lexemes (length text))
 
-outcome_of_order : (text : Text) (pieces : List Piece) (last : Step) → IsLongestReading language nothing text pieces last → OutcomeInOrder text (outcome_of text pieces last)
-outcome_of_order text [] (Fails fault) h = ((margin_len (margin_of text), margin_fits text, comments_alone text), (λ e. cc))
-outcome_of_order text (piece ∷ pieces) (Fails fault) h =
-    ((pieces_len (piece ∷ pieces), reading_fits language nothing text (piece ∷ pieces) h.reads, along text (piece ∷ pieces) h.reads), (λ e. cc))
-outcome_of_order text pieces (Stands piece) h = absurd (h.no_piece piece refl)
-outcome_of_order text pieces Ends h =
-    let total = whole_len text pieces h in
-    let history : History = after_all nothing pieces in
-    let order : InOrder text 0 (lexemes_along 0 pieces ++ closing (pieces_len pieces) history) (length text) =
-    subst (InOrder text 0 (lexemes_along 0 pieces ++ closing (pieces_len pieces) history)) total
-    (order_append text 0 (pieces_len pieces) (pieces_len pieces) (lexemes_along 0 pieces) (closing (pieces_len pieces) history) (along text pieces h.reads) (closing_order text (pieces_len pieces) history)) in
+-- where pieces were read, their lexemes are before a fault
+pub some_lexemes_before : (before : Before) (text : Text) (piece : Piece) (pieces : List Piece) → lexemes_before before text (piece ∷ pieces) ≡ lexemes_along 0 (piece ∷ pieces)
+some_lexemes_before Nothing text piece pieces = refl
+some_lexemes_before Layout text piece pieces = refl
+some_lexemes_before Gap text piece pieces = refl
+some_lexemes_before Other text piece pieces = refl
+
+outcome_of_order : (history : History) (text : Text) (pieces : List Piece) (last : Step) → IsLongestReading language history text pieces last → OutcomeInOrder text (reading_outcome history text pieces last)
+outcome_of_order history text [] (Fails fault) h = (by history.before, (λ e. cc))
+  where
+    by : (before : Before) → (to : ℕ) × (to ≤ length text) × InOrder text 0 (lexemes_before before text []) to
+    by Nothing = (margin_len (margin_of text), margin_fits text, comments_alone text)
+    by Layout = (0, omega arith, (omega arith, gap_none text 0))
+    by Gap = (0, omega arith, (omega arith, gap_none text 0))
+    by Other = (0, omega arith, (omega arith, gap_none text 0))
+outcome_of_order history text (piece ∷ pieces) (Fails fault) h = (
+  (
+    pieces_len (piece ∷ pieces),
+    reading_fits language history text (piece ∷ pieces) h.reads,
+    subst (λ (ls : List Lexeme). InOrder text 0 ls (pieces_len (piece ∷ pieces))) (sym (some_lexemes_before history.before text piece pieces)) (along history text (piece ∷ pieces) h.reads),
+  ),
+  (λ e. cc),
+)
+outcome_of_order history text pieces (Stands piece) h = absurd (h.no_piece piece refl)
+outcome_of_order history text pieces Ends h =
+    let total = whole_len history text pieces h in
+    let past : History = after_all history pieces in
+    let order : InOrder text 0 (lexemes_along 0 pieces ++ closing (pieces_len pieces) past) (length text) =
+    subst (InOrder text 0 (lexemes_along 0 pieces ++ closing (pieces_len pieces) past)) total
+    (order_append text 0 (pieces_len pieces) (pieces_len pieces) (lexemes_along 0 pieces) (closing (pieces_len pieces) past) (along history text pieces h.reads) (closing_order text (pieces_len pieces) past)) in
     ((length text, omega arith, order), (λ e. order))
 
+pub after_order : (history : History) (text : Text) → OutcomeInOrder text (outcome_after history text)
+after_order history text = subst (OutcomeInOrder text) (sym (outcome_is history text)) (outcome_of_order history text (pieces_after history text) (last_after history text) (longest_after history text))
+
 pub outcome_order : (text : Text) → OutcomeInOrder text (outcome text)
-unfolding outcome outcome_in
-outcome_order text = outcome_of_order text (read language text).pieces (read language text).last (read_is language text)
+outcome_order text = subst (OutcomeInOrder text) (outcome_after_nothing text) (after_order nothing text)

@@ -310,13 +310,13 @@ pub piece_bounded : (history : History) (text : Text) (piece : Piece) → IsUtf8
 unfolding next_step situation step_at
 piece_bounded history text piece utf8 e = subst (StepBounded text) e (by_before_bounded (situation history) history.before text utf8)
 
-fault_bounded : (history : History) (text : Text) (fault : Spanned Fault) → IsUtf8 text → next_step language history text ≡ Fails fault → AtBoundaries text fault
+pub fault_bounded : (history : History) (text : Text) (fault : Spanned Fault) → IsUtf8 text → next_step language history text ≡ Fails fault → AtBoundaries text fault
 unfolding next_step situation step_at
 fault_bounded history text fault utf8 e = subst (StepBounded text) e (by_before_bounded (situation history) history.before text utf8)
 
 -- Readings
 
-along_bounded : (whole : Text) (at : ℕ) (history : History) (pieces : List Piece) → IsUtf8 whole → IsCharBoundary whole at → IsReading language history (drop at whole) pieces → Edges whole (lexemes_along at pieces) × IsCharBoundary whole (at + pieces_len pieces)
+pub along_bounded : (whole : Text) (at : ℕ) (history : History) (pieces : List Piece) → IsUtf8 whole → IsCharBoundary whole at → IsReading language history (drop at whole) pieces → Edges whole (lexemes_along at pieces) × IsCharBoundary whole (at + pieces_len pieces)
 along_bounded whole at history [] utf8 here reads = (tt, subst (IsCharBoundary whole) same here)
   where
     same : at ≡ at + pieces_len []
@@ -330,7 +330,7 @@ along_bounded whole at history (piece ∷ pieces) utf8 here reads =
     let total : at + piece.len + pieces_len pieces ≡ at + pieces_len (piece ∷ pieces) = omega (arith, len) in
     (edges_append whole (map (moved at) piece.lexemes) (lexemes_along (at + piece.len) pieces) (edges_shift whole at piece.lexemes here found.0) more.0, subst (IsCharBoundary whole) total more.1)
 
-same_edges : (text : Text) (at k : ℕ) → IsCharBoundary text at → Edges text (replicate k (record { begin = at; node = Dedent; end = at }))
+pub same_edges : (text : Text) (at k : ℕ) → IsCharBoundary text at → Edges text (replicate k (record { begin = at; node = Dedent; end = at }))
 same_edges text at zero here = tt
 same_edges text at (suc k) here = ((here, here), same_edges text at k here)
 

@@ -3,7 +3,7 @@ use Rattle.std.proofs.Common.{◌≡◌, ℕ, zero, suc, Bool, true, false, [], 
 use Rattle.starlark_grammar.specs.Words.{Text, language}
 use Rattle.starlark_grammar.specs.Depths.{Mode, Outside, InText, AtTop, Deeper}
 use Rattle.starlark_grammar.specs.Pieces.{Before, Nothing, Layout, Gap, Other, Piece, Step, Stands, Fails, Ends, Situation, in_code, by_mode, by_before, step_at}
-use Rattle.starlark_grammar.specs.Reading.{History, nothing, after, situation, next_step, Reading, read_onward, read_from, read, outcome_of, outcome_in, outcome}
+use Rattle.starlark_grammar.specs.Reading.{History, nothing, after, situation, next_step, Reading, read_onward, read_from, read, read_after, outcome_of, outcome_in, outcome}
 use Rattle.starlark_grammar.specs.Front.{language_front}
 use Rattle.starlark_grammar.specs.EarlierLanguage.{earlier_front, is_rf_opener, earlier_language, holds_rf_opener}
 use Rattle.starlark_grammar.proofs.Words.EarlierTable.{front_agrees}
@@ -53,7 +53,7 @@ reads_agree history zero (b ∷ bs) h =
     (λ piece. reads_agree (after history piece) (piece.len - 1) bs (held_parts b bs h).1)
 
 read_agrees : (text : Text) → holds_rf_opener text ≡ false → read language text ≡ read earlier_language text
-unfolding read
+unfolding read read_after
 read_agrees text h =
     onward_agrees (next_step language nothing text) (next_step earlier_language nothing text) _ _ (step_agrees nothing text h)
     (λ piece. reads_agree (after nothing piece) piece.len text h)

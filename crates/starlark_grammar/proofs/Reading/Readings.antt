@@ -7,7 +7,7 @@ use Rattle.starlark_grammar.specs.Tokens.{Fault, Spanned, Outcome}
 use Rattle.starlark_grammar.specs.Depths.{Mode, Outside, InText, AtTop, Deeper}
 use Rattle.starlark_grammar.specs.Items.{body_from, body_at}
 use Rattle.starlark_grammar.specs.Pieces.{Before, Nothing, Layout, Gap, Other, Piece, Step, Stands, Fails, Ends, Situation, chunk, by_mode, by_before, step_at}
-use Rattle.starlark_grammar.specs.Reading.{History, nothing, after, after_all, situation, next_step, pieces_len, read_onward, read_from, read, outcome_of, outcome_in}
+use Rattle.starlark_grammar.specs.Reading.{History, nothing, after, after_all, situation, next_step, pieces_len, read_onward, read_from, read, read_after, outcome_of, outcome_in}
 use Rattle.starlark_grammar.specs.Longest.{IsReading, IsLongestReading, IsOutcome}
 use Rattle.starlark_grammar.specs.Laws.{Begins}
 use Rattle.starlark_grammar.proofs.Lists.{drop-sum, drop-remainder}
@@ -125,16 +125,20 @@ read_from_is table history zero (b ∷ bs) h = go (next_step table history (b �
     go (Fails fault) e more = stops_here table history (b ∷ bs) (Fails fault) e (λ piece k. cc)
     go Ends e more = stops_here table history (b ∷ bs) Ends e (λ piece k. cc)
 
+pub read_after_is : (table : Table) (history : History) (text : Text) → IsLongestReading table history text (read_after table history text).pieces (read_after table history text).last
+unfolding read_after
+read_after_is table history text = go (next_step table history text) refl
+  where
+    go : (step : Step) → next_step table history text ≡ step → IsLongestReading table history text (read_onward step (λ piece. read_from table (after history piece) piece.len text)).pieces (read_onward step (λ piece. read_from table (after history piece) piece.len text)).last
+    go (Stands piece) e =
+        let fits = piece_fits table history text piece e in
+        longest_onward table history text piece _ _ e (read_from_is table (after history piece) piece.len text (started history piece fits.sort))
+    go (Fails fault) e = stops_here table history text (Fails fault) e (λ piece k. cc)
+    go Ends e = stops_here table history text Ends e (λ piece k. cc)
+
 pub read_is : (table : Table) (text : Text) → IsLongestReading table nothing text (read table text).pieces (read table text).last
 unfolding read
-read_is table text = go (next_step table nothing text) refl
-  where
-    go : (step : Step) → next_step table nothing text ≡ step → IsLongestReading table nothing text (read_onward step (λ piece. read_from table (after nothing piece) piece.len text)).pieces (read_onward step (λ piece. read_from table (after nothing piece) piece.len text)).last
-    go (Stands piece) e =
-        let fits = piece_fits table nothing text piece e in
-        longest_onward table nothing text piece _ _ e (read_from_is table (after nothing piece) piece.len text (started nothing piece fits.sort))
-    go (Fails fault) e = stops_here table nothing text (Fails fault) e (λ piece k. cc)
-    go Ends e = stops_here table nothing text Ends e (λ piece k. cc)
+read_is table text = read_after_is table nothing text
 
 -- a longest reading goes on in no way
 longest_ends : (table : Table) (history : History) (text : Text) (pieces more : List Piece) (last : Step) → IsLongestReading table history text pieces last → IsReading table history text (pieces ++ more) → more ≡ []

@@ -1,4 +1,5 @@
 -- Pieces and faults lie inside of the text, and no piece but a first margin is empty.
+pub use Rattle.starlark_grammar.specs.Pieces.{is_nothing}
 use Rattle.std.proofs.Common.{◌≡◌, ℕ, suc, ◌+◌, ◌≤◌, Bool, true, false, not, List, [], ◌∷◌, length, take, drop, refl, ap, ◌∙◌, Option, Some, None, arith, nat_eq}
 use Rattle.std.specs.Prelude.{⊤, ◌&&◌, if◌then◌else◌, sum_by}
 use Rattle.std.proofs.lemmas.List.{length-drop, length-take-le}
@@ -23,10 +24,6 @@ abbrev pub Each : (Piece → Type 0) → (Spanned Fault → Type 0) → Step →
 Each P Q (Stands piece) = P piece
 Each P Q (Fails fault) = Q fault
 Each P Q Ends = ⊤
-
-abbrev pub is_nothing : Before → Bool
-is_nothing Nothing = true
-is_nothing before = false
 
 -- a piece of so many bytes at least
 pub record PieceFits (least : ℕ) (text : Text) (piece : Piece) : Type 0 where

@@ -7,76 +7,62 @@ use Rattle.std.proofs.lemmas.List.{drop-append-le, length-drop}
 use Rattle.std.proofs.lemmas.List.Sums.{sum_by-cons}
 use Rattle.starlark_grammar.specs.Words.{Text, language}
 use Rattle.starlark_grammar.specs.Tokens.{Spanned, Fault, Lexeme, moved, Outcome}
+use Rattle.starlark_grammar.specs.Inner.KeptFaults.{is_in_margin}
 use Rattle.starlark_grammar.specs.Margins.{begins_with_line_end, Margin, is_lf, margin_of, margin_len}
-use Rattle.starlark_grammar.specs.Pieces.{Piece, Step, Stands, Fails, Ends, first_margin}
-use Rattle.starlark_grammar.specs.Reading.{after_all, before_fault, nothing, pieces_len, outcome, outcome_of, read}
-use Rattle.starlark_grammar.specs.Longest.{IsLongestReading}
+use Rattle.starlark_grammar.specs.Pieces.{Before, Fails, Gap, Layout, Nothing, Other, Piece, first_margin, margin_step}
+use Rattle.starlark_grammar.specs.Reading.{History, after_all, history_after, lexemes_before, next_step, nothing, outcome, outcome_after, pieces_len}
 use Rattle.starlark_grammar.proofs.Lists.{drop-sum}
 use Rattle.starlark_grammar.proofs.Literals.Bodies.{starts_fits}
-use Rattle.starlark_grammar.proofs.Reading.Readings.{fault_fits, read_is}
+use Rattle.starlark_grammar.proofs.Reading.Onward.{Starts, StopsAt, after_by, outcome_after_nothing, stops_at}
+use Rattle.starlark_grammar.proofs.Reading.Steps.{is_nothing}
 use Rattle.starlark_grammar.proofs.Joining.Followed.{ends_line, ends_line_drop, ends_line_of}
 use Rattle.starlark_grammar.proofs.Joining.FollowedMargins.{Followed, Whole, Within, followed, whole_after}
 use Rattle.starlark_grammar.proofs.Joining.Joined.{margin_step_len, whole_from_ends}
-use Rattle.starlark_grammar.proofs.Joining.Tabs.{first_step, outcome_by}
+use Rattle.starlark_grammar.proofs.Joining.Tabs.{first_step}
 use Rattle.starlark_grammar.specs.Joining.{DecidedFaultsStay, is_decided}
 use Rattle.starlark_grammar.specs.Recovery.{is_margin_tab, is_tab, line_end_len, margin_line, next_line, restart, stopped_at}
 use Rattle.starlark_grammar.proofs.Recovery.FollowedFaults.{FaultStays, fault_stays, margin_within}
 use Rattle.starlark_grammar.proofs.Recovery.MarginTabs.{LineFails, TabAt, begins_with_tab, line_end_stands, line_is, no_line_end, tab_next, tab_no_line}
 
--- The reading of a text up to its fault.
-pub record FaultRead (text : Text) (fault : Spanned Fault) : Type 0 where
-  pub pieces : List Piece
-  pub found : Spanned Fault
-  pub stays : FaultStays nothing text pieces found
-  pub same : moved (pieces_len pieces) found ≡ fault
-  pub is : outcome text ≡ outcome_of text pieces (Fails found)
-  pub begin : pieces_len pieces + found.begin ≡ fault.begin
-  pub end : pieces_len pieces + found.end ≡ fault.end
-  pub order : fault.begin ≤ fault.end
-
-pub fault_read : (text : Text) (fault : Spanned Fault) → (outcome text).fault ≡ Some fault → FaultRead text fault
-fault_read text fault has = by (read language text).last (read_is language text) (sym (ap (λ (o : Outcome). o.fault) (outcome_by text (read language text).pieces (read language text).last (read_is language text))) ∙ has)
-  where
-    pieces : List Piece
-    pieces = (read language text).pieces
-
-    made : (found : Spanned Fault) → IsLongestReading language nothing text pieces (Fails found) → moved (pieces_len pieces) found ≡ fault → FaultRead text fault
-    made found longest same =
-        let begin : pieces_len pieces + found.begin ≡ fault.begin = ap (λ (f : Spanned Fault). f.begin) same in
-        let end : pieces_len pieces + found.end ≡ fault.end = ap (λ (f : Spanned Fault). f.end) same in
-        record {
-          pieces = pieces;
-          found = found;
-          stays = record { reads = longest.reads; fails = longest.stands_last };
-          same = same;
-          is = outcome_by text pieces (Fails found) longest;
-          begin = begin;
-          end = end;
-          order = omega (arith, begin, end, (fault_fits language (after_all nothing pieces) (drop (pieces_len pieces) text) found longest.stands_last).order);
-        }
-
-    by : (last : Step) → IsLongestReading language nothing text pieces last → (outcome_of text pieces last).fault ≡ Some fault → FaultRead text fault
-    by (Fails found) longest e = let same : moved (pieces_len pieces) found ≡ fault = cc in made found longest same
-    by (Stands piece) longest e = cc
-    by Ends longest e = cc
+abbrev pub fault_stays_here : {history : History} {text : Text} {fault : Spanned Fault} (here : StopsAt history text fault) → FaultStays history text here.pieces here.found
+fault_stays_here here = record { reads = here.longest.reads; fails = here.longest.stands_last }
 
 -- Outcomes
 
-before_same : (text more : Text) (pieces : List Piece) (found : Spanned Fault) → ends_line text ≡ true → FaultStays nothing text pieces found → before_fault (text ++ more) pieces ≡ before_fault text pieces
-before_same text more (piece ∷ pieces) found ends stays = refl
-before_same text more [] found ends stays = go (followed text more (whole_from_ends text ends))
+before_same : (history : History) (text more : Text) (pieces : List Piece) (found : Spanned Fault) → Starts history → ends_line text ≡ true → FaultStays history text pieces found
+    → lexemes_before history.before (text ++ more) pieces ≡ lexemes_before history.before text pieces
+before_same history text more (piece ∷ pieces) found start ends stays = by history.before
   where
-    go : Followed text more → before_fault (text ++ more) [] ≡ before_fault text []
-    go (Whole e f) = absurd (margin_within 0 [] [] text found e (sym (first_step text) ∙ stays.fails))
-    go (Within some less f) = ap (λ (m : Margin). m.comments) f
+    by : (before : Before) → lexemes_before before (text ++ more) (piece ∷ pieces) ≡ lexemes_before before text (piece ∷ pieces)
+    by Nothing = refl
+    by before = refl
+before_same history text more [] found start ends stays = by history.before refl
+  where
+    by : (before : Before) → history.before ≡ before → lexemes_before before (text ++ more) [] ≡ lexemes_before before text []
+    by Nothing e = go (followed text more (whole_from_ends text ends))
+      where
+        fails : margin_step 0 [] [] (margin_of text) ≡ Fails found
+        fails = sym (first_step text) ∙ sym (ap (λ (h : History). next_step language h text) (start (ap is_nothing e))) ∙ stays.fails
 
-outcome_stays : (text more : Text) (fault : Spanned Fault) → ends_line text ≡ true → FaultRead text fault → fault.end < length text → outcome (text ++ more) ≡ outcome text
-outcome_stays text more fault ends here less =
+        go : Followed text more → (margin_of (text ++ more)).comments ≡ (margin_of text).comments
+        go (Whole e f) = absurd (margin_within 0 [] [] text found e fails)
+        go (Within some less f) = ap (λ (m : Margin). m.comments) f
+    by Layout e = refl
+    by Gap e = refl
+    by Other e = refl
+
+pub outcome_stays : (history : History) (text more : Text) (fault : Spanned Fault) → Starts history → ends_line text ≡ true → StopsAt history text fault → fault.end < length text
+    → (outcome_after history (text ++ more) ≡ outcome_after history text) × (history_after history (text ++ more) ≡ history_after history text)
+outcome_stays history text more fault start ends here less =
     let end = here.end in
-    let stays = fault_stays nothing text more here.pieces here.found ends here.stays (omega (arith, less, end)) in
-    outcome_by (text ++ more) here.pieces (Fails here.found) (record { reads = stays.reads; stands_last = stays.fails; no_piece = λ piece e. cc })
-    ∙ ap (λ (ls : List Lexeme). let o : Outcome = record { lexemes = ls; fault = Some (moved (pieces_len here.pieces) here.found) } in o) (before_same text more here.pieces here.found ends here.stays)
-    ∙ sym here.is
+    let stays = fault_stays history text more here.pieces here.found ends (fault_stays_here here) (omega (arith, less, end)) in
+    let both = after_by history (text ++ more) here.pieces (Fails here.found) (record { reads = stays.reads; stands_last = stays.fails; no_piece = λ piece e. cc }) in
+    let past = here.past in (
+      both.0
+          ∙ ap (λ (ls : List Lexeme). let o : Outcome = record { lexemes = ls; fault = Some (moved (pieces_len here.pieces) here.found) } in o) (before_same history text more here.pieces here.found start ends (fault_stays_here here))
+          ∙ sym here.is,
+      both.1 ∙ sym past,
+    )
 
 -- Lines
 
@@ -144,8 +130,8 @@ margin_line_stays text more at h inside some = go (followed (drop at text) more 
     )
 
 -- a text whose fault isn't at its end isn't comment-only lines alone
-some_content : (text : Text) (fault : Spanned Fault) → FaultRead text fault → fault.end < length text → IsRest text → ⊥
-some_content text fault here less whole = go here.pieces here.found here.stays here.end
+some_content : (text : Text) (fault : Spanned Fault) → StopsAt nothing text fault → fault.end < length text → IsRest text → ⊥
+some_content text fault here less whole = go here.pieces here.found (fault_stays_here here) here.end
   where
     go : (pieces : List Piece) (found : Spanned Fault) → FaultStays nothing text pieces found → pieces_len pieces + found.end ≡ fault.end → ⊥
     go [] found stays end = margin_within 0 [] [] text found whole (sym (first_step text) ∙ stays.fails)
@@ -154,9 +140,13 @@ some_content text fault here less whole = go here.pieces here.found here.stays h
         let total = sum_by-cons (λ (piece : Piece). piece.len) piece pieces in
         omega (arith, less, end, len, total, ap margin_len whole)
 
+-- a tab at the start of a text, or at a line end, is in a margin
+abbrev pub InMargin : History → Text → Spanned Fault → Type 0
+InMargin history text fault = is_margin_tab text fault ≡ true → is_in_margin history.before text fault.begin ≡ true
+
 -- after the line end of a tab's margin there is content
-tab_content : (text : Text) (fault : Spanned Fault) → FaultRead text fault → fault.end < length text → is_margin_tab text fault ≡ true → IsRest (drop (fault.begin + line_end_len (drop fault.begin text)) text) → ⊥
-tab_content text fault here less tab whole = go (begins_with_line_end (drop fault.begin text)) refl
+tab_content : (history : History) (text : Text) (fault : Spanned Fault) → Starts history → InMargin history text fault → StopsAt history text fault → fault.end < length text → is_margin_tab text fault ≡ true → IsRest (drop (fault.begin + line_end_len (drop fault.begin text)) text) → ⊥
+tab_content history text fault starts margin here less tab whole = go (begins_with_line_end (drop fault.begin text)) refl
   where
     parts : (is_tab fault.node ≡ true) × ((fault.begin == 0 || begins_with_line_end (drop fault.begin text)) ≡ true)
     parts = and_parts (is_tab fault.node) _ tab
@@ -165,7 +155,7 @@ tab_content text fault here less tab whole = go (begins_with_line_end (drop faul
     node = ap (λ (f : Spanned Fault). is_tab f.node) here.same ∙ parts.0
 
     at : TabAt (drop (pieces_len here.pieces) text) here.found
-    at = tab_next (after_all nothing here.pieces) (drop (pieces_len here.pieces) text) here.found node here.stays.fails
+    at = tab_next (after_all history here.pieces) (drop (pieces_len here.pieces) text) here.found node here.longest.stands_last
 
     place : drop (pieces_len here.pieces) text ≡ drop fault.begin text
     place = let start = at.begin in let begin = here.begin in let same : pieces_len here.pieces ≡ fault.begin = omega (arith, start, begin) in ap (λ n. drop n text) same
@@ -175,8 +165,13 @@ tab_content text fault here less tab whole = go (begins_with_line_end (drop faul
         let zero_begin : fault.begin ≡ 0 = eqb-true fault.begin 0 (first_of (fault.begin == 0) (begins_with_line_end (drop fault.begin text)) none parts.1) in
         let no_len : line_end_len (drop fault.begin text) ≡ 0 = no_line_end (drop fault.begin text) none in
         let start : fault.begin + line_end_len (drop fault.begin text) ≡ 0 = omega (arith, zero_begin, no_len) in
-        some_content text fault here less (subst (λ n. IsRest (drop n text)) start whole)
+        let begun : is_nothing history.before ≡ true = begun_of (is_nothing history.before) (fault.begin == 0) (begins_with_line_end (drop fault.begin text)) none (margin tab) in
+        some_content text fault (subst (λ (h : History). StopsAt h text fault) (starts begun) here) less (subst (λ n. IsRest (drop n text)) start whole)
       where
+        begun_of : (begun zero line : Bool) → line ≡ false → (begun && zero || line) ≡ true → begun ≡ true
+        begun_of true zero line e h = refl
+        begun_of false zero line e h = let wrong : true ≡ false = sym h ∙ e in cc
+
         first_of : (x y : Bool) → y ≡ false → (x || y) ≡ true → x ≡ true
         first_of true y e h = refl
         first_of false y e h = let wrong : true ≡ false = sym h ∙ e in cc
@@ -201,9 +196,9 @@ line_len_fits text = by (starts_with nat_eq text (codes "\n")) (starts_with nat_
     by false true h k = k refl
     by false false h k = omega arith
 
-stopped_stays : (text more : Text) (fault : Spanned Fault) → ends_line text ≡ true → FaultRead text fault → fault.end < length text → (stopped_at (text ++ more) fault ≡ stopped_at text fault) × (stopped_at text fault < length text)
+stopped_stays : (history : History) (text more : Text) (fault : Spanned Fault) → Starts history → InMargin history text fault → ends_line text ≡ true → StopsAt history text fault → fault.end < length text → (stopped_at (text ++ more) fault ≡ stopped_at text fault) × (stopped_at text fault < length text)
 unfolding stopped_at
-stopped_stays text more fault h here less =
+stopped_stays history text more fault starts margin h here less =
     let found = by (is_margin_tab text fault) refl in
     (ap (λ tab. stop tab (margin_line (text ++ more) (fault.begin + line_end_len (drop fault.begin (text ++ more))))) tabs ∙ found.0, found.1)
   where
@@ -228,7 +223,7 @@ stopped_stays text more fault h here less =
     by true e =
         let order = here.order in
         let inside : fault.begin + line_end_len (drop fault.begin text) ≤ length text = omega (arith, order, less, line_len_fits (drop fault.begin text), length-drop fault.begin text) in
-        let line = margin_line_stays text more (fault.begin + line_end_len (drop fault.begin text)) h inside (tab_content text fault here less e) in
+        let line = margin_line_stays text more (fault.begin + line_end_len (drop fault.begin text)) h inside (tab_content history text fault starts margin here less e) in
         let last = line.1 in (
           ap (λ n. stop true (margin_line (text ++ more) (fault.begin + n))) len ∙ ap (stop true) line.0,
           omega (arith, less, last),
@@ -240,12 +235,18 @@ decided text fault h =
     let parts = and_parts (nat_lt fault.end (length text)) _ h in
     (ltb-true fault.end (length text) parts.0, ends_line_of text parts.1)
 
-pub decided_faults_stay : DecidedFaultsStay
+-- where lexing begins again after a fault that is no tab in code
+pub restart_stays : (history : History) (text more : Text) (fault : Spanned Fault) → Starts history → InMargin history text fault → StopsAt history text fault → is_decided text fault ≡ true → restart (text ++ more) fault ≡ restart text fault
 unfolding restart
-decided_faults_stay text more fault has is =
-    let here = fault_read text fault has in
+restart_stays history text more fault starts margin here is =
     let parts = decided text fault is in
-    let stopped = stopped_stays text more fault parts.1 here parts.0 in (
-      outcome_stays text more fault parts.1 here parts.0,
-      ap (next_line (text ++ more)) stopped.0 ∙ next_line_stays text more (stopped_at text fault) parts.1 stopped.1,
+    let stopped = stopped_stays history text more fault starts margin parts.1 here parts.0 in
+    ap (next_line (text ++ more)) stopped.0 ∙ next_line_stays text more (stopped_at text fault) parts.1 stopped.1
+
+pub decided_faults_stay : DecidedFaultsStay
+decided_faults_stay text more fault has is =
+    let here = stops_at nothing text fault (ap (λ (o : Outcome). o.fault) (outcome_after_nothing text) ∙ has) in
+    let parts = decided text fault is in (
+      sym (outcome_after_nothing (text ++ more)) ∙ (outcome_stays nothing text more fault (λ e. refl) parts.1 here parts.0).0 ∙ outcome_after_nothing text,
+      restart_stays nothing text more fault (λ e. refl) (λ e. (and_parts (is_tab fault.node) _ e).1) here is,
     )

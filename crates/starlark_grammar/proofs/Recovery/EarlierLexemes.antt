@@ -16,16 +16,16 @@ use Rattle.starlark_grammar.specs.Depths.{Mode}
 use Rattle.starlark_grammar.specs.Margins.{Margin, margin_of, margin_len, is_content, has_tab, width_of, fits, is_widest, indentation, begins_with_line_end}
 use Rattle.starlark_grammar.specs.Gaps.{InOrder}
 use Rattle.starlark_grammar.specs.Pieces.{Before, Nothing, Layout, Gap, Other, Piece, Step, Stands, Fails, Situation, token, margin_step, first_margin, more_quotes, opening_of, escape_fault, literal_by, opener, chunk_text, chunk_piece, chunk_by, chunk, counts, starts_zero, word_step, front_step, takes_bang, is_bang, in_code, by_mode, by_before, step_at}
-use Rattle.starlark_grammar.specs.Reading.{History, nothing, after, situation, next_step, pieces_len, lexemes_along, before_fault}
+use Rattle.starlark_grammar.specs.Reading.{History, nothing, after, situation, next_step, pieces_len, lexemes_along, lexemes_before, outcome_after}
 use Rattle.starlark_grammar.specs.Longest.{IsReading}
 use Rattle.starlark_grammar.proofs.Literals.LiteralSteps.{by_mode_holds}
 use Rattle.starlark_grammar.proofs.Choices.{either}
 use Rattle.starlark_grammar.proofs.Joining.Tabs.{first_step}
 use Rattle.starlark_grammar.proofs.Order.Gaps.{gap_none}
-use Rattle.starlark_grammar.proofs.Order.Inside.{fault_within}
 use Rattle.starlark_grammar.proofs.Order.OrderedLexemes.{margin_gap, margin_order}
-use Rattle.starlark_grammar.proofs.Reading.Steps.{Each, margin_fits}
-use Rattle.starlark_grammar.proofs.Recovery.DecidedFaults.{FaultRead, fault_read}
+use Rattle.starlark_grammar.proofs.Reading.Steps.{Each, margin_fits, is_nothing}
+use Rattle.starlark_grammar.proofs.Reading.Onward.{Starts, StopsAt, outcome_after_nothing, stops_at}
+use Rattle.starlark_grammar.proofs.Recovery.DecidedFaults.{fault_stays_here}
 use Rattle.starlark_grammar.proofs.Recovery.FollowedFaults.{FaultStays, fault_end, same_fault}
 use Rattle.starlark_grammar.proofs.Recovery.MarginTabs.{line_end_stands, no_line_end}
 use Rattle.starlark_grammar.proofs.Recovery.RestartBounds.{restart_bounds}
@@ -179,7 +179,7 @@ unfolding next_step situation step_at
 piece_ends history text piece e = subst StepEnds e (by_before_ends (situation history) history.before text)
 
 -- the lexemes of pieces end in their bytes
-along_ends : (at : ℕ) (history : History) (text : Text) (pieces : List Piece) → IsReading language history text pieces → EndBy (at + pieces_len pieces) (lexemes_along at pieces)
+pub along_ends : (at : ℕ) (history : History) (text : Text) (pieces : List Piece) → IsReading language history text pieces → EndBy (at + pieces_len pieces) (lexemes_along at pieces)
 along_ends at history text [] reads = tt
 along_ends at history text (piece ∷ pieces) reads =
     let to : ℕ = at + pieces_len (piece ∷ pieces) in
@@ -222,15 +222,13 @@ margin_fault margin found e = go (not (is_content margin.remainder)) (has_tab ma
     go false false true one other e = cc
     go false false false one other e = let end = fault_end _ found e in inr (omega (arith, end))
 
-pub lexemes_before_faults : LexemesBeforeFaults
-lexemes_before_faults text fault has = subst (λ (o : Outcome). EndBy (restart text fault) o.lexemes) (sym here.is) (by here.pieces here.found here.stays here.same)
+-- the lexemes before a fault end before lexing begins again
+pub lexemes_before_restart : (history : History) (text : Text) (fault : Spanned Fault) → Starts history → StopsAt history text fault → EndBy (restart text fault) (outcome_after history text).lexemes
+lexemes_before_restart history text fault starts here = subst (λ (o : Outcome). EndBy (restart text fault) o.lexemes) (sym here.is) (by here.pieces here.found (fault_stays_here here) here.same)
   where
-    here : FaultRead text fault
-    here = fault_read text fault has
-
     -- after the end of the fault
     past_end : fault.end ≤ restart text fault
-    past_end = (restart_bounds text fault (fault_within text fault has).1).0
+    past_end = (restart_bounds text fault here.inside).0
 
     -- what ends before the last line of the first margin
     comments : (found : Spanned Fault) → first_margin text ≡ Fails found → moved 0 found ≡ fault → (margin_of text).at ≤ restart text fault
@@ -254,10 +252,27 @@ lexemes_before_faults text fault has = subst (λ (o : Outcome). EndBy (restart t
             restart_past text fault (margin_of text).at (omega (arith, fits)) (stopped_margin text fault start node (none (begins_with_line_end text) refl))
         go (inr width) = let past = past_end in omega (arith, width, end, past)
 
-    by : (pieces : List Piece) (found : Spanned Fault) → FaultStays nothing text pieces found → moved (pieces_len pieces) found ≡ fault → EndBy (restart text fault) (before_fault text pieces)
-    by [] found stays same = end_later (margin_of text).at (restart text fault) (margin_of text).comments (comments found (sym (first_step text) ∙ stays.fails) same) (comments_end text)
+    by : (pieces : List Piece) (found : Spanned Fault) → FaultStays history text pieces found → moved (pieces_len pieces) found ≡ fault → EndBy (restart text fault) (lexemes_before history.before text pieces)
+    by [] found stays same = first history.before refl
+      where
+        first : (before : Before) → history.before ≡ before → EndBy (restart text fault) (lexemes_before before text [])
+        first Nothing e =
+            let fails : first_margin text ≡ Fails found = sym (first_step text) ∙ sym (ap (λ (h : History). next_step language h text) (starts (ap is_nothing e))) ∙ stays.fails in
+            end_later (margin_of text).at (restart text fault) (margin_of text).comments (comments found fails same) (comments_end text)
+        first Layout e = tt
+        first Gap e = tt
+        first Other e = tt
     by (piece ∷ pieces) found stays same =
         let begin : pieces_len (piece ∷ pieces) + found.begin ≡ fault.begin = ap (λ (f : Spanned Fault). f.begin) same in
-        let order = (fault_within text fault has).0 in
+        let order = here.order in
         let past = past_end in
-        end_later (0 + pieces_len (piece ∷ pieces)) (restart text fault) (lexemes_along 0 (piece ∷ pieces)) (omega (arith, begin, order, past)) (along_ends 0 nothing text (piece ∷ pieces) stays.reads)
+        some history.before (end_later (0 + pieces_len (piece ∷ pieces)) (restart text fault) (lexemes_along 0 (piece ∷ pieces)) (omega (arith, begin, order, past)) (along_ends 0 history text (piece ∷ pieces) stays.reads))
+      where
+        some : (before : Before) → EndBy (restart text fault) (lexemes_along 0 (piece ∷ pieces)) → EndBy (restart text fault) (lexemes_before before text (piece ∷ pieces))
+        some Nothing ends = ends
+        some before ends = ends
+
+pub lexemes_before_faults : LexemesBeforeFaults
+lexemes_before_faults text fault has =
+    subst (λ (o : Outcome). EndBy (restart text fault) o.lexemes) (outcome_after_nothing text)
+    (lexemes_before_restart nothing text fault (λ e. refl) (stops_at nothing text fault (ap (λ (o : Outcome). o.fault) (outcome_after_nothing text) ∙ has)))

@@ -3,26 +3,27 @@ use Rattle.std.proofs.lemmas.List.{map-append}
 use Rattle.std.proofs.Common.{◌≡◌, ℕ, zero, suc, ◌+◌, ◌<◌, Bool, true, false, List, [], ◌∷◌, ◌++◌, length, drop, map, refl, ap, ◌∙◌, sym, subst, Some, None, arith, append_assoc, append-nil}
 use Rattle.std.specs.Prelude.{◌&&◌, ◌||◌, codes, nat_eq, option_map}
 use Rattle.std.specs.List.{ends_with}
-use Rattle.std.proofs.lemmas.Bool.{and_parts, both_ways}
+use Rattle.std.proofs.lemmas.Bool.{and_parts}
 use Rattle.std.proofs.lemmas.List.Sums.{sum_by-cons}
 use Rattle.std.proofs.Math.Seq.{drop-append-add}
 use Rattle.starlark_grammar.specs.Words.{Text, language}
 use Rattle.starlark_grammar.specs.Tokens.{Newline, Lexeme, moved, Outcome}
 use Rattle.starlark_grammar.specs.Depths.{mode_by, mode_after, open_fstring, is_balanced}
 use Rattle.starlark_grammar.specs.Margins.{open_widths}
-use Rattle.starlark_grammar.specs.Pieces.{Layout, Piece, Step, Stands, Fails, Ends, Situation, margin_step}
-use Rattle.starlark_grammar.specs.Reading.{History, nothing, after, after_all, situation, next_step, pieces_len, read, lexemes_along, closing, outcome_of, outcome_in, outcome}
+use Rattle.starlark_grammar.specs.Pieces.{Before, Layout, Other, Piece, Step, Stands, Fails, Ends, Situation, margin_step}
+use Rattle.starlark_grammar.specs.Reading.{History, nothing, after, after_all, situation, next_step, pieces_len, lexemes_along, lexemes_before, closing, outcome_of, reading_outcome, outcome, outcome_after, history_after}
 use Rattle.starlark_grammar.specs.Longest.{IsReading, IsLongestReading}
 use Rattle.starlark_grammar.specs.Cuts.{is_layout, is_outside, is_newline, is_faultless}
-use Rattle.starlark_grammar.proofs.Reading.Readings.{one_longest, longest_onward, read_is, outcome_only}
+use Rattle.starlark_grammar.proofs.Reading.Onward.{Starts, after_by, last_after, longest_after, outcome_after_nothing, outcome_is, pieces_after}
+use Rattle.starlark_grammar.proofs.Reading.Readings.{one_longest, longest_onward}
 use Rattle.starlark_grammar.proofs.Reading.Steps.{is_nothing}
 use Rattle.starlark_grammar.proofs.Joining.Followed.{ends_line, ends_line_of, ends_line_some}
 use Rattle.starlark_grammar.proofs.Joining.Settled.{Settled, outside_none, remainder, widths_settled, situation_after, after_onto, next_after, all_after}
 use Rattle.starlark_grammar.proofs.Joining.Joined.{moved_both}
 use Rattle.starlark_grammar.proofs.Joining.CleanCuts.{CharacterStarts, along_append, begun, faultless_reading, longest_append, past_append, pieces_append, along_later, same_outcome, some_before, some_append}
-use Rattle.starlark_grammar.proofs.Joining.Tabs.{first_step, outcome_by}
+use Rattle.starlark_grammar.proofs.Joining.Tabs.{first_step}
 use Rattle.starlark_grammar.proofs.Joining.Laws.{ends_after}
-use Rattle.starlark_grammar.specs.Joining.{is_between_lines, is_line_cut, has_newline, without_last_newline, begins_plainly, LineCutsJoin, LineCutsOfJoined}
+use Rattle.starlark_grammar.specs.Joining.{is_between_lines, is_line_cut, is_line_cut_after, has_newline, without_last_newline, begins_plainly, LineCutsJoin, LineCutsOfJoined}
 use Rattle.starlark_grammar.proofs.Recovery.ClosedBlocks.{plain_content, plain_margin, closing_step, dedents, dedents_moved, open_count, closed_after, none_open_dedents, balanced_dedents, none_wider, Closed, close_reading}
 
 -- The last `Newline` of some lexemes
@@ -82,23 +83,25 @@ closing_left_out front at history = newline_left_out front (record { begin = at;
 
 -- A cut between lines, by its reading
 
-pub record LineCut (text : Text) (pieces : List Piece) : Type 0 where
+pub record LineCut (history : History) (text : Text) (pieces : List Piece) : Type 0 where
   pub some : ¬ (pieces ≡ [])
   pub ends : ends_line text ≡ true
-  pub reads : IsReading language nothing text pieces
+  pub reads : IsReading language history text pieces
   pub reach : pieces_len pieces ≡ length text
-  pub layout : is_layout (after_all nothing pieces).before ≡ true
-  pub none_open : open_fstring 0 (after_all nothing pieces).tokens ≡ None
-  pub balanced : is_balanced (after_all nothing pieces).tokens ≡ true
-  pub is : outcome text ≡ record { lexemes = lexemes_along 0 pieces ++ closing (length text) (after_all nothing pieces); fault = None }
+  pub layout : is_layout (after_all history pieces).before ≡ true
+  pub none_open : open_fstring 0 (after_all history pieces).tokens ≡ None
+  pub balanced : is_balanced (after_all history pieces).tokens ≡ true
+  pub is : outcome_after history text ≡ record { lexemes = lexemes_along 0 pieces ++ closing (length text) (after_all history pieces); fault = None }
 
 -- its lexemes without the closing `Newline`
-pub line_cut_lexemes : (text : Text) (pieces : List Piece) → LineCut text pieces → without_last_newline (outcome text).lexemes ≡ lexemes_along 0 pieces ++ dedents (open_count (after_all nothing pieces)) (length text)
-line_cut_lexemes text pieces h = ap (λ (o : Outcome). without_last_newline o.lexemes) h.is ∙ closing_left_out (lexemes_along 0 pieces) (length text) (after_all nothing pieces)
+pub line_cut_lexemes : (history : History) (text : Text) (pieces : List Piece) → LineCut history text pieces
+    → without_last_newline (outcome_after history text).lexemes ≡ lexemes_along 0 pieces ++ dedents (open_count (after_all history pieces)) (length text)
+line_cut_lexemes history text pieces h =
+    ap (λ (o : Outcome). without_last_newline o.lexemes) h.is ∙ closing_left_out (lexemes_along 0 pieces) (length text) (after_all history pieces)
 
 -- it has no fault
-pub line_cut_faultless : (text : Text) (pieces : List Piece) → LineCut text pieces → (outcome text).fault ≡ None
-line_cut_faultless text pieces h = ap (λ (o : Outcome). o.fault) h.is
+pub line_cut_faultless : (history : History) (text : Text) (pieces : List Piece) → LineCut history text pieces → (outcome_after history text).fault ≡ None
+line_cut_faultless history text pieces h = ap (λ (o : Outcome). o.fault) h.is
 
 between_parts : (history : History) → is_between_lines history ≡ true → (is_layout history.before ≡ true) × (open_fstring 0 history.tokens ≡ None) × (is_balanced history.tokens ≡ true)
 unfolding is_between_lines mode_after
@@ -107,42 +110,43 @@ between_parts history h =
     let two = and_parts (is_layout history.before) _ one.0 in
     (two.0, outside_none _ two.1, one.1)
 
-line_cut_of : (text : Text) (pieces : List Piece) (last : Step) → IsLongestReading language nothing text pieces last → outcome text ≡ outcome_of text pieces last → is_faultless last ≡ true → is_between_lines (after_all nothing pieces) ≡ true → ends_line text ≡ true → LineCut text pieces
-line_cut_of text pieces last longest same faultless between ends = record {
-  some = λ e. both_ways _ (subst (λ (ps : List Piece). is_layout (after_all nothing ps).before ≡ false) (sym e) refl) parts.0;
+line_cut_of : (history : History) (text : Text) (pieces : List Piece) (last : Step) → IsLongestReading language history text pieces last → outcome_after history text ≡ reading_outcome history text pieces last
+    → is_faultless last ≡ true → is_between_lines (after_all history pieces) ≡ true → ends_line text ≡ true → LineCut history text pieces
+line_cut_of history text pieces last longest same faultless between ends = record {
+  some = λ e. let some = ends_line_some text ends in let reach = whole.1 in omega (arith, ap pieces_len e, some, reach);
   ends = ends;
   reads = longest.reads;
   reach = whole.1;
   layout = parts.0;
   none_open = parts.1;
   balanced = parts.2;
-  is = same ∙ ap (outcome_of text pieces) whole.0 ∙ ap (λ n. record { lexemes = lexemes_along 0 pieces ++ closing n (after_all nothing pieces); fault = None }) whole.1;
+  is = same ∙ ap (reading_outcome history text pieces) whole.0 ∙ ap (λ n. record { lexemes = lexemes_along 0 pieces ++ closing n (after_all history pieces); fault = None }) whole.1;
 }
   where
-    parts : (is_layout (after_all nothing pieces).before ≡ true) × (open_fstring 0 (after_all nothing pieces).tokens ≡ None) × (is_balanced (after_all nothing pieces).tokens ≡ true)
-    parts = between_parts (after_all nothing pieces) between
+    parts : (is_layout (after_all history pieces).before ≡ true) × (open_fstring 0 (after_all history pieces).tokens ≡ None) × (is_balanced (after_all history pieces).tokens ≡ true)
+    parts = between_parts (after_all history pieces) between
 
     whole : (last ≡ Ends) × (pieces_len pieces ≡ length text)
-    whole = faultless_reading text pieces last longest faultless
+    whole = faultless_reading history text pieces last longest faultless
 
-pub line_cut : (text : Text) → is_line_cut text ≡ true → LineCut text (read language text).pieces
-unfolding is_line_cut outcome outcome_in
-line_cut text h =
-    let one = and_parts (is_faultless (read language text).last && is_between_lines (after_all nothing (read language text).pieces)) _ h in
-    let two = and_parts (is_faultless (read language text).last) _ one.0 in
-    line_cut_of text (read language text).pieces (read language text).last (read_is language text) refl two.0 two.1 (ends_line_of text one.1)
+pub line_cut : (history : History) (text : Text) → is_line_cut_after history text ≡ true → LineCut history text (pieces_after history text)
+unfolding is_line_cut_after history_after
+line_cut history text h =
+    let one = and_parts (is_faultless (last_after history text) && is_between_lines (after_all history (pieces_after history text))) _ h in
+    let two = and_parts (is_faultless (last_after history text)) _ one.0 in
+    line_cut_of history text (pieces_after history text) (last_after history text) (longest_after history text) (outcome_is history text) two.0 two.1 (ends_line_of text one.1)
 
-pub line_cut_some : (text : Text) → is_line_cut text ≡ true → 0 < length text
-line_cut_some text h = ends_line_some text (line_cut text h).ends
+pub line_cut_some : (history : History) (text : Text) → is_line_cut_after history text ≡ true → 0 < length text
+line_cut_some history text h = ends_line_some text (line_cut history text h).ends
 
 -- whether a text is a cut between lines, by a longest reading of it
-pub line_cut_by : (text : Text) (pieces : List Piece) (last : Step) → IsLongestReading language nothing text pieces last
-    → is_line_cut text ≡ (is_faultless last && is_between_lines (after_all nothing pieces) && ends_with nat_eq text (codes "\n"))
-unfolding is_line_cut
-line_cut_by text pieces last longest =
-    let same = one_longest language nothing text (read language text).pieces pieces (read language text).last last (read_is language text) longest in
-    ap (λ (ps : List Piece). is_faultless (read language text).last && is_between_lines (after_all nothing ps) && ends_with nat_eq text (codes "\n")) same.0
-    ∙ ap (λ (step : Step). is_faultless step && is_between_lines (after_all nothing pieces) && ends_with nat_eq text (codes "\n")) same.1
+pub line_cut_by : (history : History) (text : Text) (pieces : List Piece) (last : Step) → IsLongestReading language history text pieces last
+    → is_line_cut_after history text ≡ (is_faultless last && is_between_lines (after_all history pieces) && ends_with nat_eq text (codes "\n"))
+unfolding is_line_cut_after history_after
+line_cut_by history text pieces last longest =
+    let same = one_longest language history text (pieces_after history text) pieces (last_after history text) last (longest_after history text) longest in
+    ap (λ (ps : List Piece). is_faultless (last_after history text) && is_between_lines (after_all history ps) && ends_with nat_eq text (codes "\n")) same.0
+    ∙ ap (λ (step : Step). is_faultless step && is_between_lines (after_all history pieces) && ends_with nat_eq text (codes "\n")) same.1
 
 -- The first margin of a text that begins plainly
 
@@ -219,72 +223,69 @@ closed_settled history none_open balanced = record {
 closed_alone : (history : History) → closed_after history ≡ remainder (closed_after history) margin_alone
 closed_alone history = ap (λ ws. record { tokens = (closed_after history).tokens; widths = ws; before = Layout }) (sym (append-nil (closed_after history).widths))
 
-no_fresh : is_nothing nothing.before ≡ true → open_widths nothing.widths ≡ []
+no_fresh : (history : History) → Starts history → is_nothing history.before ≡ true → open_widths history.widths ≡ []
 unfolding open_widths
-no_fresh h = refl
+no_fresh history starts h = ap (λ (past : History). open_widths past.widths) (starts h)
 
-module _ (text more : Text) (pieces : List Piece) (here : LineCut text pieces) (begins : begins_plainly more ≡ true) (there : CharacterStarts more plain_piece) where
-  pub closed : Closed nothing text more pieces
-  closed = close_reading nothing text more pieces here.ends here.some here.reads here.reach here.layout no_fresh begins
+module _ (history : History) (text more : Text) (pieces : List Piece) (fresh : Starts history) (here : LineCut history text pieces) (begins : begins_plainly more ≡ true) (there : CharacterStarts more plain_piece) where
+  pub closed : Closed history text more pieces
+  closed = close_reading history text more pieces here.ends here.some here.reads here.reach here.layout (no_fresh history fresh) begins
 
-  all_closed : Settled (closed_after (after_all nothing pieces))
-  all_closed = closed_settled (after_all nothing pieces) here.none_open here.balanced
+  pub all_closed : Settled (closed_after (after_all history pieces))
+  all_closed = closed_settled (after_all history pieces) here.none_open here.balanced
 
   starts : IsLongestReading language (remainder line_alone margin_alone) more there.pieces there.last
   starts = subst (λ (past : History). IsLongestReading language past more there.pieces there.last) line_after there.longest
 
-  pub longest : IsLongestReading language nothing (text ++ more) (closed.pieces' ++ there.pieces) there.last
+  pub longest : IsLongestReading language history (text ++ more) (closed.pieces' ++ there.pieces) there.last
   longest =
       let left : drop (pieces_len closed.pieces') (text ++ more) ≡ more = ap (λ n. drop n (text ++ more)) (closed.len ∙ sym (add_none (length text))) ∙ drop-append-add text more 0 in
-      longest_append language nothing (text ++ more) closed.pieces' there.pieces there.last closed.reads
-      (subst (λ (t : Text). IsLongestReading language (after_all nothing closed.pieces') t there.pieces there.last) (sym left)
-      (subst (λ (past : History). IsLongestReading language past more there.pieces there.last) (sym (closed.past ∙ closed_alone (after_all nothing pieces)))
-      (longest_between line_alone (closed_after (after_all nothing pieces)) margin_alone more there.pieces there.last line_settled all_closed starts)))
+      longest_append language history (text ++ more) closed.pieces' there.pieces there.last closed.reads
+      (subst (λ (t : Text). IsLongestReading language (after_all history closed.pieces') t there.pieces there.last) (sym left)
+      (subst (λ (past : History). IsLongestReading language past more there.pieces there.last) (sym (closed.past ∙ closed_alone (after_all history pieces)))
+      (longest_between line_alone (closed_after (after_all history pieces)) margin_alone more there.pieces there.last line_settled all_closed starts)))
     where
       add_none : (n : ℕ) → n + 0 ≡ n
       add_none n = omega arith
 
-  joined_is : outcome (text ++ more) ≡ outcome_of (text ++ more) (closed.pieces' ++ there.pieces) there.last
-  unfolding outcome
-  joined_is = sym (outcome_only language (text ++ more) _ (record { pieces = closed.pieces' ++ there.pieces; last = there.last; longest = longest; same = refl }))
-
   total : pieces_len (closed.pieces' ++ there.pieces) ≡ length text + pieces_len there.pieces
   total = omega (arith, pieces_append closed.pieces' there.pieces, closed.len)
 
-  lexemes : lexemes_along 0 (closed.pieces' ++ there.pieces) ≡ without_last_newline (outcome text).lexemes ++ map (moved (length text)) (lexemes_along 0 there.pieces)
+  lexemes : lexemes_along 0 (closed.pieces' ++ there.pieces) ≡ without_last_newline (outcome_after history text).lexemes ++ map (moved (length text)) (lexemes_along 0 there.pieces)
   lexemes =
       let start : 0 + pieces_len closed.pieces' ≡ length text + 0 = omega (arith, closed.len) in
       let at : 0 + length text ≡ length text = omega arith in
       along_append 0 closed.pieces' there.pieces
-      ∙ ap (λ ls. ls ++ lexemes_along (0 + pieces_len closed.pieces') there.pieces) (closed.lexemes 0 ∙ ap (λ n. lexemes_along 0 pieces ++ dedents (open_count (after_all nothing pieces)) n) at ∙ sym (line_cut_lexemes text pieces here))
-      ∙ ap (λ n. without_last_newline (outcome text).lexemes ++ lexemes_along n there.pieces) start
-      ∙ ap (λ ls. without_last_newline (outcome text).lexemes ++ ls) (along_later (length text) 0 there.pieces)
+      ∙ ap (λ ls. ls ++ lexemes_along (0 + pieces_len closed.pieces') there.pieces)
+      (closed.lexemes 0 ∙ ap (λ n. lexemes_along 0 pieces ++ dedents (open_count (after_all history pieces)) n) at ∙ sym (line_cut_lexemes history text pieces here))
+      ∙ ap (λ n. without_last_newline (outcome_after history text).lexemes ++ lexemes_along n there.pieces) start
+      ∙ ap (λ ls. without_last_newline (outcome_after history text).lexemes ++ ls) (along_later (length text) 0 there.pieces)
 
   -- what is read of both, and what is read of the second text alone
-  pub past : after_all nothing (closed.pieces' ++ there.pieces) ≡ remainder (closed_after (after_all nothing pieces)) (after_all margin_alone there.pieces)
+  pub past : after_all history (closed.pieces' ++ there.pieces) ≡ remainder (closed_after (after_all history pieces)) (after_all margin_alone there.pieces)
   past =
-      past_append nothing closed.pieces' there.pieces
-      ∙ ap (λ (h : History). after_all h there.pieces) (closed.past ∙ closed_alone (after_all nothing pieces))
-      ∙ all_after (closed_after (after_all nothing pieces)) margin_alone there.pieces
+      past_append history closed.pieces' there.pieces
+      ∙ ap (λ (h : History). after_all h there.pieces) (closed.past ∙ closed_alone (after_all history pieces))
+      ∙ all_after (closed_after (after_all history pieces)) margin_alone there.pieces
 
   pub past_alone : after_all nothing (plain_piece ∷ there.pieces) ≡ remainder line_alone (after_all margin_alone there.pieces)
   past_alone = ap (λ (h : History). after_all h there.pieces) line_after ∙ all_after line_alone margin_alone there.pieces
 
-  closings : closing (length text + pieces_len there.pieces) (after_all nothing (closed.pieces' ++ there.pieces)) ≡ map (moved (length text)) (closing (pieces_len there.pieces) (after_all nothing (plain_piece ∷ there.pieces)))
+  closings : closing (length text + pieces_len there.pieces) (after_all history (closed.pieces' ++ there.pieces)) ≡ map (moved (length text)) (closing (pieces_len there.pieces) (after_all nothing (plain_piece ∷ there.pieces)))
   closings =
       let n = pieces_len there.pieces in
       ap (closing (length text + n)) past
-      ∙ closing_after (length text + n) (closed_after (after_all nothing pieces)) (after_all margin_alone there.pieces) all_closed
+      ∙ closing_after (length text + n) (closed_after (after_all history pieces)) (after_all margin_alone there.pieces) all_closed
       ∙ closing_moved (length text) n (after_all margin_alone there.pieces)
       ∙ ap (map (moved (length text))) (sym (closing_after n line_alone (after_all margin_alone there.pieces) line_settled) ∙ ap (closing n) (sym past_alone))
 
-  to_end : lexemes_along 0 (closed.pieces' ++ there.pieces) ++ closing (pieces_len (closed.pieces' ++ there.pieces)) (after_all nothing (closed.pieces' ++ there.pieces))
-      ≡ without_last_newline (outcome text).lexemes ++ map (moved (length text)) (lexemes_along 0 there.pieces ++ closing (pieces_len there.pieces) (after_all nothing (plain_piece ∷ there.pieces)))
+  to_end : lexemes_along 0 (closed.pieces' ++ there.pieces) ++ closing (pieces_len (closed.pieces' ++ there.pieces)) (after_all history (closed.pieces' ++ there.pieces))
+      ≡ without_last_newline (outcome_after history text).lexemes ++ map (moved (length text)) (lexemes_along 0 there.pieces ++ closing (pieces_len there.pieces) (after_all nothing (plain_piece ∷ there.pieces)))
   to_end =
-      let kept = without_last_newline (outcome text).lexemes in
+      let kept = without_last_newline (outcome_after history text).lexemes in
       let along = lexemes_along 0 there.pieces in
       let closes = closing (pieces_len there.pieces) (after_all nothing (plain_piece ∷ there.pieces)) in
-      ap (λ n. lexemes_along 0 (closed.pieces' ++ there.pieces) ++ closing n (after_all nothing (closed.pieces' ++ there.pieces))) total
+      ap (λ n. lexemes_along 0 (closed.pieces' ++ there.pieces) ++ closing n (after_all history (closed.pieces' ++ there.pieces))) total
       ∙ ap (λ ls. lexemes_along 0 (closed.pieces' ++ there.pieces) ++ ls) closings
       ∙ ap (λ ls. ls ++ map (moved (length text)) closes) lexemes
       ∙ append_assoc kept (map (moved (length text)) along) (map (moved (length text)) closes)
@@ -293,52 +294,184 @@ module _ (text more : Text) (pieces : List Piece) (here : LineCut text pieces) (
   first_len : pieces_len (plain_piece ∷ there.pieces) ≡ pieces_len there.pieces
   first_len = omega (arith, sum_by-cons (λ (piece : Piece). piece.len) plain_piece there.pieces)
 
-  alone : without_last_newline (outcome text).lexemes ++ map (moved (length text)) (lexemes_along 0 there.pieces ++ closing (pieces_len there.pieces) (after_all nothing (plain_piece ∷ there.pieces)))
-      ≡ without_last_newline (outcome text).lexemes ++ map (moved (length text)) (lexemes_along 0 (plain_piece ∷ there.pieces) ++ closing (pieces_len (plain_piece ∷ there.pieces)) (after_all nothing (plain_piece ∷ there.pieces)))
-  alone = ap (λ n. without_last_newline (outcome text).lexemes ++ map (moved (length text)) (lexemes_along 0 there.pieces ++ closing n (after_all nothing (plain_piece ∷ there.pieces)))) (sym first_len)
+  alone : without_last_newline (outcome_after history text).lexemes ++ map (moved (length text)) (lexemes_along 0 there.pieces ++ closing (pieces_len there.pieces) (after_all nothing (plain_piece ∷ there.pieces)))
+      ≡ without_last_newline (outcome_after history text).lexemes ++ map (moved (length text)) (lexemes_along 0 (plain_piece ∷ there.pieces) ++ closing (pieces_len (plain_piece ∷ there.pieces)) (after_all nothing (plain_piece ∷ there.pieces)))
+  alone = ap (λ n. without_last_newline (outcome_after history text).lexemes ++ map (moved (length text)) (lexemes_along 0 there.pieces ++ closing n (after_all nothing (plain_piece ∷ there.pieces)))) (sym first_len)
 
-  by_last : (last : Step) → outcome_of (text ++ more) (closed.pieces' ++ there.pieces) last
-      ≡ record { lexemes = without_last_newline (outcome text).lexemes ++ map (moved (length text)) (outcome_of more (plain_piece ∷ there.pieces) last).lexemes; fault = option_map (moved (length text)) (outcome_of more (plain_piece ∷ there.pieces) last).fault }
+  by_last : (last : Step) → reading_outcome history (text ++ more) (closed.pieces' ++ there.pieces) last
+      ≡ record { lexemes = without_last_newline (outcome_after history text).lexemes ++ map (moved (length text)) (outcome_of more (plain_piece ∷ there.pieces) last).lexemes; fault = option_map (moved (length text)) (outcome_of more (plain_piece ∷ there.pieces) last).fault }
   by_last (Fails fault) =
-      same_outcome (some_before (text ++ more) (closed.pieces' ++ there.pieces) (some_append closed.pieces' there.pieces closed.some) ∙ lexemes)
+      same_outcome (some_before history.before (text ++ more) (closed.pieces' ++ there.pieces) (some_append closed.pieces' there.pieces closed.some) ∙ lexemes)
       (ap Some (sym (moved_both (length text) (pieces_len (plain_piece ∷ there.pieces)) (pieces_len (closed.pieces' ++ there.pieces)) fault (omega (arith, total, first_len)))))
   by_last (Stands piece) = same_outcome (to_end ∙ alone) refl
   by_last Ends = same_outcome (to_end ∙ alone) refl
 
+-- the reading of a text that begins plainly
+plainly : (text : Text) → begins_plainly text ≡ true → CharacterStarts text plain_piece
+plainly text begins = begun text plain_piece (plain_step text begins)
+
+plainly_longest : (text : Text) (begins : begins_plainly text ≡ true) → IsLongestReading language nothing text (plain_piece ∷ (plainly text begins).pieces) (plainly text begins).last
+plainly_longest text begins = longest_onward language nothing text plain_piece (plainly text begins).pieces (plainly text begins).last (plain_step text begins) (plainly text begins).longest
+
+-- The outcome of a cut between lines after a history, and after it that of a text that begins plainly.
+pub cut_joins : (history : History) (first second : Text) → Starts history → is_line_cut_after history first ≡ true → begins_plainly second ≡ true
+    → outcome_after history (first ++ second) ≡ record {
+      lexemes = without_last_newline (outcome_after history first).lexemes ++ map (moved (length first)) (outcome_after nothing second).lexemes;
+      fault = option_map (moved (length first)) (outcome_after nothing second).fault;
+    }
+cut_joins history first second fresh h begins =
+    let here = line_cut history first h in
+    let there = plainly second begins in
+    (after_by history (first ++ second) _ there.last (longest history first second (pieces_after history first) fresh here begins there)).0
+    ∙ by_last history first second (pieces_after history first) fresh here begins there there.last
+    ∙ ap (λ (o : Outcome). record { lexemes = without_last_newline (outcome_after history first).lexemes ++ map (moved (length first)) o.lexemes; fault = option_map (moved (length first)) o.fault })
+    (sym (outcome_after_nothing second ∙ there.is))
+
+-- Both together are a cut between lines exactly where the second one is.
+pub cut_of_joined : (history : History) (first second : Text) → Starts history → is_line_cut_after history first ≡ true → begins_plainly second ≡ true
+    → is_line_cut_after history (first ++ second) ≡ is_line_cut_after nothing second
+cut_of_joined history first second fresh h begins =
+    let here = line_cut history first h in
+    let there = plainly second begins in
+    let pieces = pieces_after history first in
+    let rest = after_all margin_alone there.pieces in
+    line_cut_by history (first ++ second) _ there.last (longest history first second pieces fresh here begins there)
+    ∙ ap (λ (past : History). is_faultless there.last && is_between_lines past && ends_with nat_eq (first ++ second) (codes "\n")) (past history first second pieces fresh here begins there)
+    ∙ ap (λ (between : Bool). is_faultless there.last && between && ends_with nat_eq (first ++ second) (codes "\n"))
+    (between_after (closed_after (after_all history pieces)) rest (all_closed history first second pieces fresh here begins there) ∙ sym (between_after line_alone rest line_settled))
+    ∙ ap (λ (ends : Bool). is_faultless there.last && is_between_lines (remainder line_alone rest) && ends) (ends_after first second (plain_some second begins))
+    ∙ ap (λ (past : History). is_faultless there.last && is_between_lines past && ends_with nat_eq second (codes "\n")) (sym (past_alone history first second pieces fresh here begins there))
+    ∙ sym (line_cut_by nothing second (plain_piece ∷ there.pieces) there.last (plainly_longest second begins))
+
+-- Histories after which the same is read: what differs is settled.
+pub record Alike (one other : History) : Type 0 where
+  pub earlier : History
+  pub before : History
+  pub common : History
+  pub settled : Settled earlier
+  pub other_settled : Settled before
+  pub one_is : one ≡ remainder earlier common
+  pub other_is : other ≡ remainder before common
+
+-- the reading after both
+alike_longest : (one other : History) (text : Text) (pieces : List Piece) (last : Step) → Alike one other → IsLongestReading language one text pieces last → IsLongestReading language other text pieces last
+alike_longest one other text pieces last alike longest =
+    subst (λ (past : History). IsLongestReading language past text pieces last) (sym alike.other_is)
+    (longest_between alike.earlier alike.before alike.common text pieces last alike.settled alike.other_settled
+    (subst (λ (past : History). IsLongestReading language past text pieces last) alike.one_is longest))
+
+alike_past : (one other : History) (pieces : List Piece) → Alike one other → Alike (after_all one pieces) (after_all other pieces)
+alike_past one other pieces alike = record {
+  earlier = alike.earlier;
+  before = alike.before;
+  common = after_all alike.common pieces;
+  settled = alike.settled;
+  other_settled = alike.other_settled;
+  one_is = ap (λ (past : History). after_all past pieces) alike.one_is ∙ all_after alike.earlier alike.common pieces;
+  other_is = ap (λ (past : History). after_all past pieces) alike.other_is ∙ all_after alike.before alike.common pieces;
+}
+
+alike_closing : (at : ℕ) (one other : History) → Alike one other → closing at one ≡ closing at other
+alike_closing at one other alike =
+    ap (closing at) alike.one_is ∙ closing_after at alike.earlier alike.common alike.settled ∙ sym (ap (closing at) alike.other_is ∙ closing_after at alike.before alike.common alike.other_settled)
+
+pub alike_before : (one other : History) → Alike one other → one.before ≡ other.before
+alike_before one other alike = ap (λ (past : History). past.before) alike.one_is ∙ sym (ap (λ (past : History). past.before) alike.other_is)
+
+alike_between : (one other : History) → Alike one other → is_between_lines one ≡ is_between_lines other
+alike_between one other alike =
+    ap is_between_lines alike.one_is ∙ between_after alike.earlier alike.common alike.settled ∙ sym (ap is_between_lines alike.other_is ∙ between_after alike.before alike.common alike.other_settled)
+
+-- They have the same outcome, …
+pub alike_outcome : (one other : History) (text : Text) → Alike one other → outcome_after one text ≡ outcome_after other text
+alike_outcome one other text alike =
+    outcome_is one text ∙ by (last_after one text)
+    ∙ sym (after_by other text (pieces_after one text) (last_after one text) (alike_longest one other text (pieces_after one text) (last_after one text) alike (longest_after one text))).0
+  where
+    pieces : List Piece
+    pieces = pieces_after one text
+
+    to_end : closing (pieces_len pieces) (after_all one pieces) ≡ closing (pieces_len pieces) (after_all other pieces)
+    to_end = alike_closing (pieces_len pieces) (after_all one pieces) (after_all other pieces) (alike_past one other pieces alike)
+
+    by : (last : Step) → reading_outcome one text (pieces_after one text) last ≡ reading_outcome other text (pieces_after one text) last
+    by (Fails fault) = same_outcome (ap (λ (before : Before). lexemes_before before text pieces) (alike_before one other alike)) refl
+    by (Stands piece) = same_outcome (ap (λ ls. lexemes_along 0 pieces ++ ls) to_end) refl
+    by Ends = same_outcome (ap (λ ls. lexemes_along 0 pieces ++ ls) to_end) refl
+
+-- … are alike after the same text, …
+pub alike_after : (one other : History) (text : Text) → Alike one other → Alike (history_after one text) (history_after other text)
+alike_after one other text alike =
+    let pieces = pieces_after one text in
+    let last = last_after one text in
+    subst (λ (past : History). Alike past (history_after other text)) (sym (after_by one text pieces last (longest_after one text)).1)
+    (subst (Alike (after_all one pieces)) (sym (after_by other text pieces last (alike_longest one other text pieces last alike (longest_after one text))).1) (alike_past one other pieces alike))
+
+-- … and have the same cuts.
+pub alike_line_cut : (one other : History) (text : Text) → Alike one other → is_line_cut_after one text ≡ is_line_cut_after other text
+alike_line_cut one other text alike =
+    let pieces = pieces_after one text in
+    let last = last_after one text in
+    line_cut_by one text pieces last (longest_after one text)
+    ∙ ap (λ (between : Bool). is_faultless last && between && ends_with nat_eq text (codes "\n")) (alike_between (after_all one pieces) (after_all other pieces) (alike_past one other pieces alike))
+    ∙ sym (line_cut_by other text pieces last (alike_longest one other text pieces last alike (longest_after one text)))
+
+-- A cut between lines is all that differs between two texts.
+pub alike_joined : (history : History) (first second : Text) → Starts history → is_line_cut_after history first ≡ true → begins_plainly second ≡ true → Alike (history_after history (first ++ second)) (history_after nothing second)
+alike_joined history first second fresh h begins =
+    let here = line_cut history first h in
+    let there = plainly second begins in
+    let pieces = pieces_after history first in
+    record {
+      earlier = closed_after (after_all history pieces);
+      before = line_alone;
+      common = after_all margin_alone there.pieces;
+      settled = all_closed history first second pieces fresh here begins there;
+      other_settled = line_settled;
+      one_is = (after_by history (first ++ second) _ there.last (longest history first second pieces fresh here begins there)).1 ∙ past history first second pieces fresh here begins there;
+      other_is = (after_by nothing second _ there.last (plainly_longest second begins)).1 ∙ past_alone history first second pieces fresh here begins there;
+    }
+
+-- and so it is in the midst of their lines
+pub alike_other : (one other : History) → Alike one other → Alike (record one { before = Other }) (record other { before = Other })
+alike_other one other alike = record {
+  earlier = alike.earlier;
+  before = alike.before;
+  common = record alike.common { before = Other };
+  settled = alike.settled;
+  other_settled = alike.other_settled;
+  one_is = ap (λ (past : History). record past { before = Other }) alike.one_is;
+  other_is = ap (λ (past : History). record past { before = Other }) alike.other_is;
+}
+
+-- The laws for whole texts
+
+pub starts_nothing : Starts nothing
+starts_nothing = λ none. refl
+
 pub line_cuts_join : LineCutsJoin
-line_cuts_join text more h begins =
-    let here = line_cut text h in
-    let there = begun more plain_piece (plain_step more begins) in
-    joined_is text more (read language text).pieces here begins there
-    ∙ by_last text more (read language text).pieces here begins there there.last
-    ∙ ap (λ (o : Outcome). record { lexemes = without_last_newline (outcome text).lexemes ++ map (moved (length text)) o.lexemes; fault = option_map (moved (length text)) o.fault }) (sym there.is)
+unfolding is_line_cut
+line_cuts_join first second h begins =
+    let joins = cut_joins nothing first second starts_nothing h begins in
+    sym (outcome_after_nothing (first ++ second)) ∙ joins
+    ∙ ap (λ (o : Outcome). record { lexemes = without_last_newline o.lexemes ++ map (moved (length first)) (outcome_after nothing second).lexemes; fault = option_map (moved (length first)) (outcome_after nothing second).fault }) (outcome_after_nothing first)
+    ∙ ap (λ (o : Outcome). record { lexemes = without_last_newline (outcome first).lexemes ++ map (moved (length first)) o.lexemes; fault = option_map (moved (length first)) o.fault }) (outcome_after_nothing second)
 
 pub line_cuts_of_joined : LineCutsOfJoined
-line_cuts_of_joined text more h begins =
-    let here = line_cut text h in
-    let there = begun more plain_piece (plain_step more begins) in
-    let pieces = (read language text).pieces in
-    let rest = after_all margin_alone there.pieces in
-    let ends = ends_with nat_eq more (codes "\n") in
-    line_cut_by (text ++ more) _ there.last (longest text more pieces here begins there)
-    ∙ ap (λ (history : History). is_faultless there.last && is_between_lines history && ends_with nat_eq (text ++ more) (codes "\n")) (past text more pieces here begins there)
-    ∙ ap (λ (between : Bool). is_faultless there.last && between && ends_with nat_eq (text ++ more) (codes "\n"))
-    (between_after (closed_after (after_all nothing pieces)) rest (all_closed text more pieces here begins there) ∙ sym (between_after line_alone rest line_settled))
-    ∙ ap (λ (ends : Bool). is_faultless there.last && is_between_lines (remainder line_alone rest) && ends) (ends_after text more (plain_some more begins))
-    ∙ ap (λ (history : History). is_faultless there.last && is_between_lines history && ends_with nat_eq more (codes "\n")) (sym (past_alone text more pieces here begins there))
-    ∙ sym (line_cut_by more (plain_piece ∷ there.pieces) there.last (longest_onward language nothing more plain_piece there.pieces there.last (plain_step more begins) there.longest))
+unfolding is_line_cut
+line_cuts_of_joined first second h begins = cut_of_joined nothing first second starts_nothing h begins
 
--- a `Newline` is found in every text: the closing one
-pub outcome_newline : (text : Text) → (outcome text).fault ≡ None → has_newline (outcome text).lexemes ≡ true
-outcome_newline text none = by (read language text).last (outcome_by text (read language text).pieces (read language text).last (read_is language text))
+-- a `Newline` is found in every text without fault: the closing one
+pub outcome_newline : (history : History) (text : Text) → (outcome_after history text).fault ≡ None → has_newline (outcome_after history text).lexemes ≡ true
+outcome_newline history text none = by (last_after history text) (outcome_is history text)
   where
-    last : List Lexeme
-    last = closing (pieces_len (read language text).pieces) (after_all nothing (read language text).pieces)
+    pieces : List Piece
+    pieces = pieces_after history text
 
-    closes : has_newline (lexemes_along 0 (read language text).pieces ++ last) ≡ true
-    closes = has_newline_later (lexemes_along 0 (read language text).pieces) last refl
+    closes : has_newline (lexemes_along 0 (pieces_after history text) ++ closing (pieces_len (pieces_after history text)) (after_all history (pieces_after history text))) ≡ true
+    closes = has_newline_later (lexemes_along 0 pieces) (closing (pieces_len pieces) (after_all history pieces)) refl
 
-    by : (last : Step) → outcome text ≡ outcome_of text (read language text).pieces last → has_newline (outcome text).lexemes ≡ true
-    by (Fails fault) is = let wrong : Some (moved (pieces_len (read language text).pieces) fault) ≡ None = sym (ap (λ (o : Outcome). o.fault) is) ∙ none in cc
+    by : (last : Step) → outcome_after history text ≡ reading_outcome history text (pieces_after history text) last → has_newline (outcome_after history text).lexemes ≡ true
+    by (Fails fault) is = let wrong : Some (moved (pieces_len pieces) fault) ≡ None = sym (ap (λ (o : Outcome). o.fault) is) ∙ none in cc
     by (Stands piece) is = ap (λ (o : Outcome). has_newline o.lexemes) is ∙ closes
     by Ends is = ap (λ (o : Outcome). has_newline o.lexemes) is ∙ closes

@@ -9,12 +9,12 @@ use Rattle.starlark_grammar.specs.Words.{Text, language}
 use Rattle.starlark_grammar.specs.Tokens.{Spanned, Fault, moved}
 use Rattle.starlark_grammar.specs.Margins.{begins_with_line_end, blanks_len, has_tab, is_blank, is_comment_only, is_lf, lines, margin_of}
 use Rattle.starlark_grammar.specs.Pieces.{Fails, first_margin}
-use Rattle.starlark_grammar.specs.Reading.{after_all, nothing, outcome, pieces_len}
+use Rattle.starlark_grammar.specs.Reading.{after_all, nothing, outcome_after, pieces_len}
 use Rattle.starlark_grammar.specs.TextLaws.{HasFirstMargin}
 use Rattle.starlark_grammar.proofs.Joining.Tabs.{HasTab, first_margin_is, first_step}
 use Rattle.starlark_grammar.specs.Joining.{begins_plainly}
 use Rattle.starlark_grammar.specs.Recovery.{is_margin_tab, is_tab, line_end_len, margin_line, next_line, restart, stopped_at}
-use Rattle.starlark_grammar.proofs.Recovery.DecidedFaults.{FaultRead, fault_read}
+use Rattle.starlark_grammar.proofs.Reading.Onward.{StopsAt, stops_at}
 use Rattle.starlark_grammar.proofs.Recovery.MarginTabs.{LineFails, TabAt, begins_with_tab, plain_no_line, plain_no_tab, tab_next}
 
 -- Texts that begin plainly
@@ -58,10 +58,10 @@ plain_first (b ∷ bs) plain = go (first_margin_is (b ∷ bs))
         absurd (both_ways _ none has.is)
 
 -- no tab's fault is at its start
-pub plain_tab : (text : Text) (fault : Spanned Fault) → begins_plainly text ≡ true → (outcome text).fault ≡ Some fault → is_tab fault.node ≡ true → 0 < fault.begin
-plain_tab text fault plain has tab = go (fault_read text fault has)
+pub plain_tab : (text : Text) (fault : Spanned Fault) → begins_plainly text ≡ true → (outcome_after nothing text).fault ≡ Some fault → is_tab fault.node ≡ true → 0 < fault.begin
+plain_tab text fault plain has tab = go (stops_at nothing text fault has)
   where
-    go : FaultRead text fault → 0 < fault.begin
+    go : StopsAt nothing text fault → 0 < fault.begin
     go here = by (cases_lt 0 (pieces_len here.pieces))
       where
         begin : pieces_len here.pieces + here.found.begin ≡ fault.begin
@@ -74,7 +74,7 @@ plain_tab text fault plain has tab = go (fault_read text fault has)
         by (inl some) = omega (arith, some, begin)
         by (inr none) =
             let start : pieces_len here.pieces ≡ 0 = omega (arith, none) in
-            let at : TabAt text here.found = subst (λ n. TabAt (drop n text) here.found) start (tab_next (after_all nothing here.pieces) (drop (pieces_len here.pieces) text) here.found node here.stays.fails) in
+            let at : TabAt text here.found = subst (λ n. TabAt (drop n text) here.found) start (tab_next (after_all nothing here.pieces) (drop (pieces_len here.pieces) text) here.found node here.longest.stands_last) in
             absurd (never at.stands)
           where
             never : (first_margin text ≡ Fails here.found) ⊎ ((begins_with_tab text ≡ true) ⊎ LineFails text here.found) → ⊥

@@ -14,13 +14,14 @@ use Rattle.starlark_grammar.specs.Tokens.{Lexeme, Newline, Dedent, Outcome, move
 use Rattle.starlark_grammar.specs.Depths.{Mode, is_balanced, mode_after, open_fstring}
 use Rattle.starlark_grammar.specs.Margins.{comment_lines, fits, indentation, is_blank, is_comment_only, is_lf, lines, margin_of, open_widths}
 use Rattle.starlark_grammar.specs.Pieces.{Ends, Layout, Piece, Stands, Step, counts, margin_step, step_at}
-use Rattle.starlark_grammar.specs.Reading.{History, after, after_all, closing, lexemes_along, next_step, nothing, outcome, pieces_len, situation}
+use Rattle.starlark_grammar.specs.Reading.{History, after, after_all, closing, lexemes_along, next_step, nothing, outcome_after, pieces_len, situation}
 use Rattle.starlark_grammar.specs.Longest.{IsLongestReading, IsReading}
 use Rattle.starlark_grammar.specs.Cuts.{is_newline, is_outside}
-use Rattle.starlark_grammar.proofs.Recovery.LineCuts.{line_cut_by}
+use Rattle.starlark_grammar.proofs.Recovery.LineCuts.{line_cut_by, starts_nothing}
 use Rattle.starlark_grammar.proofs.Lists.{drop-sum}
 use Rattle.starlark_grammar.proofs.Words.Fronts.{front_sound}
 use Rattle.starlark_grammar.proofs.Reading.Steps.{is_nothing}
+use Rattle.starlark_grammar.proofs.Reading.Onward.{Starts, after_by, outcome_after_nothing}
 use Rattle.starlark_grammar.proofs.Reading.Readings.{longest_onward, stops_here}
 use Rattle.starlark_grammar.proofs.Joining.CleanCuts.{along_append, longest_append, past_append, pieces_append}
 use Rattle.starlark_grammar.proofs.Joining.Followed.{ends_line_drop, ends_line_of, longest_front_append}
@@ -29,8 +30,7 @@ use Rattle.starlark_grammar.proofs.Joining.LaidCuts.{line_laid, line_of, reading
 use Rattle.starlark_grammar.proofs.Joining.Laws.{ends_after}
 use Rattle.starlark_grammar.proofs.Joining.LineCuts.{line_end_ends}
 use Rattle.starlark_grammar.proofs.Joining.Settled.{outside_none}
-use Rattle.starlark_grammar.proofs.Joining.Tabs.{outcome_by}
-use Rattle.starlark_grammar.specs.Joining.{LastNewlineCuts, NewlinesCut, begins_plainly, begins_undented, has_newline, is_between_lines, is_dedent, is_line_cut, without_last_newline}
+use Rattle.starlark_grammar.specs.Joining.{LastNewlineCuts, NewlinesCut, begins_plainly, begins_undented, has_newline, is_between_lines, is_dedent, is_line_cut, is_line_cut_after, without_last_newline}
 use Rattle.starlark_grammar.proofs.Recovery.NewlinePieces.{NewlineAt, newline_found, newline_there, none_repeated}
 
 -- the last `Newline`, which no other follows
@@ -59,14 +59,14 @@ line_between : (history : History) (n : ℕ) → open_fstring 0 history.tokens �
 unfolding is_between_lines mode_after after open_fstring is_balanced
 line_between history n none balanced = rw none balanced
 
-module _ (text : Text) (pieces : List Piece) (n : ℕ) (reads : IsReading language nothing text pieces) (begun : is_nothing (after_all nothing pieces).before ≡ false)
-    (counted : counts (mode_after (after_all nothing pieces).tokens) (is_balanced (after_all nothing pieces).tokens) ≡ true)
+module _ (history : History) (text : Text) (pieces : List Piece) (n : ℕ) (reads : IsReading language history text pieces) (begun : is_nothing (after_all history pieces).before ≡ false)
+    (counted : counts (mode_after (after_all history pieces).tokens) (is_balanced (after_all history pieces).tokens) ≡ true)
     (found : longest_front (class_in language) (drop (pieces_len pieces) text) ≡ Some (word.LineEnd, n)) where
   abbrev pub so_far : Text
   so_far = take (pieces_len pieces + n) text
 
   abbrev before_line : History
-  before_line = after_all nothing pieces
+  before_line = after_all history pieces
 
   sound : (1 ≤ n) × (n ≤ length (drop (pieces_len pieces) text)) × (class_in language (take n (drop (pieces_len pieces) text)) ≡ Some word.LineEnd)
   sound = front_sound (class_in language) (drop (pieces_len pieces) text) word.LineEnd n found
@@ -97,8 +97,8 @@ module _ (text : Text) (pieces : List Piece) (n : ℕ) (reads : IsReading langua
   before : pieces_len pieces < length so_far
   before = omega (arith, len, sound.0)
 
-  reads_short : IsReading language nothing so_far pieces
-  reads_short = reading_shortened nothing so_far (drop (pieces_len pieces + n) text) pieces (ends_line_of so_far ends) (subst (λ (t : Text). IsReading language nothing t pieces) (sym whole) reads) before
+  reads_short : IsReading language history so_far pieces
+  reads_short = reading_shortened history so_far (drop (pieces_len pieces + n) text) pieces (ends_line_of so_far ends) (subst (λ (t : Text). IsReading language history t pieces) (sym whole) reads) before
 
   found_short : longest_front (class_in language) (drop (pieces_len pieces) so_far) ≡ Some (word.LineEnd, n)
   found_short =
@@ -122,19 +122,19 @@ module _ (text : Text) (pieces : List Piece) (n : ℕ) (reads : IsReading langua
   balanced = subst (λ (m : Mode). counts m (is_balanced before_line.tokens) ≡ true) (outside (mode_after before_line.tokens) (is_balanced before_line.tokens) counted) counted
 
   -- the line end is its last piece
-  pub longest : IsLongestReading language nothing so_far (pieces ++ last_piece n ∷ []) Ends
+  pub longest : IsLongestReading language history so_far (pieces ++ last_piece n ∷ []) Ends
   longest =
       let none : drop (last_piece n).len (drop (pieces_len pieces) so_far) ≡ [] = drop_of_length-le (drop (pieces_len pieces) so_far) (omega (arith, line_len)) in
       let over = stops_here language (after before_line (last_piece n)) (drop (last_piece n).len (drop (pieces_len pieces) so_far)) Ends (ap (next_step language (after before_line (last_piece n))) none ∙ line_ends before_line n none_open) (λ piece e. cc) in
-      longest_append language nothing so_far pieces (last_piece n ∷ []) Ends reads_short (longest_onward language before_line (drop (pieces_len pieces) so_far) (last_piece n) [] Ends stands_short over)
+      longest_append language history so_far pieces (last_piece n ∷ []) Ends reads_short (longest_onward language before_line (drop (pieces_len pieces) so_far) (last_piece n) [] Ends stands_short over)
 
-  pub is_cut : is_line_cut so_far ≡ true
+  pub is_cut : is_line_cut_after history so_far ≡ true
   is_cut =
-      let between = ap is_between_lines (past_append nothing pieces (last_piece n ∷ [])) ∙ line_between before_line n none_open balanced in
-      line_cut_by so_far (pieces ++ last_piece n ∷ []) Ends longest ∙ rw (between, ends) refl
+      let between = ap is_between_lines (past_append history pieces (last_piece n ∷ [])) ∙ line_between before_line n none_open balanced in
+      line_cut_by history so_far (pieces ++ last_piece n ∷ []) Ends longest ∙ rw (between, ends) refl
 
-  pub no_fault : (outcome so_far).fault ≡ None
-  no_fault = ap (λ (o : Outcome). o.fault) (outcome_by so_far (pieces ++ last_piece n ∷ []) Ends longest)
+  pub no_fault : (outcome_after history so_far).fault ≡ None
+  no_fault = ap (λ (o : Outcome). o.fault) (after_by history so_far (pieces ++ last_piece n ∷ []) Ends longest).0
 
   -- its lexemes
 
@@ -150,20 +150,20 @@ module _ (text : Text) (pieces : List Piece) (n : ℕ) (reads : IsReading langua
   closed_len : pieces_len closed_pieces ≡ end
   closed_len = omega (arith, pieces_append pieces (last_piece n ∷ []), sum_by-cons (λ (piece : Piece). piece.len) (last_piece n) [])
 
-  closed_widths : (after_all nothing closed_pieces).widths ≡ before_line.widths
+  closed_widths : (after_all history closed_pieces).widths ≡ before_line.widths
   unfolding after
-  closed_widths = ap (λ (h : History). h.widths) (past_append nothing pieces (last_piece n ∷ [])) ∙ append-nil before_line.widths
+  closed_widths = ap (λ (h : History). h.widths) (past_append history pieces (last_piece n ∷ [])) ∙ append-nil before_line.widths
 
-  closing_is : closing (pieces_len closed_pieces) (after_all nothing closed_pieces) ≡ record { begin = end; node = Newline; end = end } ∷ replicate open_count (dedent_at end)
+  closing_is : closing (pieces_len closed_pieces) (after_all history closed_pieces) ≡ record { begin = end; node = Newline; end = end } ∷ replicate open_count (dedent_at end)
   closing_is =
-      ap (λ k. closing k (after_all nothing closed_pieces)) closed_len
+      ap (λ k. closing k (after_all history closed_pieces)) closed_len
       ∙ ap (λ (ws : List ℕ). record { begin = end; node = Newline; end = end } ∷ replicate (length (open_widths ws)) (dedent_at end)) closed_widths
 
-  pub lexemes_so_far : without_last_newline (outcome so_far).lexemes ≡ lexemes_along 0 pieces ++ (moved (0 + pieces_len pieces) (record { begin = 0; node = Newline; end = n }) ∷ replicate open_count (dedent_at end))
+  pub lexemes_so_far : without_last_newline (outcome_after history so_far).lexemes ≡ lexemes_along 0 pieces ++ (moved (0 + pieces_len pieces) (record { begin = 0; node = Newline; end = n }) ∷ replicate open_count (dedent_at end))
   lexemes_so_far =
       let line : Lexeme = moved (0 + pieces_len pieces) (record { begin = 0; node = Newline; end = n }) in
-      let all : (outcome so_far).lexemes ≡ lexemes_along 0 closed_pieces ++ closing (pieces_len closed_pieces) (after_all nothing closed_pieces) =
-      ap (λ (o : Outcome). o.lexemes) (outcome_by so_far closed_pieces Ends longest) in
+      let all : (outcome_after history so_far).lexemes ≡ lexemes_along 0 closed_pieces ++ closing (pieces_len closed_pieces) (after_all history closed_pieces) =
+      ap (λ (o : Outcome). o.lexemes) (after_by history so_far closed_pieces Ends longest).0 in
       ap without_last_newline (all ∙ ap (λ ls. lexemes_along 0 closed_pieces ++ ls) closing_is)
       ∙ last_left_out (lexemes_along 0 closed_pieces) (record { begin = end; node = Newline; end = end }) (replicate open_count (dedent_at end)) refl (none_repeated open_count (dedent_at end) refl)
       ∙ ap (λ ls. ls ++ replicate open_count (dedent_at end)) (along_append 0 pieces (last_piece n ∷ []))
@@ -252,18 +252,18 @@ all_dedents (suc k) at = all_dedents k at
 -- The laws
 
 -- where such a `Newline` ends
-newline_end : (text : Text) (front : List Lexeme) (newline : Lexeme) (rest : List Lexeme) (here : NewlineAt nothing text 0 front newline rest) → newline.end ≡ pieces_len here.earlier + here.n
-newline_end text front newline rest here = omega (arith, ap (λ (l : Lexeme). l.end) here.newline_is)
+newline_end : (history : History) (text : Text) (front : List Lexeme) (newline : Lexeme) (rest : List Lexeme) (here : NewlineAt history text 0 front newline rest) → newline.end ≡ pieces_len here.earlier + here.n
+newline_end history text front newline rest here = omega (arith, ap (λ (l : Lexeme). l.end) here.newline_is)
 
 -- the `Dedent`s after it, where a line begins plainly
-dedents_are : (text : Text) (front : List Lexeme) (newline : Lexeme) (dedents more : List Lexeme) (here : NewlineAt nothing text 0 front newline (dedents ++ more))
+dedents_are : (history : History) (text : Text) (front : List Lexeme) (newline : Lexeme) (dedents more : List Lexeme) (here : NewlineAt history text 0 front newline (dedents ++ more))
     → list_all (λ (lexeme : Lexeme). is_dedent lexeme.node) dedents ≡ true → begins_undented more ≡ true → begins_plainly (drop here.n (drop (pieces_len here.earlier) text)) ≡ true
-    → dedents ≡ replicate (length (open_widths (after_all nothing here.earlier).widths)) (dedent_at (pieces_len here.earlier + here.n))
-dedents_are text front newline dedents more here all undented plain =
-    let k : ℕ = length (open_widths (after_all nothing here.earlier).widths) in
+    → dedents ≡ replicate (length (open_widths (after_all history here.earlier).widths)) (dedent_at (pieces_len here.earlier + here.n))
+dedents_are history text front newline dedents more here all undented plain =
+    let k : ℕ = length (open_widths (after_all history here.earlier).widths) in
     let end : ℕ = pieces_len here.earlier + here.n in
     let is : Stands here.piece ≡ Stands (record { len = here.n + 0; lexemes = line_of here.n ++ map (moved here.n) (replicate k (dedent_at 0)); width = Some 0; sort = Layout }) =
-    sym here.stands ∙ plain_step here.n (after_all nothing here.earlier).widths (drop here.n (drop (pieces_len here.earlier) text)) plain in
+    sym here.stands ∙ plain_step here.n (after_all history here.earlier).widths (drop here.n (drop (pieces_len here.earlier) text)) plain in
     let lexemes : line_of here.n ++ here.others ≡ line_of here.n ++ map (moved here.n) (replicate k (dedent_at 0)) = sym here.lexemes ∙ ap lexemes_of is in
     let others : here.others ≡ map (moved here.n) (replicate k (dedent_at 0)) = cc in
     let at : 0 + pieces_len here.earlier + (here.n + 0) ≡ end = omega arith in
@@ -275,25 +275,42 @@ dedents_are text front newline dedents more here all undented plain =
     lexemes_of (Stands piece) = piece.lexemes
     lexemes_of step = []
 
-pub newlines_cut : NewlinesCut
-newlines_cut text front newline dedents more e is some all undented plain =
-    let here = newline_found text front newline (dedents ++ more) e is some in
-    let end : newline.end ≡ pieces_len here.earlier + here.n = newline_end text front newline (dedents ++ more) here in
+-- Where a `Newline` of some bytes ends, and a line begins plainly, the rest of a text so far is a cut between lines.
+pub newlines_cut_after : (history : History) (text : Text) (front : List Lexeme) (newline : Lexeme) (dedents more : List Lexeme) → Starts history → (outcome_after history text).lexemes ≡ front ++ (newline ∷ (dedents ++ more))
+    → is_newline newline.node ≡ true → newline.begin < newline.end → list_all (λ (lexeme : Lexeme). is_dedent lexeme.node) dedents ≡ true → begins_undented more ≡ true → begins_plainly (drop newline.end text) ≡ true
+    → (is_line_cut_after history (take newline.end text) ≡ true) × (without_last_newline (outcome_after history (take newline.end text)).lexemes ≡ front ++ (newline ∷ dedents))
+newlines_cut_after history text front newline dedents more starts e is some all undented plain =
+    let here = newline_found history text front newline (dedents ++ more) starts e is some in
+    let end : newline.end ≡ pieces_len here.earlier + here.n = newline_end history text front newline (dedents ++ more) here in
     let left : drop newline.end text ≡ drop here.n (drop (pieces_len here.earlier) text) = ap (λ k. drop k text) end ∙ drop-sum (pieces_len here.earlier) here.n text in
-    let short = dedents_are text front newline dedents more here all undented (sym (ap begins_plainly left) ∙ plain) in
+    let short = dedents_are history text front newline dedents more here all undented (sym (ap begins_plainly left) ∙ plain) in
     let so_far : take newline.end text ≡ take (pieces_len here.earlier + here.n) text = ap (λ k. take k text) end in (
-      ap is_line_cut so_far ∙ is_cut text here.earlier here.n here.reads here.begun here.counted here.found,
-      ap (λ (t : Text). without_last_newline (outcome t).lexemes) so_far ∙ lexemes_so_far text here.earlier here.n here.reads here.begun here.counted here.found
-          ∙ ap (λ ls. ls ++ (moved (0 + pieces_len here.earlier) (record { begin = 0; node = Newline; end = here.n }) ∷ replicate (length (open_widths (after_all nothing here.earlier).widths)) (dedent_at (pieces_len here.earlier + here.n)))) (sym here.front_is)
-          ∙ ap (λ (l : Lexeme). front ++ (l ∷ replicate (length (open_widths (after_all nothing here.earlier).widths)) (dedent_at (pieces_len here.earlier + here.n)))) (sym here.newline_is)
+      ap (is_line_cut_after history) so_far ∙ is_cut history text here.earlier here.n here.reads here.begun here.counted here.found,
+      ap (λ (t : Text). without_last_newline (outcome_after history t).lexemes) so_far ∙ lexemes_so_far history text here.earlier here.n here.reads here.begun here.counted here.found
+          ∙ ap (λ ls. ls ++ (moved (0 + pieces_len here.earlier) (record { begin = 0; node = Newline; end = here.n }) ∷ replicate (length (open_widths (after_all history here.earlier).widths)) (dedent_at (pieces_len here.earlier + here.n)))) (sym here.front_is)
+          ∙ ap (λ (l : Lexeme). front ++ (l ∷ replicate (length (open_widths (after_all history here.earlier).widths)) (dedent_at (pieces_len here.earlier + here.n)))) (sym here.newline_is)
           ∙ ap (λ ls. front ++ (newline ∷ ls)) (sym short),
     )
 
-pub last_newline_cuts : LastNewlineCuts
-last_newline_cuts text front newline more e is some last =
-    let here = newline_found text front newline more e is some in
-    let end : pieces_len here.earlier + here.n ≡ length text = sym (newline_end text front newline more here) ∙ last in
+-- One at its end makes it a cut, without a fault.
+pub last_newline_cuts_after : (history : History) (text : Text) (front : List Lexeme) (newline : Lexeme) (more : List Lexeme) → Starts history → (outcome_after history text).lexemes ≡ front ++ (newline ∷ more)
+    → is_newline newline.node ≡ true → newline.begin < newline.end → newline.end ≡ length text → (is_line_cut_after history text ≡ true) × ((outcome_after history text).fault ≡ None)
+last_newline_cuts_after history text front newline more starts e is some last =
+    let here = newline_found history text front newline more starts e is some in
+    let end : pieces_len here.earlier + here.n ≡ length text = sym (newline_end history text front newline more here) ∙ last in
     let whole : text ≡ take (pieces_len here.earlier + here.n) text = sym (ap (λ k. take k text) end ∙ take-length text) in (
-      ap is_line_cut whole ∙ is_cut text here.earlier here.n here.reads here.begun here.counted here.found,
-      ap (λ (t : Text). (outcome t).fault) whole ∙ no_fault text here.earlier here.n here.reads here.begun here.counted here.found,
+      ap (is_line_cut_after history) whole ∙ is_cut history text here.earlier here.n here.reads here.begun here.counted here.found,
+      ap (λ (t : Text). (outcome_after history t).fault) whole ∙ no_fault history text here.earlier here.n here.reads here.begun here.counted here.found,
     )
+
+pub newlines_cut : NewlinesCut
+unfolding is_line_cut
+newlines_cut text front newline dedents more e is some all undented plain =
+    let cuts = newlines_cut_after nothing text front newline dedents more starts_nothing (ap (λ (o : Outcome). o.lexemes) (outcome_after_nothing text) ∙ e) is some all undented plain in
+    (cuts.0, sym (ap (λ (o : Outcome). without_last_newline o.lexemes) (outcome_after_nothing (take newline.end text))) ∙ cuts.1)
+
+pub last_newline_cuts : LastNewlineCuts
+unfolding is_line_cut
+last_newline_cuts text front newline more e is some last =
+    let cuts = last_newline_cuts_after nothing text front newline more starts_nothing (ap (λ (o : Outcome). o.lexemes) (outcome_after_nothing text) ∙ e) is some last in
+    (cuts.0, sym (ap (λ (o : Outcome). o.fault) (outcome_after_nothing text)) ∙ cuts.1)

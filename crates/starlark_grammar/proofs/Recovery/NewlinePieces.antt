@@ -19,7 +19,7 @@ use Rattle.starlark_grammar.specs.Items.{Stop, Closing, Line, Ended, OpeningBrac
 use Rattle.starlark_grammar.specs.Depths.{Mode, AtTop, is_balanced, mode_after}
 use Rattle.starlark_grammar.specs.Margins.{Margin, margin_of, margin_len, is_content, has_tab, width_of, fits, is_widest, indentation, open_widths}
 use Rattle.starlark_grammar.specs.Pieces.{Before, Nothing, Layout, Gap, Other, Piece, Step, Stands, Fails, Ends, Situation, fault, token, margin_step, line_end, literal_by, opener, chunk_text, chunk_piece, chunk_by, chunk, terminal_token, counts, starts_zero, word_step, front_step, takes_bang, is_bang, in_code, by_mode, by_before, step_at, opening_of}
-use Rattle.starlark_grammar.specs.Reading.{History, nothing, after, after_all, situation, next_step, pieces_len, read, lexemes_along, closing, outcome_of, outcome}
+use Rattle.starlark_grammar.specs.Reading.{History, nothing, after, after_all, situation, next_step, pieces_len, lexemes_along, lexemes_before, closing, reading_outcome, outcome_after}
 use Rattle.starlark_grammar.specs.Longest.{IsReading}
 use Rattle.starlark_grammar.specs.Cuts.{is_layout, is_newline}
 use Rattle.starlark_grammar.proofs.Literals.LiteralSteps.{by_mode_holds, chunk_holds, opener_holds, escape_holds}
@@ -28,10 +28,11 @@ use Rattle.starlark_grammar.proofs.Lists.{drop-sum}
 use Rattle.starlark_grammar.proofs.Choices.{either}
 use Rattle.starlark_grammar.proofs.Words.Fronts.{front_sound}
 use Rattle.starlark_grammar.proofs.Reading.Steps.{is_nothing}
-use Rattle.starlark_grammar.proofs.Reading.Readings.{piece_fits, read_is, started}
+use Rattle.starlark_grammar.proofs.Reading.Onward.{Starts, last_after, longest_after, outcome_is, pieces_after}
+use Rattle.starlark_grammar.proofs.Reading.Readings.{piece_fits, started}
 use Rattle.starlark_grammar.proofs.Joining.Joined.{counted_end}
 use Rattle.starlark_grammar.proofs.Joining.LaidCuts.{line_of}
-use Rattle.starlark_grammar.proofs.Joining.Tabs.{first_step, outcome_by}
+use Rattle.starlark_grammar.proofs.Joining.Tabs.{first_step}
 use Rattle.starlark_grammar.specs.Joining.{begins_undented, has_newline, is_dedent}
 
 -- Lexemes of which none is a `Newline`
@@ -407,18 +408,50 @@ from_first text first pieces tail front newline rest reads narrow undented is so
         one_earlier nothing text first 0 front front' newline rest reads.0 f
         (located (after nothing first) (drop first.len text) pieces (0 + first.len) tail front' newline rest (started nothing first (piece_fits language nothing text first reads.0).sort) reads.1 narrow undented is some g)
 
--- Such a `Newline` of a text is found so.
-pub newline_found : (text : Text) (front : List Lexeme) (newline : Lexeme) (rest : List Lexeme) → (outcome text).lexemes ≡ front ++ (newline ∷ rest) → is_newline newline.node ≡ true → newline.begin < newline.end → NewlineAt nothing text 0 front newline rest
-newline_found text front newline rest e is some =
-    go (read language text).pieces (read language text).last (read_is language text).reads
-    (sym (ap (λ (o : Outcome). o.lexemes) (outcome_by text (read language text).pieces (read language text).last (read_is language text))) ∙ e)
+-- in a whole text
+found_first : (text : Text) (pieces : List Piece) (last : Step) (front : List Lexeme) (newline : Lexeme) (rest : List Lexeme) → IsReading language nothing text pieces → is_newline newline.node ≡ true → newline.begin < newline.end
+    → (reading_outcome nothing text pieces last).lexemes ≡ front ++ (newline ∷ rest) → NewlineAt nothing text 0 front newline rest
+found_first text pieces last front newline rest reads is some e = go pieces last reads e
   where
     closed : (pieces : List Piece) → IsReading language nothing text pieces → lexemes_along 0 pieces ++ closing (pieces_len pieces) (after_all nothing pieces) ≡ front ++ (newline ∷ rest) → NewlineAt nothing text 0 front newline rest
     closed [] reads e = absurd (closing_narrow (pieces_len []) nothing front newline rest e is some)
     closed (first ∷ pieces) reads e = from_first text first pieces (closing (pieces_len (first ∷ pieces)) (after_all nothing (first ∷ pieces))) front newline rest reads (closing_narrow (pieces_len (first ∷ pieces)) (after_all nothing (first ∷ pieces))) refl is some e
 
-    go : (pieces : List Piece) (last : Step) → IsReading language nothing text pieces → (outcome_of text pieces last).lexemes ≡ front ++ (newline ∷ rest) → NewlineAt nothing text 0 front newline rest
+    go : (pieces : List Piece) (last : Step) → IsReading language nothing text pieces → (reading_outcome nothing text pieces last).lexemes ≡ front ++ (newline ∷ rest) → NewlineAt nothing text 0 front newline rest
     go [] (Fails fault) reads e = absurd (none_there (margin_of text).comments front newline rest (margin_none text) e is)
     go (first ∷ pieces) (Fails fault) reads e = from_first text first pieces [] front newline rest reads (none_narrow [] refl) refl is some (append-nil (lexemes_along 0 (first ∷ pieces)) ∙ e)
     go pieces (Stands piece) reads e = closed pieces reads e
     go pieces Ends reads e = closed pieces reads e
+
+-- in the rest of a text
+found_later : (history : History) (text : Text) (pieces : List Piece) (last : Step) (front : List Lexeme) (newline : Lexeme) (rest : List Lexeme) → is_nothing history.before ≡ false → IsReading language history text pieces → is_newline newline.node ≡ true
+    → newline.begin < newline.end → (reading_outcome history text pieces last).lexemes ≡ front ++ (newline ∷ rest) → NewlineAt history text 0 front newline rest
+found_later history text pieces last front newline rest begun reads is some e = go last e
+  where
+    along : (before : Before) → is_nothing before ≡ false → lexemes_before before text pieces ≡ lexemes_along 0 pieces
+    along Nothing h = cc
+    along Layout h = refl
+    along Gap h = refl
+    along Other h = refl
+
+    closed : lexemes_along 0 pieces ++ closing (pieces_len pieces) (after_all history pieces) ≡ front ++ (newline ∷ rest) → NewlineAt history text 0 front newline rest
+    closed e = located history text pieces 0 (closing (pieces_len pieces) (after_all history pieces)) front newline rest begun reads (closing_narrow (pieces_len pieces) (after_all history pieces)) refl is some e
+
+    go : (last : Step) → (reading_outcome history text pieces last).lexemes ≡ front ++ (newline ∷ rest) → NewlineAt history text 0 front newline rest
+    go (Fails fault) e = located history text pieces 0 [] front newline rest begun reads (none_narrow [] refl) refl is some (append-nil (lexemes_along 0 pieces) ∙ sym (along history.before begun) ∙ e)
+    go (Stands piece) e = closed e
+    go Ends e = closed e
+
+-- Such a `Newline` of a text is found so.
+pub newline_found : (history : History) (text : Text) (front : List Lexeme) (newline : Lexeme) (rest : List Lexeme) → Starts history → (outcome_after history text).lexemes ≡ front ++ (newline ∷ rest) → is_newline newline.node ≡ true → newline.begin < newline.end
+    → NewlineAt history text 0 front newline rest
+newline_found history text front newline rest starts e is some = by (is_nothing history.before) refl
+  where
+    lexemes : (past : History) → history ≡ past → (reading_outcome past text (pieces_after past text) (last_after past text)).lexemes ≡ front ++ (newline ∷ rest)
+    lexemes past same = sym (ap (λ (o : Outcome). o.lexemes) (outcome_is past text)) ∙ ap (λ (h : History). (outcome_after h text).lexemes) (sym same) ∙ e
+
+    by : (none : Bool) → is_nothing history.before ≡ none → NewlineAt history text 0 front newline rest
+    by true none =
+        subst (λ (past : History). NewlineAt past text 0 front newline rest) (sym (starts none))
+        (found_first text (pieces_after nothing text) (last_after nothing text) front newline rest (longest_after nothing text).reads is some (lexemes nothing (starts none)))
+    by false begun = found_later history text (pieces_after history text) (last_after history text) front newline rest begun (longest_after history text).reads is some (lexemes history refl)

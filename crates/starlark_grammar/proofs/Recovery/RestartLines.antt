@@ -10,7 +10,7 @@ use Rattle.std.proofs.lemmas.List.Sums.{prefix_len-le-length, prefix_len_passes,
 use Rattle.std.proofs.lemmas.Option.{get_or_from_slice_get, slice_get-get_or}
 use Rattle.std.proofs.Math.Seq.{drop-append_seam}
 use Rattle.starlark_grammar.specs.Words.{Text, language}
-use Rattle.starlark_grammar.specs.Tokens.{Fault, Spanned}
+use Rattle.starlark_grammar.specs.Tokens.{Outcome, Fault, Spanned}
 use Rattle.starlark_grammar.specs.Margins.{begins_with_line_end, blanks_len, comment_lines, has_tab, is_blank, is_comment_only, is_lf, lines, margin_of}
 use Rattle.starlark_grammar.specs.Pieces.{Fails, Piece, first_margin}
 use Rattle.starlark_grammar.specs.Reading.{outcome, after_all, nothing, pieces_len}
@@ -22,7 +22,7 @@ use Rattle.starlark_grammar.proofs.Joining.Followed.{ends_line, ends_line_made}
 use Rattle.starlark_grammar.proofs.Joining.FollowedMargins.{has_whole_lines, lines_append}
 use Rattle.starlark_grammar.proofs.Joining.Joined.{margin_step_len, whole_from_ends}
 use Rattle.starlark_grammar.proofs.Joining.Tabs.{first_step}
-use Rattle.starlark_grammar.proofs.Recovery.DecidedFaults.{FaultRead, fault_read}
+use Rattle.starlark_grammar.proofs.Reading.Onward.{StopsAt, outcome_after_nothing, stops_at}
 use Rattle.starlark_grammar.proofs.Recovery.MarginTabs.{BeginsLine, LineFails, TabLater, begins_with_tab, line_end_stands, line_is, margin_tab, no_line_end, tab_first, tab_later, tab_no_line}
 use Rattle.starlark_grammar.proofs.Recovery.ShortenedFaults.{none_before}
 use Rattle.starlark_grammar.specs.Recovery.{is_margin_tab, is_tab, line_end_len, next_line, restart, stopped_at}
@@ -295,8 +295,8 @@ tab_here (b ∷ bs) h =
     (record { comments = []; blanks = []; rest = bs; same = ap (λ (n : ℕ). n ∷ bs) (sym (eqb-true 9 b h)); are_lines = inl refl; are_comments = refl; are_blanks = refl }, refl)
 
 module _ (text : Text) (fault : Spanned Fault) (has : (outcome text).fault ≡ Some fault) (tab : is_tab fault.node ≡ true) where
-  here : FaultRead text fault
-  here = fault_read text fault has
+  here : StopsAt nothing text fault
+  here = stops_at nothing text fault (ap (λ (o : Outcome). o.fault) (outcome_after_nothing text) ∙ has)
 
   node : is_tab here.found.node ≡ true
   node = ap (λ (f : Spanned Fault). is_tab f.node) here.same ∙ tab
@@ -307,14 +307,14 @@ module _ (text : Text) (fault : Spanned Fault) (has : (outcome text).fault ≡ S
     where
       by : (none : Bool) → is_nothing (after_all nothing here.pieces).before ≡ none → fault.end ≡ fault.begin
       by true none =
-          let zero_len = none_before nothing text here.pieces here.stays.reads none in
-          let fails : first_margin text ≡ Fails here.found = ap (λ n. first_margin (drop n text)) (sym zero_len) ∙ tab_first (after_all nothing here.pieces) (drop (pieces_len here.pieces) text) here.found none here.stays.fails in
+          let zero_len = (none_before nothing text here.pieces here.longest.reads none).0 in
+          let fails : first_margin text ≡ Fails here.found = ap (λ n. first_margin (drop n text)) (sym zero_len) ∙ tab_first (after_all nothing here.pieces) (drop (pieces_len here.pieces) text) here.found none here.longest.stands_last in
           let margin = margin_tab 0 [] [] (margin_of text) here.found node fails in
           let order = here.order in
           let end = here.end in
           omega (arith, order, end, zero_len, margin.1)
       by false some =
-          let later = tab_later (after_all nothing here.pieces) (drop (pieces_len here.pieces) text) here.found node some here.stays.fails in
+          let later = tab_later (after_all nothing here.pieces) (drop (pieces_len here.pieces) text) here.found node some here.longest.stands_last in
           let begin = here.begin in
           let end = here.end in
           omega (arith, begin, end, later.begin, later.end)
@@ -329,10 +329,10 @@ module _ (text : Text) (fault : Spanned Fault) (has : (outcome text).fault ≡ S
       by true none = after_tab text fault [] text refl (ap (λ n. drop n text) start) found.0 (stopped_margin text fault tab_empty margin ∙ omega (arith, start, len, place, found.1))
         where
           zero_len : pieces_len here.pieces ≡ 0
-          zero_len = none_before nothing text here.pieces here.stays.reads none
+          zero_len = (none_before nothing text here.pieces here.longest.reads none).0
 
           fails : first_margin text ≡ Fails here.found
-          fails = ap (λ n. first_margin (drop n text)) (sym zero_len) ∙ tab_first (after_all nothing here.pieces) left here.found none here.stays.fails
+          fails = ap (λ n. first_margin (drop n text)) (sym zero_len) ∙ tab_first (after_all nothing here.pieces) left here.found none here.longest.stands_last
 
           has_margin : (has_tab (margin_of text) ≡ true) × (here.found.end ≡ 0)
           has_margin = margin_tab 0 [] [] (margin_of text) here.found node fails
@@ -361,14 +361,14 @@ module _ (text : Text) (fault : Spanned Fault) (has : (outcome text).fault ≡ S
       by false some = go later.stands
         where
           later : TabLater left here.found
-          later = tab_later (after_all nothing here.pieces) left here.found node some here.stays.fails
+          later = tab_later (after_all nothing here.pieces) left here.found node some here.longest.stands_last
 
           here_is : left ≡ drop fault.begin text
           here_is = let begin = here.begin in let same : pieces_len here.pieces ≡ fault.begin = omega (arith, begin, later.begin) in ap (λ n. drop n text) same
 
           -- a first margin of no bytes has no lines
           first : fault.begin ≡ 0 → (margin_of text).at ≡ 0
-          first start = by_pieces here.pieces here.stays.reads some (let begin = here.begin in omega (arith, begin, start))
+          first start = by_pieces here.pieces here.longest.reads some (let begin = here.begin in omega (arith, begin, start))
             where
               by_pieces : (pieces : List Piece) → IsReading language nothing text pieces → is_nothing (after_all nothing pieces).before ≡ false → pieces_len pieces ≡ 0 → (margin_of text).at ≡ 0
               by_pieces [] reads some none = cc

@@ -1,7 +1,7 @@
 -- The fault of a text is that of each front in which it is decided and lexing begins again.
 use Rattle.std.proofs.Common.{◌≡◌, ℕ, ◌+◌, ◌-◌, ◌≤◌, ◌<◌, Bool, true, false, not, List, [], ◌∷◌, ◌++◌, length, take, drop, refl, ap, ◌∙◌, sym, subst, Option, Some, None, arith, ◌⊎◌, inl, inr, append-nil, length-append}
 use Rattle.std.specs.Prelude.{◌&&◌, ◌||◌, ◌==◌, if◌then◌else◌, max}
-use Rattle.std.proofs.lemmas.Bool.{both_ways}
+use Rattle.std.proofs.lemmas.Bool.{and_parts, both_ways}
 use Rattle.std.proofs.lemmas.List.{drop-append-le, length-drop, take-append-le}
 use Rattle.starlark_grammar.specs.declared.class.Class.TheVariants as word
 use Rattle.starlark_grammar.specs.Words.{Text, class_in, language}
@@ -15,7 +15,7 @@ use Rattle.starlark_grammar.specs.Tokens.{Opening, Indentation, InvalidInput, In
 use Rattle.starlark_grammar.specs.Items.{Stop, Closing, Line, Ended, OpeningBrace, ClosingBrace, BadEscape, Body, body_at, body_len}
 use Rattle.starlark_grammar.specs.Depths.{Mode, Outside, InText, AtTop, Deeper}
 use Rattle.starlark_grammar.specs.Pieces.{Before, Nothing, Layout, Gap, Other, Piece, Step, Stands, Fails, Situation, fault, first_margin, margin_step, line_end, opening_of, more_quotes, escape_fault, literal_by, literal, opener, chunk_by, chunk, counts, word_step, front_step, takes_bang, is_bang, in_code, by_mode, by_before, step_at}
-use Rattle.starlark_grammar.specs.Reading.{History, after, after_all, nothing, situation, next_step, pieces_len, outcome}
+use Rattle.starlark_grammar.specs.Reading.{History, after, after_all, history_after, situation, next_step, outcome_after, pieces_len}
 use Rattle.starlark_grammar.specs.Longest.{IsReading}
 use Rattle.starlark_grammar.proofs.Lists.{drop-sum}
 use Rattle.starlark_grammar.proofs.WordNewlines.{in_line, line_fits, language_lines}
@@ -27,13 +27,17 @@ use Rattle.starlark_grammar.proofs.Joining.FollowedMargins.{Followed, Whole, Wit
 use Rattle.starlark_grammar.proofs.Joining.FollowedPieces.{FrontGoesOn, bang_stays, code_step, front_goes_on, opening_append, opening_inside}
 use Rattle.starlark_grammar.proofs.Joining.Joined.{step_within, whole_from_ends}
 use Rattle.starlark_grammar.proofs.Joining.LaidCuts.{reading_shortened}
-use Rattle.starlark_grammar.proofs.Joining.Tabs.{outcome_by}
+use Rattle.starlark_grammar.specs.Found.{Passed, passed}
 use Rattle.starlark_grammar.specs.Joining.{is_decided}
+use Rattle.starlark_grammar.specs.Inner.KeptFaults.{is_in_margin}
 use Rattle.starlark_grammar.specs.Recovery.{is_margin_tab, is_tab, line_end_len, margin_line, next_line, restart, stopped_at}
 use Rattle.starlark_grammar.proofs.Recovery.FollowedStops.{StopInside, body_single}
 use Rattle.starlark_grammar.proofs.Recovery.FollowedFaults.{chunk_same, escape_reads, fault_end, same_fault, unfinished_append}
 use Rattle.starlark_grammar.proofs.Recovery.MarginTabs.{BeginsLine, line_end_stands, line_is, no_line_end, tab_next, word_line}
-use Rattle.starlark_grammar.proofs.Recovery.DecidedFaults.{FaultRead, decided, decided_faults_stay, fault_read}
+use Rattle.starlark_grammar.proofs.Found.FoundItems.{by_keeps, passed_lost}
+use Rattle.starlark_grammar.proofs.KeptLines.KeptFaultPlaces.{kept}
+use Rattle.starlark_grammar.proofs.Reading.Onward.{Starts, StopsAt, after_by, later_some, stops_at}
+use Rattle.starlark_grammar.proofs.Recovery.DecidedFaults.{decided, outcome_stays}
 use Rattle.starlark_grammar.proofs.Joining.ShortenedBodies.{character_shortened}
 use Rattle.starlark_grammar.proofs.Recovery.ShortenedStops.{body_short}
 
@@ -236,13 +240,8 @@ next_short history text more found h e less = step_short (situation history) tex
 -- Where such a margin ends
 
 -- only before the first piece nothing was read
-later_some : (history : History) (text : Text) (pieces : List Piece) → is_nothing history.before ≡ false → IsReading language history text pieces → is_nothing (after_all history pieces).before ≡ false
-later_some history text [] h reads = h
-later_some history text (piece ∷ pieces) h reads =
-    later_some (after history piece) (drop piece.len text) pieces (started history piece (piece_fits language history text piece reads.0).sort) reads.1
-
-pub none_before : (history : History) (text : Text) (pieces : List Piece) → IsReading language history text pieces → is_nothing (after_all history pieces).before ≡ true → pieces_len pieces ≡ 0
-none_before history text [] reads h = refl
+pub none_before : (history : History) (text : Text) (pieces : List Piece) → IsReading language history text pieces → is_nothing (after_all history pieces).before ≡ true → (pieces_len pieces ≡ 0) × (is_nothing history.before ≡ true)
+none_before history text [] reads h = (refl, h)
 none_before history text (piece ∷ pieces) reads h =
     absurd (both_ways _ (later_some (after history piece) (drop piece.len text) pieces (started history piece (piece_fits language history text piece reads.0).sort) reads.1) h)
 
@@ -254,17 +253,23 @@ or_true : (test : Bool) → (test || true) ≡ true
 or_true true = refl
 or_true false = refl
 
-module _ (text more : Text) (fault : Spanned Fault) (some : 0 < length more) (less : restart (text ++ more) fault ≤ length text) where
-  -- a reading that stopped at the front's end or later goes on after it
-  stopped_far : length text ≤ stopped_at (text ++ more) fault → ⊥
-  unfolding restart next_line
-  stopped_far far = omega (arith, far, less, some, length-append text more)
+-- a reading that stopped at the front's end or later goes on after it
+line_far : (text more : Text) (fault : Spanned Fault) → 0 < length more → restart (text ++ more) fault ≤ length text → is_margin_tab (text ++ more) fault ≡ true
+    → length text ≤ margin_line (text ++ more) (fault.begin + line_end_len (drop fault.begin (text ++ more))) → ⊥
+unfolding stopped_at restart next_line
+line_far text more fault some less tab far =
+    stopped_far (subst (λ (tab : Bool). length text ≤ max (fault.end - 1) (if tab then margin_line (text ++ more) (fault.begin + line_end_len (drop fault.begin (text ++ more))) else fault.begin)) (sym tab) (omega (arith, far)))
+  where
+    stopped_far : length text ≤ stopped_at (text ++ more) fault → ⊥
+    stopped_far far = omega (arith, far, less, some, length-append text more)
 
-  line_far : is_margin_tab (text ++ more) fault ≡ true → length text ≤ margin_line (text ++ more) (fault.begin + line_end_len (drop fault.begin (text ++ more))) → ⊥
-  unfolding stopped_at
-  line_far tab far = stopped_far (subst (λ (tab : Bool). length text ≤ max (fault.end - 1) (if tab then margin_line (text ++ more) (fault.begin + line_end_len (drop fault.begin (text ++ more))) else fault.begin)) (sym tab) (omega (arith, far)))
+-- The last line of the margin of a tab's fault begins in the front.
+abbrev IsNear : History → Text → Text → Spanned Fault → Type 0
+IsNear history text more fault =
+    is_margin_tab (text ++ more) fault ≡ true → is_in_margin history.before (text ++ more) fault.begin ≡ true → length text ≤ margin_line (text ++ more) (fault.begin + line_end_len (drop fault.begin (text ++ more))) → ⊥
 
-  module _ (here : FaultRead (text ++ more) fault) (inside : pieces_len here.pieces < length text) where
+module _ (history : History) (text more : Text) (fault : Spanned Fault) (near : IsNear history text more fault) where
+  module _ (here : StopsAt history (text ++ more) fault) (inside : pieces_len here.pieces < length text) where
     left : drop (pieces_len here.pieces) (text ++ more) ≡ drop (pieces_len here.pieces) text ++ more
     left = drop-append-le (pieces_len here.pieces) text more (omega (arith, inside))
 
@@ -273,13 +278,14 @@ module _ (text more : Text) (fault : Spanned Fault) (some : 0 < length more) (le
 
     begin_is : is_tab here.found.node ≡ true → fault.begin ≡ pieces_len here.pieces
     begin_is tab =
-        let start = (tab_next (after_all nothing here.pieces) (drop (pieces_len here.pieces) (text ++ more)) here.found tab here.stays.fails).begin in
+        let start = (tab_next (after_all history here.pieces) (drop (pieces_len here.pieces) (text ++ more)) here.found tab here.longest.stands_last).begin in
         let begin = here.begin in
         omega (arith, start, begin)
 
-    first_far : FirstBeyond (after_all nothing here.pieces).before (drop (pieces_len here.pieces) text) more here.found → ⊥
+    first_far : FirstBeyond (after_all history here.pieces).before (drop (pieces_len here.pieces) text) more here.found → ⊥
     first_far first =
-        let none : pieces_len here.pieces ≡ 0 = none_before nothing (text ++ more) here.pieces here.stays.reads first.0 in
+        let start_is = none_before history (text ++ more) here.pieces here.longest.reads first.0 in
+        let none : pieces_len here.pieces ≡ 0 = start_is.0 in
         let begin : fault.begin ≡ 0 = begin_is first.2.0 ∙ none in
         let fails : first_margin (text ++ more) ≡ Fails here.found = subst (λ n. first_margin (drop n text ++ more) ≡ Fails here.found) none first.1 in
         let far : length text ≤ (margin_of (text ++ more)).at = subst (λ n. length (drop n text) ≤ (margin_of (drop n text ++ more)).at) none first.2.1 in
@@ -288,7 +294,8 @@ module _ (text more : Text) (fault : Spanned Fault) (some : 0 < length more) (le
         let len : line_end_len (text ++ more) ≡ 0 = by (begins_with_line_end (text ++ more)) refl fails in
         let no_len : line_end_len (drop fault.begin (text ++ more)) ≡ 0 = ap (λ n. line_end_len (drop n (text ++ more))) begin ∙ len in
         let line : fault.begin + line_end_len (drop fault.begin (text ++ more)) ≡ 0 = omega (arith, begin, no_len) in
-        line_far tab (subst (λ k. length text ≤ margin_line (text ++ more) k) (sym line) (omega (arith, far)))
+        let margin : is_in_margin history.before (text ++ more) fault.begin ≡ true = rw (start_is.1, start) refl in
+        near tab margin (subst (λ k. length text ≤ margin_line (text ++ more) k) (sym line) (omega (arith, far)))
       where
         by : (line : Bool) → begins_with_line_end (text ++ more) ≡ line → first_margin (text ++ more) ≡ Fails here.found → line_end_len (text ++ more) ≡ 0
         by true e fails = absurd (line_end_stands (text ++ more) here.found e fails)
@@ -308,18 +315,19 @@ module _ (text more : Text) (fault : Spanned Fault) (some : 0 < length more) (le
         let at : (margin_of (drop (p + n) (text ++ more))).at ≡ (margin_of (drop n (drop p text) ++ more)).at = ap (λ (t : Text). (margin_of t).at) rest in
         let start : fault.begin + line_end_len (drop fault.begin (text ++ more)) ≡ p + n = omega (arith, begin, len) in
         let beyond = next.beyond.1 in
-        line_far tab (subst (λ k. length text ≤ margin_line (text ++ more) k) (sym start)
+        let margin : is_in_margin history.before (text ++ more) fault.begin ≡ true = rw line (or_true (is_nothing history.before && fault.begin == 0)) in
+        near tab margin (subst (λ k. length text ≤ margin_line (text ++ more) k) (sym start)
         (omega (arith, beyond, at, inside, within, length-drop p text, length-drop n (drop p text))))
 
--- Where a fault is decided in the front of a text, and lexing begins again in it or at its end, the front has the
--- outcome of the text.
-pub fault_shortened : (text more : Text) (fault : Spanned Fault) → (outcome (text ++ more)).fault ≡ Some fault → is_decided text fault ≡ true → restart (text ++ more) fault ≤ length text → outcome text ≡ outcome (text ++ more)
-fault_shortened text [] fault has is less = ap outcome (sym (append-nil text))
-fault_shortened text (b ∷ bs) fault has is less =
-    go (next_short (after_all nothing here.pieces) (drop (pieces_len here.pieces) text) (b ∷ bs) here.found (ends_line_drop (pieces_len here.pieces) text inside parts.1) fails (omega (arith, parts.0, here_end, length-drop (pieces_len here.pieces) text)))
+-- Where a fault is decided in the front of a text, and what is passed with it ends there, the front has the outcome of the text.
+pub fault_shortened : (history : History) (text more : Text) (fault : Spanned Fault) → Starts history → (outcome_after history (text ++ more)).fault ≡ Some fault → is_decided text fault ≡ true → (passed history (text ++ more) fault).len ≤ length text
+    → (outcome_after history text ≡ outcome_after history (text ++ more)) × (history_after history text ≡ history_after history (text ++ more))
+fault_shortened history text [] fault starts has is less = (ap (outcome_after history) (sym (append-nil text)), ap (history_after history) (sym (append-nil text)))
+fault_shortened history text (b ∷ bs) fault starts has is less =
+    go (next_short (after_all history here.pieces) (drop (pieces_len here.pieces) text) (b ∷ bs) here.found (ends_line_drop (pieces_len here.pieces) text inside parts.1) fails (omega (arith, parts.0, here_end, length-drop (pieces_len here.pieces) text)))
   where
-    here : FaultRead (text ++ (b ∷ bs)) fault
-    here = fault_read (text ++ (b ∷ bs)) fault has
+    here : StopsAt history (text ++ (b ∷ bs)) fault
+    here = stops_at history (text ++ (b ∷ bs)) fault has
 
     parts : (fault.end < length text) × (ends_line text ≡ true)
     parts = decided text fault is
@@ -330,17 +338,24 @@ fault_shortened text (b ∷ bs) fault has is less =
     inside : pieces_len here.pieces < length text
     inside = omega (arith, parts.0, here_end)
 
-    fails : next_step language (after_all nothing here.pieces) (drop (pieces_len here.pieces) text ++ (b ∷ bs)) ≡ Fails here.found
-    fails = ap (next_step language (after_all nothing here.pieces)) (sym (drop-append-le (pieces_len here.pieces) text (b ∷ bs) (omega (arith, inside)))) ∙ here.stays.fails
+    fails : next_step language (after_all history here.pieces) (drop (pieces_len here.pieces) text ++ (b ∷ bs)) ≡ Fails here.found
+    fails = ap (next_step language (after_all history here.pieces)) (sym (drop-append-le (pieces_len here.pieces) text (b ∷ bs) (omega (arith, inside)))) ∙ here.longest.stands_last
 
-    stays : next_step language (after_all nothing here.pieces) (drop (pieces_len here.pieces) text) ≡ Fails here.found → outcome text ≡ outcome (text ++ (b ∷ bs))
+    near : IsNear history text (b ∷ bs) fault
+    near = by_keeps history (text ++ (b ∷ bs)) fault
+        (λ kept_it. λ tab margin far. both_ways _ ((kept history.before (text ++ (b ∷ bs)) (outcome_after history (text ++ (b ∷ bs))).lexemes fault kept_it).no_margin (and_parts (is_tab fault.node) _ tab).0) margin)
+        (λ lost. λ tab margin far. line_far text (b ∷ bs) fault (omega arith) (subst (λ (p : Passed). p.len ≤ length text) (passed_lost history (text ++ (b ∷ bs)) fault lost) less) tab far)
+
+    stays : next_step language (after_all history here.pieces) (drop (pieces_len here.pieces) text) ≡ Fails here.found → (outcome_after history text ≡ outcome_after history (text ++ (b ∷ bs))) × (history_after history text ≡ history_after history (text ++ (b ∷ bs)))
     stays e =
-        let reads = reading_shortened nothing text (b ∷ bs) here.pieces parts.1 here.stays.reads inside in
-        let found : (outcome text).fault ≡ Some fault =
-        ap (λ (o : Outcome). o.fault) (outcome_by text here.pieces (Fails here.found) (record { reads = reads; stands_last = e; no_piece = λ piece e. cc })) ∙ ap Some here.same in
-        sym (decided_faults_stay text (b ∷ bs) fault found is).0
+        let reads = reading_shortened history text (b ∷ bs) here.pieces parts.1 here.longest.reads inside in
+        let short = after_by history text here.pieces (Fails here.found) (record { reads = reads; stands_last = e; no_piece = λ piece e. cc }) in
+        let found : (outcome_after history text).fault ≡ Some fault = ap (λ (o : Outcome). o.fault) short.0 ∙ ap Some here.same in
+        let same = outcome_stays history text (b ∷ bs) fault starts parts.1 (stops_at history text fault found) parts.0 in
+        (sym same.0, sym same.1)
 
-    go : (next_step language (after_all nothing here.pieces) (drop (pieces_len here.pieces) text) ≡ Fails here.found) ⊎ (FirstBeyond (after_all nothing here.pieces).before (drop (pieces_len here.pieces) text) (b ∷ bs) here.found ⊎ LineBeyond (drop (pieces_len here.pieces) text) (b ∷ bs) here.found) → outcome text ≡ outcome (text ++ (b ∷ bs))
+    go : (next_step language (after_all history here.pieces) (drop (pieces_len here.pieces) text) ≡ Fails here.found) ⊎ (FirstBeyond (after_all history here.pieces).before (drop (pieces_len here.pieces) text) (b ∷ bs) here.found ⊎ LineBeyond (drop (pieces_len here.pieces) text) (b ∷ bs) here.found)
+        → (outcome_after history text ≡ outcome_after history (text ++ (b ∷ bs))) × (history_after history text ≡ history_after history (text ++ (b ∷ bs)))
     go (inl e) = stays e
-    go (inr (inl first)) = absurd (first_far text (b ∷ bs) fault (omega arith) less here inside first)
-    go (inr (inr next)) = absurd (after_far text (b ∷ bs) fault (omega arith) less here inside next)
+    go (inr (inl first)) = absurd (first_far history text (b ∷ bs) fault near here inside first)
+    go (inr (inr next)) = absurd (after_far history text (b ∷ bs) fault near here inside next)

@@ -1,16 +1,16 @@
 -- Worked texts that are lexed on after their faults, closed by computing.
-use Rattle.std.proofs.Common.{◌≡◌, ◌<◌, List, arith, length, refl, subst}
+use Rattle.std.proofs.Common.{◌≡◌, ◌<◌, List, arith, drop, length, refl, subst}
 use Rattle.std.proofs.lemmas.Bool.{both_ways}
 use Rattle.std.specs.Prelude.{⊤, [], ◌∷◌, IfSome, codes, true, false}
 use Rattle.starlark_grammar.proofs.Rows.Shapes.{all_definitions, at, single, utf8, Pass, Fail}
-use Rattle.starlark_grammar.specs.Reading.{outcome}
+use Rattle.starlark_grammar.specs.Reading.{History, history_after, nothing, outcome, outcome_after}
 use Rattle.starlark_grammar.specs.Tokens.{Fault, Lexeme, Spanned, Newline, Identifier, Indent, Dedent, Word, Comment, FStringStart, InvalidInput, InvalidTab, Indentation, UnfinishedStringLiteral, ReservedKeyword}
 use Rattle.starlark_grammar.specs.Words.{Text}
 use Rattle.starlark_grammar.specs.declared.class.Terminal.TheVariants as terminal
 use Rattle.starlark_grammar.specs.AfterFaults.{next_line, restart, stopped_at}
-use Rattle.starlark_grammar.specs.Found.{Cut, Empty, IsClosed, Kept, Lost, found, found_past, found_within, parted}
-use Rattle.starlark_grammar.specs.Joining.{begins_plainly, is_between_lines, is_decided, is_line_cut, without_last_newline}
-use Rattle.starlark_grammar.specs.Repairs.{keeps_line, repaired}
+use Rattle.starlark_grammar.specs.Found.{Cut, Empty, IsClosed, IsClosedAfter, Past, found, found_after, found_within, parted, passed}
+use Rattle.starlark_grammar.specs.Joining.{begins_plainly, is_between_lines, is_decided, is_line_cut, is_line_cut_after, without_last_newline}
+use Rattle.starlark_grammar.specs.KeptLines.{keeps_line}
 
 -- the text has these lexemes and these faults
 abbrev pub Recovers : Text → List Lexeme → List (Spanned Fault) → Type 0
@@ -18,7 +18,7 @@ Recovers text lexemes faults = parted (found text) ≡ record { lexemes = lexeme
 
 -- to unfold this is to unfold all that a row computes with
 unfoldable pub all_recovery : Type 0
-unfolding all_definitions next_line stopped_at restart keeps_line repaired found_within found_past found
+unfolding all_definitions next_line stopped_at restart keeps_line outcome_after history_after passed found_within found_after found
 all_recovery = ⊤
 
 -- no fault, faults that keep their lines, and others
@@ -51,14 +51,14 @@ rows_2 = (refl, refl, refl, refl, refl, refl, refl, refl)
 line_cuts : Pass is_line_cut
     (codes "x\n" ∷ codes "if x:\n  y\n" ∷ codes "if x:\n  y\n\n" ∷ codes "if x:\n  y\n # c\n" ∷
     codes "f(\n)\n" ∷ codes "# c\n" ∷ codes "\n" ∷ codes " x\r\n" ∷ [])
-unfolding all_definitions is_between_lines is_line_cut
+unfolding all_definitions history_after is_between_lines is_line_cut_after is_line_cut
 line_cuts = refl
 
 -- … and which aren't
 no_line_cuts : Fail is_line_cut
     (codes "x" ∷ [] ∷ codes "if x:\n  y" ∷ codes "if x:\n  y\n " ∷ codes "f(\n" ∷ codes "'''\n" ∷
     codes "f\"{x\n" ∷ codes "x\\\n" ∷ codes "x $\n" ∷ codes "# c" ∷ [])
-unfolding all_definitions is_between_lines is_line_cut
+unfolding all_definitions history_after is_between_lines is_line_cut_after is_line_cut
 no_line_cuts = refl
 
 -- the text without its closing `Newline` has these lexemes
@@ -118,40 +118,36 @@ closed_rows :
     × IsClosed (codes "f'a\nb\n")
     × IsClosed (codes "x\n\ty\n")
     × IsClosed (codes "$\n x\n")
-unfolding all_recovery is_between_lines is_line_cut is_decided
+unfolding all_recovery is_between_lines is_line_cut_after is_line_cut is_decided
 closed_rows = (
   Empty,
-  Cut (codes "x\n") refl,
-  Kept (codes "$\n") (at 0 (InvalidInput (codes "$")) 1) refl refl refl (Cut (codes ";\n") refl),
-  Lost (codes "'a\n") (at 0 UnfinishedStringLiteral 2) refl refl refl Empty,
-  Lost (codes "f'a\nb\n") (at 2 UnfinishedStringLiteral 4) refl refl refl (Cut (codes "b\n") refl),
-  Lost (codes "x\n\ty\n") (at 1 InvalidTab 1) refl refl refl Empty,
-  Kept (codes "$\n x\n") (at 0 (InvalidInput (codes "$")) 1) refl refl refl (Cut (codes ";\n x\n") refl),
+  Cut nothing (codes "x\n") refl,
+  Past nothing (codes "$\n") (at 0 (InvalidInput (codes "$")) 1) refl refl (Cut _ (codes "\n") refl),
+  Past nothing (codes "'a\n") (at 0 UnfinishedStringLiteral 2) refl refl Empty,
+  Past nothing (codes "f'a\nb\n") (at 2 UnfinishedStringLiteral 4) refl refl (Cut nothing (codes "b\n") refl),
+  Past nothing (codes "x\n\ty\n") (at 1 InvalidTab 1) refl refl Empty,
+  Past nothing (codes "$\n x\n") (at 0 (InvalidInput (codes "$")) 1) refl refl (Cut _ (codes "\n x\n") refl),
 )
 
 -- no cut between lines
-abbrev IsOpen : Text → Type 0
-IsOpen text = (0 < length text) × (is_line_cut text ≡ false)
+abbrev IsOpen : History → Text → Type 0
+IsOpen history text = (0 < length text) × (is_line_cut_after history text ≡ false)
 
 -- open by a fault that isn't decided, if there is one
-undecided_open : (text : Text) → IsOpen text → IfSome (outcome text).fault (λ fault. is_decided text fault ≡ false) → IsClosed text → ⊥
-undecided_open _ (some, uncut) undecided Empty = absurd (omega (arith, some))
-undecided_open _ (some, uncut) undecided (Cut text cut) = both_ways (is_line_cut text) uncut cut
-undecided_open _ (some, uncut) undecided (Kept text fault has keeps is rest) =
-    both_ways (is_decided text fault) (subst (λ first. IfSome first (λ other. is_decided text other ≡ false)) has undecided) is
-undecided_open _ (some, uncut) undecided (Lost text fault has loses is rest) =
+undecided_open : (history : History) (text : Text) → IsOpen history text → IfSome (outcome_after history text).fault (λ fault. is_decided text fault ≡ false) → IsClosedAfter history text → ⊥
+undecided_open _ _ (some, uncut) undecided Empty = absurd (omega (arith, some))
+undecided_open _ _ (some, uncut) undecided (Cut history text cut) = both_ways (is_line_cut_after history text) uncut cut
+undecided_open _ _ (some, uncut) undecided (Past history text fault has is rest) =
     both_ways (is_decided text fault) (subst (λ first. IfSome first (λ other. is_decided text other ≡ false)) has undecided) is
 
--- open by what is left open after a fault that keeps its line
-abbrev StaysOpen : Text → Spanned Fault → Type 0
-StaysOpen text fault = (keeps_line text (outcome text).lexemes fault ≡ true) × (IsClosed (repaired text fault) → ⊥)
+-- open by what is left after a fault
+abbrev StaysOpen : History → Text → Spanned Fault → Type 0
+StaysOpen history text fault = IsClosedAfter (passed history text fault).history (drop (passed history text fault).len text) → ⊥
 
-repaired_open : (text : Text) → IsOpen text → IfSome (outcome text).fault (StaysOpen text) → IsClosed text → ⊥
-repaired_open _ (some, uncut) stays Empty = absurd (omega (arith, some))
-repaired_open _ (some, uncut) stays (Cut text cut) = both_ways (is_line_cut text) uncut cut
-repaired_open _ (some, uncut) stays (Kept text fault has keeps is rest) = (subst (λ first. IfSome first (StaysOpen text)) has stays).1 rest
-repaired_open _ (some, uncut) stays (Lost text fault has loses is rest) =
-    both_ways (keeps_line text (outcome text).lexemes fault) loses (subst (λ first. IfSome first (StaysOpen text)) has stays).0
+rest_open : (history : History) (text : Text) → IsOpen history text → IfSome (outcome_after history text).fault (StaysOpen history text) → IsClosedAfter history text → ⊥
+rest_open _ _ (some, uncut) stays Empty = absurd (omega (arith, some))
+rest_open _ _ (some, uncut) stays (Cut history text cut) = both_ways (is_line_cut_after history text) uncut cut
+rest_open _ _ (some, uncut) stays (Past history text fault has is rest) = subst (λ first. IfSome first (StaysOpen history text)) has stays rest
 
 -- texts that aren't closed: by their end, and by a fault at their end …
 open_rows :
@@ -162,23 +158,23 @@ open_rows :
     × (IsClosed (codes "f'a\n") → ⊥)
     × (IsClosed (codes "f'a\\\n") → ⊥)
     × (IsClosed (codes "\"\"\"a\n") → ⊥)
-unfolding all_recovery is_between_lines is_line_cut is_decided
+unfolding all_recovery is_between_lines is_line_cut_after is_line_cut is_decided
 open_rows = (
-  undecided_open (codes "x") (omega arith, refl) tt,
-  undecided_open (codes "$") (omega arith, refl) refl,
-  undecided_open (codes "$\nx") (omega arith, refl) refl,
-  undecided_open (codes "$\nif") (omega arith, refl) refl,
-  undecided_open (codes "f'a\n") (omega arith, refl) refl,
-  undecided_open (codes "f'a\\\n") (omega arith, refl) refl,
-  undecided_open (codes "\"\"\"a\n") (omega arith, refl) refl,
+  undecided_open nothing (codes "x") (omega arith, refl) tt,
+  undecided_open nothing (codes "$") (omega arith, refl) refl,
+  undecided_open nothing (codes "$\nx") (omega arith, refl) refl,
+  undecided_open nothing (codes "$\nif") (omega arith, refl) refl,
+  undecided_open nothing (codes "f'a\n") (omega arith, refl) refl,
+  undecided_open nothing (codes "f'a\\\n") (omega arith, refl) refl,
+  undecided_open nothing (codes "\"\"\"a\n") (omega arith, refl) refl,
 )
 
 -- … and by brackets that are open after a fault that keeps its line
 brackets_stay_open :
     (IsClosed (codes "$\n(\n") → ⊥)
     × (IsClosed (codes "(\n$\nx\n") → ⊥)
-unfolding all_recovery is_between_lines is_line_cut is_decided
+unfolding all_recovery is_between_lines is_line_cut_after is_line_cut is_decided
 brackets_stay_open = (
-  repaired_open (codes "$\n(\n") (omega arith, refl) (refl, undecided_open (codes ";\n(\n") (omega arith, refl) tt),
-  repaired_open (codes "(\n$\nx\n") (omega arith, refl) (refl, undecided_open (codes "(\n;\nx\n") (omega arith, refl) tt),
+  rest_open nothing (codes "$\n(\n") (omega arith, refl) (undecided_open _ (codes "\n(\n") (omega arith, refl) tt),
+  rest_open nothing (codes "(\n$\nx\n") (omega arith, refl) (undecided_open _ (codes "\nx\n") (omega arith, refl) tt),
 )

@@ -11,7 +11,7 @@ use Rattle.starlark_grammar.specs.Items.{simple_escapes, escape, raw_pair, found
 use Rattle.starlark_grammar.specs.Depths.{is_balanced, open_fstring, braces, depth, mode_after}
 use Rattle.starlark_grammar.specs.Margins.{lines, margin_of, open_widths, fits, indentation}
 use Rattle.starlark_grammar.specs.Pieces.{margin_step, chunk, step_at}
-use Rattle.starlark_grammar.specs.Reading.{after, situation, next_step, read_from, read, outcome_in, outcome}
+use Rattle.starlark_grammar.specs.Reading.{read_after, after, situation, next_step, read_from, read, outcome_in, outcome}
 
 abbrev pub at : {A : Type 0} → ℕ → A → ℕ → Spanned A
 at begin node end = record { begin = begin; node = node; end = end }
@@ -59,5 +59,5 @@ Fail test texts = list_any test texts ≡ false
 
 -- What a row computes with: to unfold this is to unfold each of them.
 unfoldable pub all_definitions : Type 0
-unfolding encode openers line_ends symbols names patterns language class_in longest_front integer_of simple_escapes escape raw_pair found_at body_from body_at is_balanced open_fstring braces depth mode_after lines margin_of open_widths fits indentation margin_step chunk step_at after situation next_step read_from read outcome_in outcome
+unfolding encode openers line_ends symbols names patterns language class_in longest_front integer_of simple_escapes escape raw_pair found_at body_from body_at is_balanced open_fstring braces depth mode_after lines margin_of open_widths fits indentation margin_step chunk step_at after situation next_step read_from read_after read outcome_in outcome
 all_definitions = ⊤

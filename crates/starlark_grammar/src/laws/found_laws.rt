@@ -1,19 +1,17 @@
 //! Laws of all that is found in a text that is lexed on after its faults. Each function here has a law
 //! as its contract and nothing to do; programs don't call them.
 
-ghost use Rattle.starlark_grammar.specs.FoundLaws.{ClosedJoin, FaultlessFound, FoundAfterLines, FoundAfterRepairs, FoundFaultsInOrder, FoundJoins, FoundLexemesInOrder, LastNewlinesClose, NewlinesClose, NewlinesCutFound};
+ghost use Rattle.starlark_grammar.specs.FoundLaws.{ClosedJoin, FaultlessFound, FoundAfterFaults, FoundFaultsInOrder, FoundJoins, FoundLexemesInOrder, LastNewlinesClose, NewlinesClose, NewlinesCutFound, OutcomeAfterNothing};
 
-/// In a text are found its lexemes, then its fault if it has one, and then what comes after that.
-///
-/// Where the fault keeps its line, that is what the repaired text has after the repair. Else it is
-/// what the text has from the next line on.
+/// In a text are found its lexemes, then its fault if it has one, and then what is found in the rest
+/// after that, by what was read before it. What is read after nothing is the text's outcome.
 ///
 /// A closed text and one after it that begins plainly are lexed each by itself, and two closed texts
 /// are one. All lexemes lie in the text, in order, and so do all faults.
 pub fn found_in_order()
     ensures faultless { FaultlessFound }
-    ensures repairs { FoundAfterRepairs }
-    ensures lines { FoundAfterLines }
+    ensures after { FoundAfterFaults }
+    ensures outcome { OutcomeAfterNothing }
     ensures joins { FoundJoins }
     ensures closed { ClosedJoin }
     ensures lexemes { FoundLexemesInOrder }

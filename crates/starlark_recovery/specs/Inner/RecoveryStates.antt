@@ -1,20 +1,21 @@
 -- The state of a lexer that goes on after faults, and what is left to it.
-use Rattle.std.specs.Prelude.{◌≡◌, ◌≤◌, ◌<◌, ◌^◌, ◌+◌, ◌==◌, ◌&&◌, ◌||◌, ℕ, zero, suc, Bool, true, false, List, [], ◌∷◌, map, length, drop, take, if◌then◌else◌, Option, None, Some, IfSome, Result}
-use Rattle.std.specs.List.{AllByRecursion}
+use Rattle.std.specs.Prelude.{◌≡◌, ◌≤◌, ◌<◌, ◌^◌, ◌+◌, ◌==◌, ◌&&◌, ◌||◌, ℕ, zero, suc, Bool, true, false, List, [], ◌∷◌, map, length, drop, take, if◌then◌else◌, Option, None, Some, IfSome, Result, ⊤}
 use Rattle.std.specs.Str.{IsCharBoundary, IsUtf8}
 use Rattle.starlark_base.specs.Diagnostics.{Diagnosed}
-use Rattle.starlark_grammar.specs.Found.{found_after, found_past}
-use Rattle.starlark_grammar.specs.Reading.{outcome}
-use Rattle.starlark_grammar.specs.Repairs.{ends_by_comment, keeps_line}
+use Rattle.starlark_grammar.specs.Found as items
+use Rattle.starlark_grammar.specs.Found.{Given, Item, Refused, found_after, moved_item}
+use Rattle.starlark_grammar.specs.KeptLines.{ends_by_comment, keeps_line}
+use Rattle.starlark_grammar.specs.Margins.{open_widths}
+use Rattle.starlark_grammar.specs.Pieces.{Other}
 use Rattle.starlark_grammar.specs.Tokens as grammar
-use Rattle.starlark_grammar.specs.Tokens.{Fault, Lexeme, Spanned, moved}
+use Rattle.starlark_grammar.specs.Tokens.{Fault, Spanned, moved}
 use Rattle.starlark_grammar.specs.Words.{Text}
 use Rattle.starlark_errors.specs.Exceptions.{IsException}
-use Rattle.starlark_lexemes.specs.Inner.LexerStates.{AreReadsTo, Course, HasFound, IsAtFault, IsLexingIn}
+use Rattle.starlark_lexemes.specs.Inner.LexerStates.{AreReadsTo, Course, HasFound, IsAtFault, IsLexingIn, course_of}
 use Rattle.starlark_lexemes.specs.Inner.RawItems.{OffsetsHold}
-use Rattle.starlark_lexemes.specs.Lexer.{Given, LexerItem, Refused, is_ended_by, yielded_by}
-use Rattle.starlark_reader.specs.Inner.Reader.{Origin, Start, history_of, history_since}
-use Rattle.starlark_recovery.specs.RecoveringLexer.{AreReadsOn, RecoveringView, all_items, most_reads_on, shown_item}
+use Rattle.starlark_lexemes.specs.Lexer.{LexerItem, is_ended_by, yielded_by}
+use Rattle.starlark_reader.specs.Inner.Reader.{From, Origin, Start, begin_of, history_before}
+use Rattle.starlark_recovery.specs.RecoveringLexer.{AreReadsOn, RecoveringView, most_reads_on, shown_item}
 use Rattle.starlark_errors.specs.declared.error.kinds.ErrorKind.{ErrorKind}
 use Rattle.starlark_recovery.specs.declared.recovery_state.RecoveryState.{RecoveryState}
 use Rattle.starlark_text.specs.declared.or_memory.OrMemory.{OrMemory}
@@ -25,20 +26,12 @@ use Rattle.starlark_token.specs.declared.lexeme_error.LexemeError.{LexemeError}
 use Rattle.starlark_token.specs.declared.tokens.Token.{Token}
 use Rattle.starlark_words.specs.Inner.Reads.{more_reads}
 
--- an item, so many bytes later
-abbrev pub moved_item : ℕ → LexerItem → LexerItem
-moved_item n (Given lexeme) = Given (moved n lexeme)
-moved_item n (Refused fault) = Refused (moved n fault)
-
--- the items of a text after so many of its lexemes, and those after its fault
-abbrev pub items_past : ℕ → Text → List LexerItem
-items_past passed text = map shown_item (found_past passed text)
-
-abbrev pub items_after : Text → Spanned Fault → List LexerItem
-items_after text fault = map shown_item (found_after text fault (keeps_line text (outcome text).lexemes fault) found_past)
+-- the items of a text from where its reading began on
+abbrev pub items_since : Origin → Text → List Item
+items_since origin text = map (moved_item (begin_of origin)) (found_after (history_before origin) (drop (begin_of origin) text))
 
 -- the items after so many faults
-abbrev pub after_faults : ℕ → List LexerItem → List LexerItem
+abbrev pub after_faults : ℕ → List Item → List Item
 after_faults zero items = items
 after_faults (suc n) [] = []
 after_faults (suc n) (Given lexeme ∷ items) = after_faults (suc n) items
@@ -50,7 +43,7 @@ part_of state = drop state.begin state.text.now
 
 -- the items that are left: those after the faults that were told, but for the lexemes that were yielded since
 abbrev pub left_of : RecoveryState → List LexerItem
-left_of state = if state.state.has_ended then [] else drop state.state.yielded_count (after_faults state.fault_count (all_items state.text.now))
+left_of state = if state.state.has_ended then [] else map shown_item (drop state.state.yielded_count (after_faults state.fault_count (items.found state.text.now)))
 
 -- the lexer as its users see it
 abbrev pub view_of : RecoveryState → RecoveringView
@@ -85,32 +78,22 @@ pub record HasReadBefore (begin to fault_count reads : ℕ) : Type 0 where
   pub least : fault_count ≤ reads
   pub most : reads ≤ most_reads_on begin fault_count
 
--- The part with all repairs so far, how many of its lexemes are before the end of the last one, and where reading began
--- after that. No code has it.
-pub record Mended : Type 0 where
-  pub text : Text
-  pub passed : ℕ
-  pub origin : Origin
+-- lexing began again after a fault that keeps its line
+abbrev pub IsBegun : Origin → Type 0
+IsBegun Start = ⊤
+IsBegun (From history at) = (0 < at) × (history.before ≡ Other)
 
--- what is lexed since the last fault
-abbrev pub course_of : Mended → Course
-course_of mended = record { origin = mended.origin; lexemes = drop mended.passed (outcome mended.text).lexemes; fault = (outcome mended.text).fault }
+-- What is left of a part: it is in the part, each byte before it opened one width at most, and a fault of it is in a part
+-- that has more bytes.
+pub record IsRest (part : Text) (origin : Origin) : Type 0 where
+  pub begun : IsBegun origin
+  pub inside : begin_of origin ≤ length part
+  pub widths : length (open_widths (history_before origin).widths) ≤ begin_of origin
+  pub fault : IfSome (course_of origin part).fault (λ fault. begin_of origin < length part)
 
 -- whether a fault of it keeps its line
-abbrev pub mended_keeps : Mended → Spanned Fault → Bool
-mended_keeps mended fault = keeps_line mended.text (outcome mended.text).lexemes fault
-
--- Repairs of a part are before byte `to`, and all that is left is from there on.
-pub record IsMended (part : Text) (mended : Mended) (to : ℕ) : Type 0 where
-  pub inside : to ≤ length part
-  pub same : drop to mended.text ≡ drop to part
-  pub len : length mended.text ≡ length part
-  pub utf8 : IsUtf8 mended.text
-  pub passed : mended.passed ≤ length (outcome mended.text).lexemes
-  pub lexemes : AllByRecursion (λ (lexeme : Lexeme). to ≤ lexeme.begin) (course_of mended).lexemes
-  pub fault : IfSome (outcome mended.text).fault (λ fault. (to ≤ fault.begin) × (to < length part))
-  pub history : history_since mended.origin part ≡ history_of mended.text
-  pub start : mended.origin ≡ Start → mended.text ≡ part
+abbrev pub rest_keeps : Origin → Text → Spanned Fault → Bool
+rest_keeps origin part fault = keeps_line (history_before origin).before part (course_of origin part).lexemes fault
 
 -- the text is short, and the part, which the reader has, begins between characters
 pub record IsPart (state : RecoveryState) : Type 0 where
@@ -120,19 +103,18 @@ pub record IsPart (state : RecoveryState) : Type 0 where
   pub own : state.state.reader.text.now ≡ part_of state
 
 -- what is left, by what was told
-abbrev pub IsLeftOf : RecoveryState → Mended → Type 0
-IsLeftOf state mended = after_faults state.fault_count (all_items state.text.now) ≡ map (moved_item state.begin) (items_past mended.passed mended.text)
+abbrev pub IsLeftOf : RecoveryState → Origin → Type 0
+IsLeftOf state origin = after_faults state.fault_count (items.found state.text.now) ≡ map (moved_item state.begin) (items_since origin (part_of state))
 
 -- lexing goes on in the part
 pub record IsOnward (state : RecoveryState) : Type 0 where
-  pub mended : Mended
-  pub to : ℕ
-  pub is_mended : IsMended (part_of state) mended to
-  pub lexing : IsLexingIn (course_of mended) (part_of state) state.state
-  pub left : IsLeftOf state mended
-  pub comment : (at : ℕ) → ends_by_comment at (take (mended.passed + state.state.yielded_count) (outcome mended.text).lexemes) ≡ is_end state.comment state.state.yielded_count at
+  pub origin : Origin
+  pub rest : IsRest (part_of state) origin
+  pub lexing : IsLexingIn (course_of origin (part_of state)) (part_of state) state.state
+  pub left : IsLeftOf state origin
+  pub comment : (at : ℕ) → ends_by_comment at (take state.state.yielded_count (course_of origin (part_of state)).lexemes) ≡ is_end state.comment state.state.yielded_count at
   pub earlier : IfSome state.comment (λ comment. comment.0 ≤ state.state.yielded_count)
-  pub reads : HasReadBefore state.begin to state.fault_count state.earlier_reads
+  pub reads : HasReadBefore state.begin (begin_of origin) state.fault_count state.earlier_reads
 
 -- a lexer that goes on after faults, unless out of memory has ended it
 pub record IsRecovering (state : RecoveryState) : Type 0 where
@@ -157,14 +139,13 @@ pub record IsAdvanced (before : RecoveryState) (item : Option (Result (ℕ × To
 pub record IsStopped (state : RecoveryState) (fault : Spanned Fault) : Type 0 where
   pub is_part : IsPart state
   pub lexing : (course : Course) × IsLexingIn course (part_of state) state.state
-  pub mended : Mended
-  pub to : ℕ
-  pub is_mended : IsMended (part_of state) mended to
-  pub here : IsAtFault (course_of mended) (part_of state) fault state.state
+  pub origin : Origin
+  pub rest : IsRest (part_of state) origin
+  pub here : IsAtFault (course_of origin (part_of state)) (part_of state) fault state.state
   pub ended : state.state.has_ended ≡ true
-  pub left : IsLeftOf state mended
-  pub comment : (at : ℕ) → ends_by_comment at (outcome mended.text).lexemes ≡ is_end state.comment (length (course_of mended).lexemes) at
-  pub reads : HasReadBefore state.begin to state.fault_count state.earlier_reads
+  pub left : IsLeftOf state origin
+  pub comment : (at : ℕ) → ends_by_comment at (course_of origin (part_of state)).lexemes ≡ is_end state.comment (length (course_of origin (part_of state)).lexemes) at
+  pub reads : HasReadBefore state.begin (begin_of origin) state.fault_count state.earlier_reads
   pub paid : AreReadsTo (part_of state) fault state.state.reader.reads
   pub within : IsWithin (part_of state) fault.begin fault.end
   pub begins : IsCharBoundary (part_of state) fault.begin

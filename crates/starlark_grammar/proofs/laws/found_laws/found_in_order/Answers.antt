@@ -1,17 +1,18 @@
 use Rattle.starlark_grammar.proofs.Found.ClosedTexts.{closed_join}
-use Rattle.starlark_grammar.proofs.Found.FoundItems.{faultless_found, found_after_lines, found_after_repairs}
+use Rattle.starlark_grammar.proofs.Found.FoundItems.{faultless_found, found_after_faults}
 use Rattle.starlark_grammar.proofs.Found.JoinedTexts.{found_joins}
 use Rattle.starlark_grammar.proofs.Found.Order.{found_faults_in_order, found_lexemes_in_order}
+use Rattle.starlark_grammar.proofs.Reading.Onward.{outcome_after_nothing}
 use Rattle.starlark_grammar.proofs.laws.found_laws.found_in_order.Goals as goal
 
 pub returns-clause-faultless : goal.returns-clause-faultless
 returns-clause-faultless c = faultless_found
 
-pub returns-clause-repairs : goal.returns-clause-repairs
-returns-clause-repairs c = found_after_repairs
+pub returns-clause-after : goal.returns-clause-after
+returns-clause-after c = found_after_faults
 
-pub returns-clause-lines : goal.returns-clause-lines
-returns-clause-lines c = found_after_lines
+pub returns-clause-outcome : goal.returns-clause-outcome
+returns-clause-outcome c = outcome_after_nothing
 
 pub returns-clause-joins : goal.returns-clause-joins
 returns-clause-joins c = found_joins

@@ -1,4 +1,4 @@
-use Rattle.std.proofs.Common.{◌≡◌, ◌+◌, ap, refl, subst, sym, ◌∙◌, Err, Ok, Option, Result, Some, rules, ℕ}
+use Rattle.std.proofs.Common.{◌≡◌, ◌+◌, ap, refl, subst, sym, ◌∙◌, Err, Ok, Option, Result, Some, ℕ}
 use Rattle.starlark_recovery.specs.Inner.RecoveryStates.{IsAdvanced, IsRecovering, IsStopped, last_comment, view_of}
 use Rattle.starlark_recovery.specs.RecoveringLexer.{IsNextOf}
 use Rattle.starlark_recovery.specs.declared.recovery_state.RecoveryState.{RecoveryState}

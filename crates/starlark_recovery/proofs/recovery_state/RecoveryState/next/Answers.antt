@@ -1,4 +1,3 @@
-use Rattle.std.proofs.Common.{rules}
 use Rattle.starlark_recovery.specs.Inner.RecoveryStates.{IsAdvanced}
 use Rattle.starlark_recovery.proofs.RecoverySteps.{advanced, lexing_here, nothing_next, nothing_recovering}
 use Rattle.starlark_recovery.proofs.recovery_state.RecoveryState.next.Goals as goal

@@ -1,4 +1,4 @@
-use Rattle.std.proofs.Common.{ap, arith, subst, sym, ◌∙◌}
+use Rattle.std.proofs.Common.{ap, arith, ◌∙◌}
 use Rattle.starlark_lexemes.specs.Inner.LexerStates.{StateView}
 use Rattle.starlark_recovery.proofs.RecoveryStates.{lost_on}
 use Rattle.starlark_recovery.proofs.recovery_state.RecoveryState.restart.Goals as goal

@@ -1,4 +1,4 @@
--- The place of a fault that keeps its line: it is in code, and no LF and no `=`.
+-- The place of a fault that keeps its line: it is in code, and has a byte.
 use Rattle.std.proofs.Common.{◌≡◌, ℕ, zero, suc, ◌+◌, ◌≤◌, Bool, true, false, not, List, [], ◌∷◌, length, take, drop, refl, ap, ◌∙◌, sym, subst, Option, Some, None, arith, ◌||◌}
 use Rattle.std.specs.Prelude.{◌&&◌, ◌==◌, if◌then◌else◌, nat_eq, codes}
 use Rattle.std.specs.Char.{is_ascii_digit}
@@ -24,28 +24,13 @@ use Rattle.starlark_grammar.specs.Reading.{History, situation, next_step}
 use Rattle.starlark_grammar.proofs.Words.Classes.{language_all_fit, patterns_all_fit, RowsFit}
 use Rattle.starlark_grammar.proofs.Words.Fronts.{front_absent, front_sound}
 use Rattle.starlark_grammar.proofs.Reading.Steps.{is_nothing}
-use Rattle.starlark_grammar.proofs.Repairs.Pieces.{IsReplaceable}
-use Rattle.starlark_grammar.proofs.Repairs.Semicolons.{is_in_text}
 use Rattle.starlark_grammar.proofs.Literals.LiteralSteps.{escape_holds}
-
--- whether a fault is that of a character
-abbrev pub is_invalid : Fault → Bool
-is_invalid (InvalidInput text) = true
-is_invalid fault = false
 
 -- Words that are faults
 
-abbrev pub is_replaceable : ℕ → Bool
-is_replaceable b = not (is_lf b) && not (b == 61)
-
-abbrev is_replaceable_in_line : ℕ → Bool
-is_replaceable_in_line b = is_replaceable b && is_in_line b
-
 -- what the words of faults and line ends begin with
 abbrev begins_so : Class → Text → Bool
-begins_so Tabs word = begins is_replaceable_in_line word && begins (nat_eq 9) word
-begins_so Reserved word = begins is_replaceable_in_line word
-begins_so Decimal word = begins is_replaceable_in_line word
+begins_so Tabs word = begins (nat_eq 9) word
 begins_so LineEnd word = begins_with_line_end word
 begins_so class word = true
 
@@ -53,18 +38,9 @@ rows_begin : RowsFit begins_so
 unfolding openers line_ends symbols names
 rows_begin = (refl, refl, refl, refl)
 
-tabs_begin : (word : Text) → is_run (nat_eq 9) word ≡ true → (begins is_replaceable_in_line word && begins (nat_eq 9) word) ≡ true
+tabs_begin : (word : Text) → is_run (nat_eq 9) word ≡ true → begins (nat_eq 9) word ≡ true
 tabs_begin [] h = cc
-tabs_begin (b ∷ bs) h =
-    let same : 9 ≡ b = eqb-true 9 b (and_parts (nat_eq 9 b) (list_all (nat_eq 9) bs) h).0 in
-    subst (λ c. (is_replaceable_in_line c && nat_eq 9 c) ≡ true) same refl
-
-digit_replaceable : (b : ℕ) → is_ascii_digit b ≡ true → is_replaceable_in_line b ≡ true
-digit_replaceable b h = grind (arith, nat_tests)
-
-digits_begin : (word : Text) → is_run is_ascii_digit word ≡ true → begins is_replaceable_in_line word ≡ true
-digits_begin [] h = cc
-digits_begin (b ∷ bs) h = digit_replaceable b (and_parts (is_ascii_digit b) (list_all is_ascii_digit bs) h).0
+tabs_begin (b ∷ bs) h = (and_parts (nat_eq 9 b) (list_all (nat_eq 9) bs) h).0
 
 patterns_begin : (word : Text) (class : Class) → class_in patterns word ≡ Some class → begins_so class word ≡ true
 patterns_begin word =
@@ -73,7 +49,7 @@ patterns_begin word =
     (λ h. refl)
     (tabs_begin word)
     (λ h. refl)
-    (digits_begin word)
+    (λ h. refl)
     (λ h. refl)
     (λ h. refl)
     (λ h. refl)
@@ -182,28 +158,23 @@ margin_begin len lexemes levels margin = go (not (is_content margin.remainder)) 
     go false false true first last end = refl
     go false false false first last end = refl
 
+abbrev pub is_in_text : Mode → Bool
+is_in_text (InText opening) = true
+is_in_text mode = false
+
+-- what a word's fault is like
+pub record WordFault (first : ℕ) (fault : Spanned Fault) : Type 0 where
+  pub begins : fault.begin ≡ 0
+  pub some : is_tab fault.node ≡ false → 1 ≤ fault.end
+  pub tab : is_tab fault.node ≡ true → (first ≡ 9) × (fault.end ≡ 0)
+
 -- A fault that may keep its line, after a history: where it is, and how long.
 pub record CodeFault (history : History) (text : Text) (fault : Spanned Fault) : Type 0 where
   pub first : ℕ
   pub rest : Text
   pub same : text ≡ first ∷ rest
-  pub replaceable : IsReplaceable first
-  pub line : is_invalid fault.node ≡ false → is_in_line first ≡ true
   pub in_code : is_in_text (mode_after history.tokens) ≡ false
-  pub begins : fault.begin ≡ 0
-  pub some : is_tab fault.node ≡ false → 1 ≤ fault.end
-  pub tab : is_tab fault.node ≡ true → first ≡ 9
-
--- what a word's fault is like
-record WordFault (first : ℕ) (fault : Spanned Fault) : Type 0 where
-  pub replaceable : is_replaceable first ≡ true
-  pub line : is_invalid fault.node ≡ false → is_in_line first ≡ true
-  pub begins : fault.begin ≡ 0
-  pub some : is_tab fault.node ≡ false → 1 ≤ fault.end
-  pub tab : is_tab fault.node ≡ true → first ≡ 9
-
-in_parts : (b : ℕ) → is_replaceable_in_line b ≡ true → (is_replaceable b ≡ true) × (is_in_line b ≡ true)
-in_parts b h = and_parts (is_replaceable b) (is_in_line b) h
+  pub word : WordFault first fault
 
 lost : (step : Step) (fault : Spanned Fault) → step ≡ Fails fault → may_keep fault.node ≡ true → step_keeps step ≡ false → {A : Type 0} → A
 lost step fault e keeps none = let some = keeps_of step fault e keeps in cc
@@ -211,19 +182,18 @@ lost step fault e keeps none = let some = keeps_of step fault e keeps in cc
 word_fault : (s : Situation) (class : Class) (n b : ℕ) (bs remainder : Text) (fault : Spanned Fault) → 1 ≤ length (take n (b ∷ bs)) → begins_so class (take n (b ∷ bs)) ≡ true → word_step s class (take n (b ∷ bs)) remainder ≡ Fails fault → may_keep fault.node ≡ true
     → (is_tab fault.node ≡ true → fault.begin ≡ 0 → begins_with_line_end (b ∷ bs) ≡ false) → WordFault b fault
 word_fault s Tabs n b bs remainder fault some fits e keeps no_margin =
-    let parts = and_parts (begins is_replaceable_in_line (take n (b ∷ bs))) (begins (nat_eq 9) (take n (b ∷ bs))) fits in
     let same : record { begin = 0; node = InvalidTab; end = 0 } ≡ fault = cc in
-    let first : 9 ≡ b = eqb-true 9 b (begins_front (nat_eq 9) n b bs parts.1) in
-    subst (λ (fault : Spanned Fault). WordFault b fault) same (record { replaceable = (in_parts b (begins_front is_replaceable_in_line n b bs parts.0)).0; line = λ valid. (in_parts b (begins_front is_replaceable_in_line n b bs parts.0)).1; begins = refl; some = λ other. cc; tab = λ tab. sym first })
+    let first : 9 ≡ b = eqb-true 9 b (begins_front (nat_eq 9) n b bs fits) in
+    subst (λ (fault : Spanned Fault). WordFault b fault) same (record { begins = refl; some = λ other. cc; tab = λ tab. (sym first, refl) })
 word_fault s Reserved n b bs remainder fault some fits e keeps no_margin =
     let same : record { begin = 0; node = ReservedKeyword (take n (b ∷ bs)); end = length (take n (b ∷ bs)) } ≡ fault = cc in
-    subst (λ (fault : Spanned Fault). WordFault b fault) same (record { replaceable = (in_parts b (begins_front is_replaceable_in_line n b bs fits)).0; line = λ valid. (in_parts b (begins_front is_replaceable_in_line n b bs fits)).1; begins = refl; some = λ other. some; tab = λ tab. cc })
+    subst (λ (fault : Spanned Fault). WordFault b fault) same (record { begins = refl; some = λ other. some; tab = λ tab. cc })
 word_fault s Decimal n b bs remainder fault some fits e keeps no_margin = go (starts_zero (take n (b ∷ bs))) e
   where
     go : (zeroes : Bool) → (if zeroes then Fails (record { begin = 0; node = StartsZero (take n (b ∷ bs)); end = length (take n (b ∷ bs)) }) else token (length (take n (b ∷ bs))) (Int (integer_of 10 (take n (b ∷ bs))))) ≡ Fails fault → WordFault b fault
     go true e =
         let same : record { begin = 0; node = StartsZero (take n (b ∷ bs)); end = length (take n (b ∷ bs)) } ≡ fault = cc in
-        subst (λ (fault : Spanned Fault). WordFault b fault) same (record { replaceable = (in_parts b (begins_front is_replaceable_in_line n b bs fits)).0; line = λ valid. (in_parts b (begins_front is_replaceable_in_line n b bs fits)).1; begins = refl; some = λ other. some; tab = λ tab. cc })
+        subst (λ (fault : Spanned Fault). WordFault b fault) same (record { begins = refl; some = λ other. some; tab = λ tab. cc })
     go false e = cc
 word_fault s LineEnd n b bs remainder fault some fits e keeps no_margin = go (counts s.mode s.is_balanced) e
   where
@@ -244,30 +214,11 @@ word_fault s Binary n b bs remainder fault some fits e keeps no_margin = cc
 word_fault s Float n b bs remainder fault some fits e keeps no_margin = cc
 word_fault s (Fixed terminal) n b bs remainder fault some fits e keeps no_margin = cc
 
--- bytes that are words
-feed_is_word : class_in language (10 ∷ []) ≡ None → ⊥
-unfolding class_in language openers line_ends symbols names patterns
-feed_is_word e = cc
-
-equal_is_word : class_in language (61 ∷ []) ≡ None → ⊥
-unfolding class_in language openers line_ends symbols names patterns
-equal_is_word e = cc
-
-no_word_replaceable : (b : ℕ) → class_in language (b ∷ []) ≡ None → is_replaceable b ≡ true
-no_word_replaceable b e = go (is_lf b) (b == 61) refl refl
-  where
-    go : (feed equal : Bool) → is_lf b ≡ feed → (b == 61) ≡ equal → (not feed && not equal) ≡ true
-    go true equal f g = absurd (feed_is_word (subst (λ c. class_in language (c ∷ []) ≡ None) (eqb-true b 10 f) e))
-    go false true f g = absurd (equal_is_word (subst (λ c. class_in language (c ∷ []) ≡ None) (eqb-true b 61 g) e))
-    go false false f g = refl
-
 front_fault : (s : Situation) (b : ℕ) (bs : Text) (found : Option (Class × ℕ)) (fault : Spanned Fault) → longest_front (class_in language) (b ∷ bs) ≡ found → front_step s (b ∷ bs) found ≡ Fails fault → may_keep fault.node ≡ true
     → (is_tab fault.node ≡ true → fault.begin ≡ 0 → begins_with_line_end (b ∷ bs) ≡ false) → WordFault b fault
 front_fault s b bs None fault found e keeps no_margin =
     let same : record { begin = 0; node = InvalidInput (first_character (b ∷ bs)); end = length (first_character (b ∷ bs)) } ≡ fault = cc in
     subst (λ (fault : Spanned Fault). WordFault b fault) same (record {
-      replaceable = no_word_replaceable b (front_absent (class_in language) (b ∷ bs) found 1 (omega arith) (omega arith));
-      line = λ valid. cc;
       begins = refl;
       some = λ other. omega arith;
       tab = λ tab. cc;
@@ -289,15 +240,8 @@ pub code_fault : (history : History) (text : Text) (fault : Spanned Fault) → i
 unfolding next_step situation step_at chunk
 code_fault history text fault some e keeps no_margin = before history.before some e
   where
-    parts : (b : ℕ) → is_replaceable b ≡ true → IsReplaceable b
-    parts b h = let both = and_parts (not (is_lf b)) (not (b == 61)) h in (unnot (is_lf b) both.0, unnot (b == 61) both.1)
-      where
-        unnot : (test : Bool) → not test ≡ true → test ≡ false
-        unnot true h = cc
-        unnot false h = refl
-
     made : is_in_text (mode_after history.tokens) ≡ false → (b : ℕ) × ((bs : Text) × ((text ≡ b ∷ bs) × WordFault b fault)) → CodeFault history text fault
-    made code (b, (bs, (same, found))) = record { first = b; rest = bs; same = same; replaceable = parts b found.replaceable; line = found.line; in_code = code; begins = found.begins; some = found.some; tab = found.tab }
+    made code (b, (bs, (same, found))) = record { first = b; rest = bs; same = same; in_code = code; word = found }
 
     at : (mode : Mode) → is_in_text (mode_after history.tokens) ≡ is_in_text mode → by_mode language (situation history) mode text ≡ Fails fault → CodeFault history text fault
     at (InText opening) same e = lost _ fault e keeps (chunk_lost opening text (body_at (record { kind = OfFString; opening = opening }) text) _)

@@ -31,7 +31,7 @@ open_rows = (refl, refl, refl)
 -- an open literal, also after one that does
 other_rows :
     Recovers (codes "\tx") (at 2 Newline 2 ∷ []) (at 0 InvalidTab 0 ∷ [])
-    × Recovers (codes "x#c\r") (at 0 (Identifier (codes "x")) 1 ∷ at 1 (Comment (codes "c")) 3 ∷ at 4 Newline 4 ∷ []) (at 3 (InvalidInput (codes "\r")) 4 ∷ [])
+    × Recovers (codes "x#c\ry\nz") (at 0 (Identifier (codes "x")) 1 ∷ at 1 (Comment (codes "c")) 3 ∷ at 6 (Identifier (codes "z")) 7 ∷ at 7 Newline 7 ∷ []) (at 3 (InvalidInput (codes "\r")) 4 ∷ [])
     × Recovers (codes "f'}'") (at 0 (FStringStart (record { is_raw = false; quote = single; is_triple = false })) 2 ∷ at 4 Newline 4 ∷ []) (at 2 (InvalidInput (codes "}")) 3 ∷ [])
     × Recovers (codes "$'a") (at 3 Newline 3 ∷ []) (at 0 (InvalidInput (codes "$")) 1 ∷ at 1 UnfinishedStringLiteral 3 ∷ [])
     × Recovers (codes "($'a\n$x") (at 0 (Word terminal.OpeningRound) 1 ∷ at 6 (Identifier (codes "x")) 7 ∷ at 7 Newline 7 ∷ []) (at 1 (InvalidInput (codes "$")) 2 ∷ at 2 UnfinishedStringLiteral 4 ∷ at 5 (InvalidInput (codes "$")) 6 ∷ [])

@@ -1,9 +1,9 @@
-//! Which faults keep their lines, and where their repairs end.
+//! Which faults keep their lines, and where lexing goes on after these.
 
 ghost use Rattle.std.specs.Prelude.{◌≡◌, ◌≤◌, codes, length, nat_eq};
 ghost use Rattle.std.specs.List.{prefix_len};
 ghost use Rattle.std.specs.Str.{bytes_eq};
-ghost use Rattle.starlark_grammar.specs.Repairs as spec;
+ghost use Rattle.starlark_grammar.specs.KeptLines as spec;
 ghost use Rattle.starlark_grammar.specs.Margins.{begins_with_line_end};
 ghost use Rattle.starlark_grammar.specs.Tokens.{Fault, Spanned};
 ghost use Rattle.starlark_recovery.specs.Inner.Passed.{error_keeps_line};
@@ -54,11 +54,11 @@ fn tabs_len(text: &[u8]) -> usize
     text.iter().take_while(|byte| **byte == b'\t').count()
 }
 
-/// Offset where the repair of a fault ends. `is_tab` says whether its error is `InvalidTab`: then the
-/// repair takes all tabs from there on. The caller has to count the reads.
-pub(crate) fn repair_end(text: &str, begin: usize, end: usize, is_tab: bool) -> usize
+/// Offset where lexing goes on after a fault that keeps its line. `is_tab` says whether its error is
+/// `InvalidTab`: then all tabs from there on are passed. The caller has to count the reads.
+pub(crate) fn passed_end(text: &str, begin: usize, end: usize, is_tab: bool) -> usize
     requires { begin ≤ length text.now }
-    ensures { (fault : Spanned Fault) → IsPlaceOf fault begin end is_tab → result ≡ spec.repair_end text.now fault }
+    ensures { (fault : Spanned Fault) → IsPlaceOf fault begin end is_tab → result ≡ spec.passed_end text.now fault }
 {
     if !is_tab {
         return end;

@@ -1,0 +1,155 @@
+-- What is passed with a fault of a text that another follows, or that is after another.
+use Rattle.std.proofs.Common.{◌≡◌, ℕ, ◌+◌, ◌≤◌, ◌<◌, Bool, true, false, cond, not, List, [], ◌∷◌, ◌++◌, length, drop, refl, ap, ◌∙◌, sym, subst, Some, arith, ◌||◌}
+use Rattle.std.specs.Prelude.{◌&&◌, ◌==◌, if◌then◌else◌, nat_eq, codes}
+use Rattle.std.specs.List.{prefix_len}
+use Rattle.std.specs.Str.{bytes_eq}
+use Rattle.std.proofs.lemmas.Bool.{and_parts, eqb-true}
+use Rattle.std.proofs.lemmas.List.{drop-append-le}
+use Rattle.std.proofs.Math.Seq.{drop-append-add}
+use Rattle.starlark_grammar.specs.Inner.KeptFaults.{is_in_margin}
+use Rattle.starlark_grammar.specs.AfterFaults.{is_margin_tab, is_tab, restart}
+use Rattle.starlark_grammar.specs.Found.{Passed, passed}
+use Rattle.starlark_grammar.specs.Joining.{is_decided}
+use Rattle.starlark_grammar.specs.KeptLines.{ends_by_comment, keeps_line, passed_end}
+use Rattle.starlark_grammar.specs.Margins.{begins_with_line_end}
+use Rattle.starlark_grammar.specs.Pieces.{Before, Other}
+use Rattle.starlark_grammar.specs.Reading.{History, history_after, nothing, outcome_after}
+use Rattle.starlark_grammar.specs.Tokens.{EmptyEscapeSequence, Fault, Indentation, InvalidEscapeSequence, InvalidInput, InvalidTab, Lexeme, Outcome, ReservedKeyword, Spanned, StartsZero, UnfinishedFStringExpression, UnfinishedStringLiteral, moved}
+use Rattle.starlark_grammar.specs.Words.{Text}
+use Rattle.starlark_grammar.proofs.Found.FoundItems.{by_keeps, keeps, kept_past, lost_past, passed_kept, passed_lost}
+use Rattle.starlark_grammar.proofs.Joining.Followed.{ends_line, ends_line_drop}
+use Rattle.starlark_grammar.proofs.Reading.Onward.{Starts, StopsAt, stops_at}
+use Rattle.starlark_grammar.proofs.Reading.Steps.{is_nothing}
+use Rattle.starlark_grammar.proofs.Recovery.DecidedFaults.{InMargin, begins_stays, decided, outcome_stays, restart_stays}
+use Rattle.starlark_grammar.proofs.Recovery.MovedRestarts.{not_zero}
+
+-- whether a fault keeps its line, by whether its tab is in a margin and whether it follows a comment
+keeps_by : Bool → Bool → Fault → Bool
+keeps_by margin comment (ReservedKeyword word) = true
+keeps_by margin comment (StartsZero word) = true
+keeps_by margin comment (InvalidInput character) = not (bytes_eq character (codes "}")) && not comment
+keeps_by margin comment InvalidTab = not margin
+keeps_by margin comment other = false
+
+keeps_is : (before : Before) (text : Text) (lexemes : List Lexeme) (fault : Spanned Fault) → keeps_line before text lexemes fault ≡ keeps_by (is_in_margin before text fault.begin) (ends_by_comment fault.begin lexemes) fault.node
+unfolding keeps_line keeps_by
+keeps_is before text lexemes fault = go fault.begin fault.node fault.end
+  where
+    go : (from : ℕ) (node : Fault) (end : ℕ) → keeps_line before text lexemes (record { begin = from; node = node; end = end }) ≡ keeps_by (is_in_margin before text from) (ends_by_comment from lexemes) node
+    go from (ReservedKeyword word) end = refl
+    go from (StartsZero word) end = refl
+    go from (InvalidInput character) end = refl
+    go from InvalidTab end = refl
+    go from Indentation end = refl
+    go from UnfinishedStringLiteral end = refl
+    go from (InvalidEscapeSequence text) end = refl
+    go from EmptyEscapeSequence end = refl
+    go from UnfinishedFStringExpression end = refl
+
+-- where a tab doesn't keep its line, it is in a margin
+lost_margin : (margin comment : Bool) (node : Fault) → keeps_by margin comment node ≡ false → is_tab node ≡ true → margin ≡ true
+unfolding keeps_by
+lost_margin true comment InvalidTab lost tab = refl
+lost_margin false comment InvalidTab lost tab = cc
+lost_margin margin comment other lost tab = cc
+
+pub lost_in_margin : (history : History) (text : Text) (fault : Spanned Fault) → keeps history text fault ≡ false → InMargin history text fault
+lost_in_margin history text fault lost = λ tab.
+    lost_margin (is_in_margin history.before text fault.begin) (ends_by_comment fault.begin (outcome_after history text).lexemes) fault.node
+    (sym (keeps_is history.before text (outcome_after history text).lexemes fault) ∙ lost) (and_parts (is_tab fault.node) _ tab).0
+
+-- A text that another follows
+
+tabs_stay : (text more : Text) → ends_line text ≡ true → prefix_len (nat_eq 9) (text ++ more) ≡ prefix_len (nat_eq 9) text
+tabs_stay [] more h = cc
+tabs_stay (b ∷ []) more h = let feed : b ≡ 10 = eqb-true b 10 h in rw feed refl
+tabs_stay (b ∷ c ∷ bs) more h = go (nat_eq 9 b) (tabs_stay (c ∷ bs) more h)
+  where
+    go : (test : Bool) → prefix_len (nat_eq 9) (c ∷ (bs ++ more)) ≡ prefix_len (nat_eq 9) (c ∷ bs) → cond test (1 + prefix_len (nat_eq 9) (c ∷ (bs ++ more))) 0 ≡ cond test (1 + prefix_len (nat_eq 9) (c ∷ bs)) 0
+    go true e = ap (λ n. 1 + n) e
+    go false e = refl
+
+module _ (history : History) (first second : Text) (fault : Spanned Fault) (starts : Starts history) (has : (outcome_after history first).fault ≡ Some fault) (is : is_decided first fault ≡ true) where
+  here : StopsAt history first fault
+  here = stops_at history first fault has
+
+  begins_inside : fault.begin < length first
+  begins_inside = let less = (decided first fault is).0 in let order = here.order in omega (arith, less, order)
+
+  ends : ends_line (drop fault.begin first) ≡ true
+  ends = ends_line_drop fault.begin first begins_inside (decided first fault is).1
+
+  left : drop fault.begin (first ++ second) ≡ drop fault.begin first ++ second
+  left = drop-append-le fault.begin first second (omega (arith, begins_inside))
+
+  pub same_outcome : (outcome_after history (first ++ second) ≡ outcome_after history first) × (history_after history (first ++ second) ≡ history_after history first)
+  same_outcome = let parts = decided first fault is in outcome_stays history first second fault starts parts.1 here parts.0
+
+  pub has_both : (outcome_after history (first ++ second)).fault ≡ Some fault
+  has_both = ap (λ (o : Outcome). o.fault) same_outcome.0 ∙ has
+
+  margin_stays : is_in_margin history.before (first ++ second) fault.begin ≡ is_in_margin history.before first fault.begin
+  margin_stays = ap (λ begins. is_nothing history.before && fault.begin == 0 || begins) (ap begins_with_line_end left ∙ begins_stays (drop fault.begin first) second ends)
+
+  keeps_both : keeps history (first ++ second) fault ≡ keeps history first fault
+  keeps_both =
+      keeps_is history.before (first ++ second) (outcome_after history (first ++ second)).lexemes fault
+      ∙ ap (λ margin. keeps_by margin (ends_by_comment fault.begin (outcome_after history (first ++ second)).lexemes) fault.node) margin_stays
+      ∙ ap (λ (o : Outcome). keeps_by (is_in_margin history.before first fault.begin) (ends_by_comment fault.begin o.lexemes) fault.node) same_outcome.0
+      ∙ sym (keeps_is history.before first (outcome_after history first).lexemes fault)
+
+  end_stays : passed_end (first ++ second) fault ≡ passed_end first fault
+  end_stays = ap (λ n. if is_tab fault.node then fault.begin + n else fault.end) (ap (prefix_len (nat_eq 9)) left ∙ tabs_stay (drop fault.begin first) second ends)
+
+  -- the same is passed where another text follows
+  pub passed_stays : passed history (first ++ second) fault ≡ passed history first fault
+  passed_stays = by_keeps history first fault
+      (λ it.
+      passed_kept history (first ++ second) fault (keeps_both ∙ it)
+      ∙ ap (λ n. let p : Passed = record { len = n; history = record (history_after history (first ++ second)) { before = Other } } in p) end_stays
+      ∙ ap (λ (h : History). let p : Passed = record { len = passed_end first fault; history = record h { before = Other } } in p) same_outcome.1
+      ∙ sym (passed_kept history first fault it))
+      (λ it.
+      passed_lost history (first ++ second) fault (keeps_both ∙ it)
+      ∙ ap (λ n. let p : Passed = record { len = n; history = nothing } in p) (restart_stays history first second fault starts (lost_in_margin history first fault it) here is)
+      ∙ sym (passed_lost history first fault it))
+
+-- A text that is after another
+
+module _ (before : Before) (first second : Text) (fault : Spanned Fault) (some : 0 < length first) (later : is_tab fault.node ≡ true → 0 < fault.begin) where
+  pub keeps_moved : (lexemes own : List Lexeme) → ends_by_comment (length first + fault.begin) lexemes ≡ ends_by_comment fault.begin own → keeps_line before (first ++ second) lexemes (moved (length first) fault) ≡ keeps_line nothing.before second own fault
+  unfolding keeps_by
+  keeps_moved lexemes own same =
+      keeps_is before (first ++ second) lexemes (moved (length first) fault)
+      ∙ ap (λ comment. keeps_by (is_in_margin before (first ++ second) (length first + fault.begin)) comment fault.node) same
+      ∙ by fault.node later
+      ∙ sym (keeps_is nothing.before second own fault)
+    where
+      comment : Bool
+      comment = ends_by_comment fault.begin own
+
+      by : (node : Fault) → (is_tab node ≡ true → 0 < fault.begin) → keeps_by (is_in_margin before (first ++ second) (length first + fault.begin)) comment node ≡ keeps_by (is_in_margin nothing.before second fault.begin) comment node
+      by InvalidTab h =
+          let left : drop (length first + fault.begin) (first ++ second) ≡ drop fault.begin second = drop-append-add first second fault.begin in
+          rw (not_zero fault.begin (h refl), not_zero (length first + fault.begin) (omega (arith, some)), left) (none (is_nothing before))
+        where
+          none : (begun : Bool) → not (begun && false || begins_with_line_end (drop fault.begin second)) ≡ not (begins_with_line_end (drop fault.begin second))
+          none true = refl
+          none false = refl
+      by (ReservedKeyword word) h = refl
+      by (StartsZero word) h = refl
+      by (InvalidInput character) h = refl
+      by Indentation h = refl
+      by UnfinishedStringLiteral h = refl
+      by (InvalidEscapeSequence text) h = refl
+      by EmptyEscapeSequence h = refl
+      by UnfinishedFStringExpression h = refl
+
+  pub end_moved : passed_end (first ++ second) (moved (length first) fault) ≡ length first + passed_end second fault
+  end_moved =
+      ap (λ n. if is_tab fault.node then length first + fault.begin + n else length first + fault.end) (ap (prefix_len (nat_eq 9)) (drop-append-add first second fault.begin))
+      ∙ by (is_tab fault.node)
+    where
+      by : (tab : Bool) → (if tab then length first + fault.begin + prefix_len (nat_eq 9) (drop fault.begin second) else length first + fault.end) ≡ length first + (if tab then fault.begin + prefix_len (nat_eq 9) (drop fault.begin second) else fault.end)
+      by true = omega arith
+      by false = refl

@@ -1,0 +1,3 @@
+-- Faults that keep their lines.
+pub mod Faults
+pub mod KeptFaultPlaces

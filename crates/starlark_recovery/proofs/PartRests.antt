@@ -1,0 +1,247 @@
+-- What is left of a part: its outcome, by that of the rest after what was read before; its fault; where that is passed.
+use Rattle.std.proofs.Common.{◌≡◌, ◌≤◌, ◌<◌, ◌+◌, ◌-◌, ◌==◌, ℕ, suc, Bool, true, false, List, [], ◌∷◌, ◌++◌, cond, map, length, drop, refl, ap, sym, subst, ◌∙◌, arith, None, Some, IfSome}
+use Rattle.std.proofs.lemmas.Bool.{and_parts, eqb-true, false_from_ne_true}
+use Rattle.std.proofs.lemmas.Bool.Decides.{nat_tests}
+use Rattle.std.proofs.lemmas.List.{length-drop, length-map}
+use Rattle.std.proofs.lemmas.Str.{IsCharBoundary-from_drop, IsCharBoundary-from_rest, IsUtf8-drop, IsUtf8-past_char, encode_ascii}
+use Rattle.std.specs.List.{AllByRecursion, prefix_len}
+use Rattle.std.specs.Prelude.{◌^◌, ◌&&◌, ◌||◌, Option, if◌then◌else◌, max, nat_eq, not}
+use Rattle.std.specs.Str.{IsCharBoundary, IsUtf8}
+use Rattle.starlark_grammar.specs.AfterFaults.{is_margin_tab, is_tab, line_end_len, margin_line, next_line, restart, stopped_at}
+use Rattle.starlark_grammar.specs.Inner.KeptFaults.{is_in_margin}
+use Rattle.starlark_grammar.specs.KeptLines.{ends_by_comment, keeps_line, passed_end}
+use Rattle.starlark_grammar.specs.Laws.{AtBoundaries}
+use Rattle.starlark_grammar.specs.Margins.{begins_with_line_end, has_tab, is_content, margin_of, open_widths}
+use Rattle.starlark_grammar.specs.Pieces.{Before, Fails, Other, first_margin, margin_step}
+use Rattle.starlark_grammar.specs.Reading.{History, nothing, outcome_after}
+use Rattle.starlark_grammar.specs.Tokens.{Fault, InvalidInput, InvalidTab, Lexeme, Outcome, Spanned, moved}
+use Rattle.starlark_grammar.specs.Words.{Text}
+use Rattle.starlark_grammar.proofs.Found.FoundItems.{keeps}
+use Rattle.starlark_grammar.proofs.Joining.Joined.{unmoved}
+use Rattle.starlark_grammar.proofs.KeptLines.KeptFaultPlaces.{IsKept}
+use Rattle.starlark_grammar.proofs.Lists.{drop-sum}
+use Rattle.starlark_grammar.proofs.Order.Edges.{edges_shift}
+use Rattle.starlark_grammar.proofs.Order.Rests.{rest_edges, rest_fault_edges, rest_few, rest_within}
+use Rattle.starlark_grammar.proofs.Reading.Onward.{outcome_after_nothing, stops_at}
+use Rattle.starlark_grammar.proofs.Reading.Steps.{is_nothing}
+use Rattle.starlark_grammar.proofs.Recovery.MovedRestarts.{not_zero}
+use Rattle.starlark_lexemes.specs.Inner.LexerStates.{IsCourse, course_of}
+use Rattle.starlark_lexemes.proofs.MovedFaults.{unmoved as unmoved_fault}
+use Rattle.starlark_reader.specs.Inner.Reader.{From, Origin, Start, begin_of, begins_with_tab, history_before, moved_fault, moved_outcome, outcome_since, remaining_outcome}
+use Rattle.starlark_reader.proofs.NextLines.{next_line_drop}
+use Rattle.starlark_reader.proofs.TakenPieces.LeftOutcomes.{first_fails}
+use Rattle.starlark_recovery.specs.Inner.RecoveryStates.{IsBegun, rest_keeps}
+
+-- The outcome of what is left
+
+moved_none : (found : Outcome) → moved_outcome 0 found ≡ found
+moved_none found = ap (λ ls. record { lexemes = ls; fault = moved_fault 0 found.fault }) (unmoved found.lexemes) ∙ ap (λ f. record { lexemes = found.lexemes; fault = f }) (same found.fault)
+  where
+    same : (fault : Option (Spanned Fault)) → moved_fault 0 fault ≡ fault
+    same None = refl
+    same (Some fault) = ap Some (unmoved_fault fault)
+
+pub since_is : (origin : Origin) (part : Text) → outcome_since origin part ≡ moved_outcome (begin_of origin) (outcome_after (history_before origin) (drop (begin_of origin) part))
+unfolding remaining_outcome
+since_is Start part = sym (moved_none (outcome_after nothing part) ∙ outcome_after_nothing part)
+since_is (From history at) part = refl
+
+-- its fault, in the rest
+pub record RestFault (origin : Origin) (part : Text) (fault : Spanned Fault) : Type 0 where
+  pub inner : Spanned Fault
+  pub has : (outcome_after (history_before origin) (drop (begin_of origin) part)).fault ≡ Some inner
+  pub same : moved (begin_of origin) inner ≡ fault
+
+pub rest_fault : (origin : Origin) (part : Text) (fault : Spanned Fault) → (course_of origin part).fault ≡ Some fault → RestFault origin part fault
+rest_fault origin part fault has = by (outcome_after (history_before origin) (drop (begin_of origin) part)).fault refl (sym (ap (λ (o : Outcome). o.fault) (since_is origin part)) ∙ has)
+  where
+    by : (found : Option (Spanned Fault)) → (outcome_after (history_before origin) (drop (begin_of origin) part)).fault ≡ found → moved_fault (begin_of origin) found ≡ Some fault → RestFault origin part fault
+    by None e f = cc
+    by (Some inner) e f = let same : moved (begin_of origin) inner ≡ fault = cc in record { inner = inner; has = e; same = same }
+
+-- It is in the part
+
+all_moved : (at : ℕ) (text : Text) (lexemes : List Lexeme) → at ≤ length text → AllByRecursion (λ (lexeme : Lexeme). (lexeme.begin ≤ lexeme.end) × (lexeme.end ≤ length (drop at text))) lexemes
+    → AllByRecursion (λ (lexeme : Lexeme). (lexeme.begin ≤ lexeme.end) × (lexeme.end ≤ length text)) (map (moved at) lexemes)
+all_moved at text [] inside all = tt
+all_moved at text (lexeme ∷ lexemes) inside all = ((omega (arith, all.0.0), omega (arith, all.0.1, inside, length-drop at text)), all_moved at text lexemes inside all.1)
+
+module _ (history : History) (at : ℕ) (part : Text) (other : history.before ≡ Other) (boundary : IsCharBoundary part at) (utf8 : IsUtf8 part) where
+  abbrev rest : Text
+  rest = drop at part
+
+  some : is_nothing history.before ≡ false
+  some = ap is_nothing other
+
+  utf8_rest : IsUtf8 rest
+  utf8_rest = IsUtf8-drop part at utf8 boundary
+
+  -- what holds of each fault of the rest, at its place in the part
+  its_fault : (P : Spanned Fault → Type 0) → ((fault : Spanned Fault) → (outcome_after history rest).fault ≡ Some fault → P (moved at fault)) → IfSome (moved_fault at (outcome_after history rest).fault) P
+  its_fault P each = by (outcome_after history rest).fault refl
+    where
+      by : (found : Option (Spanned Fault)) → (outcome_after history rest).fault ≡ found → IfSome (moved_fault at found) P
+      by None e = tt
+      by (Some fault) e = each fault e
+
+  pub is_course : length (open_widths history.widths) ≤ at → length part < 2 ^ 32 → IsCourse (course_of (From history at) part) part
+  unfolding remaining_outcome
+  is_course levels fits =
+      let few = rest_few history rest some in
+      record {
+        fits = fits;
+        utf8 = utf8;
+        few = omega (arith, few, levels, fits, boundary.0, length-drop at part, length-map (outcome_after history rest).lexemes (moved at));
+        within = all_moved at part (outcome_after history rest).lexemes boundary.0 (rest_within history rest some);
+        edges = edges_shift part at (outcome_after history rest).lexemes boundary (rest_edges history rest some utf8_rest);
+        fault_within = its_fault (λ fault. (fault.begin ≤ fault.end) × (fault.end ≤ length part)) (λ fault e. let here = stops_at history rest fault e in (omega (arith, here.order), omega (arith, here.inside, length-drop at part, boundary.0)));
+        fault_edges = its_fault (AtBoundaries part) (λ fault e. let edges = subst (λ (f : Option (Spanned Fault)). IfSome f (AtBoundaries rest)) e (rest_fault_edges history rest some utf8_rest) in (IsCharBoundary-from_rest part at fault.begin boundary.0 edges.0, IsCharBoundary-from_rest part at fault.end boundary.0 edges.1));
+      }
+
+-- Whether its fault keeps its line
+
+start_is : (origin : Origin) → IsBegun origin → is_nothing (history_before origin).before ≡ (begin_of origin == 0)
+start_is Start begun = refl
+start_is (From history at) begun = ap is_nothing begun.1 ∙ sym (not_zero at begun.0)
+
+first_zero : (at n : ℕ) → (at == 0 && n == 0) ≡ (at + n == 0)
+first_zero at n = grind (arith, nat_tests)
+
+same_zero : (at n : ℕ) → (at == 0 && at + n == 0) ≡ (at + n == 0)
+same_zero at n = grind (arith, nat_tests)
+
+moved_equal : (at n m : ℕ) → (at + n == at + m) ≡ (n == m)
+moved_equal at n m = grind (arith, nat_tests)
+
+-- a comment ends where it is moved
+ends_moved : (at n : ℕ) (lexemes : List Lexeme) → ends_by_comment (at + n) (map (moved at) lexemes) ≡ ends_by_comment n lexemes
+ends_moved at n [] = refl
+ends_moved at n (lexeme ∷ []) = rw (moved_equal at lexeme.end n) refl
+ends_moved at n (lexeme ∷ more ∷ lexemes) = ends_moved at n (more ∷ lexemes)
+
+module _ (origin : Origin) (part : Text) (begun : IsBegun origin) where
+  abbrev from : ℕ
+  from = begin_of origin
+
+  abbrev before : Before
+  before = (history_before origin).before
+
+  -- a tab in the margin of the rest is in that of the part
+  in_margin : (n : ℕ) → is_in_margin before (drop from part) n ≡ (from + n == 0 || begins_with_line_end (drop (from + n) part))
+  in_margin n =
+      ap (λ test. (test && n == 0) || begins_with_line_end (drop n (drop from part))) (start_is origin begun)
+      ∙ ap (λ test. test || begins_with_line_end (drop n (drop from part))) (first_zero from n)
+      ∙ ap (λ (t : Text). from + n == 0 || begins_with_line_end t) (sym (drop-sum from n part))
+
+  pub in_part : (n : ℕ) → is_in_margin before part (from + n) ≡ (from + n == 0 || begins_with_line_end (drop (from + n) part))
+  in_part n =
+      ap (λ test. (test && from + n == 0) || begins_with_line_end (drop (from + n) part)) (start_is origin begun)
+      ∙ ap (λ test. test || begins_with_line_end (drop (from + n) part)) (same_zero from n)
+
+  keeps_moved : (lexemes : List Lexeme) (fault : Spanned Fault) → keeps_line before part (map (moved from) lexemes) (moved from fault) ≡ keeps_line before (drop from part) lexemes fault
+  unfolding keeps_line
+  keeps_moved lexemes fault = by fault.node
+    where
+      by : (node : Fault) → keeps_line before part (map (moved from) lexemes) (record { begin = from + fault.begin; node = node; end = from + fault.end }) ≡ keeps_line before (drop from part) lexemes (record { begin = fault.begin; node = node; end = fault.end })
+      by (InvalidInput character) = rw (ends_moved from fault.begin lexemes) refl
+      by InvalidTab = ap not (in_part fault.begin ∙ sym (in_margin fault.begin))
+      by node = refl
+
+  pub keeps_rest : (fault : Spanned Fault) (in_rest : RestFault origin part fault) → rest_keeps origin part fault ≡ keeps (history_before origin) (drop from part) in_rest.inner
+  keeps_rest fault in_rest =
+      ap (λ ls. keeps_line before part ls fault) (ap (λ (o : Outcome). o.lexemes) (since_is origin part))
+      ∙ ap (keeps_line before part (map (moved from) (outcome_after (history_before origin) (drop from part)).lexemes)) (sym in_rest.same)
+      ∙ keeps_moved (outcome_after (history_before origin) (drop from part)).lexemes in_rest.inner
+
+  -- one that does is in no margin
+  pub kept_no_margin : (fault : Spanned Fault) → IsKept before (drop from part) fault → is_margin_tab part (moved from fault) ≡ false
+  kept_no_margin fault is = by (is_tab fault.node) refl
+    where
+      by : (tab : Bool) → is_tab fault.node ≡ tab → (tab && (from + fault.begin == 0 || begins_with_line_end (drop (from + fault.begin) part))) ≡ false
+      by false e = refl
+      by true e = sym (in_margin fault.begin) ∙ is.no_margin e
+
+  -- a tab that doesn't is in one
+  lost_margin : (lexemes : List Lexeme) (fault : Spanned Fault) → keeps_line before (drop from part) lexemes fault ≡ false → is_tab fault.node ≡ true → is_in_margin before (drop from part) fault.begin ≡ true
+  unfolding keeps_line
+  lost_margin lexemes fault loses tab = by fault.node loses tab
+    where
+      by : (node : Fault) → keeps_line before (drop from part) lexemes (record { begin = fault.begin; node = node; end = fault.end }) ≡ false → is_tab node ≡ true → is_in_margin before (drop from part) fault.begin ≡ true
+      by InvalidTab loses tab = go (is_in_margin before (drop from part) fault.begin) loses
+        where
+          go : (test : Bool) → not test ≡ false → test ≡ true
+          go true h = refl
+          go false h = cc
+      by node loses tab = cc
+
+  pub lost_tab : (lexemes : List Lexeme) (fault : Spanned Fault) → keeps_line before (drop from part) lexemes fault ≡ false → is_margin_tab part (moved from fault) ≡ is_margin_tab (drop from part) fault
+  lost_tab lexemes fault loses = by (is_tab fault.node) (lost_margin lexemes fault loses)
+    where
+      either : (one two test : Bool) → ((one && two) || test) ≡ true → (two || test) ≡ true
+      either true two test h = h
+      either false true test h = refl
+      either false false test h = h
+
+      by : (tab : Bool) → (tab ≡ true → is_in_margin before (drop from part) fault.begin ≡ true)
+          → (tab && (from + fault.begin == 0 || begins_with_line_end (drop (from + fault.begin) part))) ≡ (tab && (fault.begin == 0 || begins_with_line_end (drop fault.begin (drop from part))))
+      by false is = refl
+      by true is = sym (in_margin fault.begin) ∙ is refl ∙ sym (either (is_nothing before) (fault.begin == 0) (begins_with_line_end (drop fault.begin (drop from part))) (is refl))
+
+-- a text whose first margin fails by a tab keeps no line
+pub untabbed : (origin : Origin) (part : Text) (fault : Spanned Fault) → (course_of origin part).fault ≡ Some fault → is_margin_tab part fault ≡ false → origin ≡ Start → begins_with_tab part ≡ false
+unfolding margin_step
+untabbed (From history at) part fault has none start = cc
+untabbed Start part fault has none start = false_from_ne_true (begins_with_tab part) (λ e.
+    let parts = and_parts (is_content (margin_of part).remainder) (has_tab (margin_of part)) e in
+    let fails : first_margin part ≡ Fails (record { begin = 0; node = InvalidTab; end = 0 }) = rw (parts.0, parts.1) refl in
+    let both : Some (record { begin = 0; node = InvalidTab; end = 0 }) ≡ Some fault = sym (ap (λ (o : Outcome). o.fault) (first_fails part (record { begin = 0; node = InvalidTab; end = 0 }) fails)) ∙ has in
+    let same : record { begin = 0; node = InvalidTab; end = 0 } ≡ fault = cc in
+    let tab : is_margin_tab part fault ≡ true = subst (λ (f : Spanned Fault). is_margin_tab part f ≡ true) same refl in cc)
+
+-- Where it is passed
+
+tabs_utf8 : (text : Text) → IsUtf8 text → IsUtf8 (drop (prefix_len (nat_eq 9) text) text)
+tabs_utf8 [] utf8 = utf8
+tabs_utf8 (b ∷ bs) utf8 = by (nat_eq 9 b) refl (tabs_utf8 bs)
+  where
+    by : (tab : Bool) → nat_eq 9 b ≡ tab → (IsUtf8 bs → IsUtf8 (drop (prefix_len (nat_eq 9) bs) bs)) → IsUtf8 (drop (cond tab (1 + prefix_len (nat_eq 9) bs) 0) (b ∷ bs))
+    by true e more =
+        let next : suc (prefix_len (nat_eq 9) bs) ≡ 1 + prefix_len (nat_eq 9) bs = omega arith in
+        subst (λ n. IsUtf8 (drop n (b ∷ bs))) next (more (IsUtf8-past_char (b ∷ bs) bs 9 utf8 (ap (λ c. c ∷ bs) (sym (eqb-true 9 b e)) ∙ sym (ap (λ (l : Text). l ++ bs) (encode_ascii 9 (omega arith))))))
+    by false e more = utf8
+
+-- where lexing goes on is between characters
+pub passed_boundary : (text : Text) (fault : Spanned Fault) → passed_end text fault ≤ length text → IsUtf8 text → IsCharBoundary text fault.begin → IsCharBoundary text fault.end → IsCharBoundary text (passed_end text fault)
+passed_boundary text fault inside utf8 begins ends = by (is_tab fault.node) refl
+  where
+    by : (tab : Bool) → is_tab fault.node ≡ tab → IsCharBoundary text (passed_end text fault)
+    by false e = rw e ends
+    by true e =
+        let end : passed_end text fault ≡ fault.begin + prefix_len (nat_eq 9) (drop fault.begin text) = rw e refl in
+        let rest : drop (prefix_len (nat_eq 9) (drop fault.begin text)) (drop fault.begin text) ≡ drop (passed_end text fault) text =
+        sym (drop-sum fault.begin (prefix_len (nat_eq 9) (drop fault.begin text)) text) ∙ ap (λ n. drop n text) (sym end) in
+        IsCharBoundary-from_drop text (passed_end text fault) inside (subst IsUtf8 rest (tabs_utf8 (drop fault.begin text) (IsUtf8-drop text fault.begin utf8 begins)))
+
+-- after any other fault lexing begins again at the same place
+
+module _ (text : Text) (at : ℕ) (fault : Spanned Fault) (tab : is_margin_tab text (moved at fault) ≡ is_margin_tab (drop at text) fault) where
+  abbrev after : ℕ
+  after = fault.begin + line_end_len (drop fault.begin (drop at text))
+
+  place : at + fault.begin + line_end_len (drop (at + fault.begin) text) ≡ at + after
+  place = omega (arith, ap line_end_len (drop-sum at fault.begin text))
+
+  line : margin_line text (at + fault.begin + line_end_len (drop (at + fault.begin) text)) ≡ at + margin_line (drop at text) after
+  line = ap (margin_line text) place ∙ omega (arith, ap (λ (t : Text). (margin_of t).at) (drop-sum at after text))
+
+  stopped_by : (test : Bool) → max (at + fault.end - 1) (if test then margin_line text (at + fault.begin + line_end_len (drop (at + fault.begin) text)) else at + fault.begin) ≡ at + max (fault.end - 1) (if test then margin_line (drop at text) after else fault.begin)
+  stopped_by true = omega (arith, line)
+  stopped_by false = omega arith
+
+  stopped_rest : stopped_at text (moved at fault) ≡ at + stopped_at (drop at text) fault
+  unfolding stopped_at
+  stopped_rest = ap (λ test. max (at + fault.end - 1) (if test then margin_line text (at + fault.begin + line_end_len (drop (at + fault.begin) text)) else at + fault.begin)) tab ∙ stopped_by (is_margin_tab (drop at text) fault)
+
+  pub restart_rest : at ≤ length text → restart text (moved at fault) ≡ at + restart (drop at text) fault
+  unfolding restart
+  restart_rest inside = ap (next_line text) stopped_rest ∙ next_line_drop text at (stopped_at (drop at text) fault) inside
