@@ -6,7 +6,6 @@
 --   lexeme as the grammar sees it; what is taken of what was passed.
 -- LexerCuts: where a lexer may cut its text.
 -- NextItems: what is left: the first of it, which is answered next.
--- RepairedStates: a lexer that goes on in a text with a repair.
 -- MovedFaults: exceptions of faults that are moved.
 pub mod FoundWords
 pub mod LexerItems

@@ -3,7 +3,6 @@
 ghost use Rattle.std.specs.Prelude.{◌≡◌, ◌≢◌, ◌<◌, ◌≤◌, ◌+◌, ◌-◌, ◌*◌, ◌^◌, ◌||◌, Err, None, Ok, Some, length, string_bytes, true, false, IfErr, IfOk, IsSome, OnOk};
 ghost use Rattle.std.specs.Option.{is_some};
 ghost use Rattle.std.specs.Str.{IsCharBoundary};
-ghost use Rattle.starlark_grammar.specs.Reading.{History};
 ghost use Rattle.starlark_grammar.specs.Tokens.{Fault, Spanned};
 ghost use Rattle.starlark_grammar.specs.Words.{Text};
 ghost use Rattle.starlark_grammar.specs.declared.class.LiteralKind.TheVariants as literal;
@@ -11,7 +10,7 @@ ghost use Rattle.starlark_reader.specs.Inner.Lookaheads.{is_slow, most_peeked};
 ghost use Rattle.starlark_reader.specs.Inner.Pending.{IsIdle, IsPendingToken, IsPending};
 ghost use Rattle.starlark_reader.specs.Inner.ReadBounds.{HasRead};
 ghost use Rattle.starlark_reader.specs.Inner.Reader.{IsAtCode, IsAtEnd, IsInCode, IsTokenOf};
-ghost use Rattle.starlark_lexemes.specs.Inner.LexerStates.{Course, HasAdvanced, HasAnswered, HasFound, HasPassed, HasPassedNext, HasTakenLast, HasThrown, IsAtFault, IsAtLiteral, IsAtText, IsAtWord, IsAtWordless, IsBegun, IsCourse, IsItemOf, IsLexing, IsLexingIn, IsReadNext, IsTakenNext, IsTakenOf, IsUnnamed, KeepsOpen, course_from, has_fault, is_out_of_memory, passed_count, passed_of, taken_count, thrown_count, view_of, whole};
+ghost use Rattle.starlark_lexemes.specs.Inner.LexerStates.{Course, HasAdvanced, HasAnswered, HasFound, HasPassed, HasPassedNext, HasTakenLast, HasThrown, IsAtFault, IsAtLiteral, IsAtText, IsAtWord, IsAtWordless, IsBegun, IsCourse, IsItemOf, IsLexing, IsLexingIn, IsReadNext, IsTakenNext, IsTakenOf, IsUnnamed, KeepsOpen, course_past, has_fault, is_out_of_memory, passed_count, passed_of, taken_count, thrown_count, view_of, whole};
 ghost use Rattle.starlark_lexemes.specs.Lexer.{is_ended_by, most_reads, yielded_by};
 ghost use Rattle.starlark_lexemes.specs.Inner.RawItems.{OffsetsHold};
 ghost use Rattle.starlark_lexemes.specs.PlainLexemes.{IsPlainIn, is_plain, plain_value, token_of};
@@ -657,7 +656,7 @@ impl<'a> LexerState<'a> {
     pub fn go_on(&mut self, begin: usize, end: usize)
         requires order { begin ≤ end }
         requires fits { end < 2 ^ 32 }
-        ensures lexing { (course : Course) (text : Text) (fault : Spanned Fault) (next : History) → IsAtFault course text fault self.old → KeepsOpen course text fault next begin end → IsCourse (course_from next end text) text → IsLexingIn (course_from next end text) text self.new }
+        ensures lexing { (course : Course) (text : Text) (fault : Spanned Fault) → IsAtFault course text fault self.old → KeepsOpen course text fault begin end → IsCourse (course_past course end text) text → IsLexingIn (course_past course end text) text self.new }
         ensures count { self.new.yielded_count ≡ 0 }
         ensures going { self.new.has_ended ≡ false }
         ensures text { self.new.reader.text ≡ self.old.reader.text }

@@ -11,13 +11,13 @@
 -- OpenBrackets/OpenFStrings: f-strings: the stack is the open f-strings of the tokens.
 -- TakenPieces/CodePlaces: code: the word at an offset decides.
 -- TakenPieces/MarginCuts: kept cuts: where a margin may be cut, both ways.
--- TakenPieces/Onward, Here: one piece further: what is left of a text.
+-- TakenPieces/LeftOutcomes, Here: one piece further: what is left of a text.
 -- TakenPieces/Taken, ChunksTaken, PieceTaken: the reader's state: before and after a piece.
 -- TakenPieces/WordSteps, WordsPassed: words: one that is read as a step, and its reads; one that is stepped over.
 -- TakenPieces/NextLexeme: lexemes: what the reader returns.
 -- TakenPieces/SameTexts: calls in a row: what is ahead after one, and after the next.
 -- TakenPieces/PieceReads, ReaderReads: reads: of a piece, after each step, and of the lexer by its lookahead.
--- TakenPieces/SearchReads: reads: of the search after a fault.
+-- TakenPieces/SearchReads, KeptReads: reads: of the search after a fault; those that a fault leaves which may keep its line.
 -- TakenPieces/LineEndPieces, MarginReads: reads: the line end before a margin; lexing begins again after a margin that is a
 --   fault.
 pub mod TakenMargins

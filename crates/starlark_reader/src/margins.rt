@@ -1,16 +1,13 @@
 //! Reads the margin at the start of a text.
 
-ghost use Rattle.std.specs.Prelude.{◌≡◌, ◌+◌, ◌*◌, ◌≤◌, ◌<◌, ◌^◌, true, false, IfSome, get_or, length, min, nat_eq, take};
+ghost use Rattle.std.specs.Prelude.{◌≡◌, ◌==◌, ◌+◌, ◌-◌, ◌*◌, ◌≤◌, ◌<◌, ◌^◌, true, false, not, None, IfErr, IfOk, IfSome, get_or, length, nat_eq, take};
 ghost use Rattle.std.specs.List.{prefix_len};
 ghost use Rattle.starlark_reader.specs.Inner.MarginViews.{IsBlanks, IsMargin, spaces_margin};
 ghost use Rattle.starlark_grammar.specs.Margins as grammar;
 ghost use Rattle.starlark_words.specs.Inner.Reads.{AreReads, more_reads};
 
 use starlark_words::lines::front_len;
-use starlark_words::reads::{ReadCounter, uncounted_spaces_len};
-
-/// Bytes of a margin that an unrolled loop reads.
-const UNROLLED: usize = 16;
+use starlark_words::reads::ReadCounter;
 
 /// A margin: comment-only lines, and then the blanks of the next line.
 #[derive(Clone, Copy)]
@@ -43,18 +40,20 @@ impl Margin {
     }
 }
 
-/// The blanks at the start of a text, as of a margin without comments that content follows. Counts
-/// their reads, and `passed` reads besides.
+/// The blanks at the start of a text, as of a margin without comments that content follows. The
+/// first `spaces` of them are known. Counts the reads of the others, and `passed` reads besides.
 ///
 /// The byte after them counts twice, since the caller reads it again.
 #[inline(always)]
-fn blanks_of(reads: &mut ReadCounter, passed: usize, text: &[u8]) -> Margin
-    requires { passed < 2 ^ 33 }
+fn blanks_of(reads: &mut ReadCounter, passed: usize, spaces: usize, text: &[u8]) -> Margin
+    requires few { passed < 2 ^ 33 }
+    requires known { spaces ≤ prefix_len (nat_eq 32) text.now }
     ensures value { IsBlanks (take (grammar.blanks_len text.now) text.now) result }
     ensures within { result.blanks ≤ length text.now }
-    ensures reads { reads.new ≡ more_reads reads.old (passed + (result.blanks + 2)) }
+    ensures more { spaces ≤ result.blanks }
+    ensures reads { reads.new ≡ more_reads reads.old (passed + (result.blanks - spaces + 2)) }
 {
-    let mut margin = Margin::of_spaces(uncounted_spaces_len(text));
+    let mut margin = Margin::of_spaces(spaces);
     while let Some(byte) = text.get(margin.blanks) {
         match *byte {
             b' ' => margin.width += 1,
@@ -64,7 +63,7 @@ fn blanks_of(reads: &mut ReadCounter, passed: usize, text: &[u8]) -> Margin
         }
         margin.blanks += 1;
     }
-    reads.count_run(passed + margin.blanks + 1);
+    reads.count_run(passed + (margin.blanks - spaces) + 1);
     margin
 }
 
@@ -75,11 +74,12 @@ fn begins_comment(text: &[u8]) -> bool
     matches!(text, [b'#', ..])
 }
 
-/// Whether content is at the start of a text: neither its end nor an LF.
-fn is_content(text: &[u8]) -> bool
-    ensures { result ≡ grammar.is_content text.now }
+/// The first byte of a text; an LF at its end.
+fn first_or_lf(text: &[u8]) -> u8
+    ensures comment { grammar.begins_comment text.now ≡ (result == 35) }
+    ensures content { grammar.is_content text.now ≡ not (result == 10) }
 {
-    !matches!(text, [] | [b'\n', ..])
+    text.first().copied().unwrap_or(b'\n')
 }
 
 /// The margin at the start of a text.
@@ -87,7 +87,19 @@ fn is_content(text: &[u8]) -> bool
 pub fn margin_of(reads: &mut ReadCounter, text: &str) -> Margin
     ensures margin { IsMargin (grammar.margin_of text.now) result }
     ensures within { result.at + result.blanks ≤ length text.now }
-    ensures reads { AreReads (result.at + result.blanks) (5 * result.at + result.blanks + 2) reads.old reads.new }
+    ensures reads { AreReads (result.at + result.blanks + 2) (5 * result.at + result.blanks + 2) reads.old reads.new }
+{
+    margin_from(reads, 0, text)
+}
+
+/// The margin at the start of a text, whose first `spaces` spaces were read.
+#[inline(always)]
+pub(crate) fn margin_from(reads: &mut ReadCounter, spaces: usize, text: &str) -> Margin
+    requires { spaces ≤ prefix_len (nat_eq 32) text.now }
+    ensures margin { IsMargin (grammar.margin_of text.now) result }
+    ensures within { result.at + result.blanks ≤ length text.now }
+    ensures more { spaces ≤ result.at + result.blanks }
+    ensures reads { AreReads (result.at + result.blanks + 2 - spaces) (5 * result.at + result.blanks + 2 - spaces) reads.old reads.new }
 {
     let bytes = text.as_bytes();
     let mut at = 0;
@@ -99,12 +111,14 @@ pub fn margin_of(reads: &mut ReadCounter, text: &str) -> Margin
             at += (feed + 1).min(line.len());
             continue;
         }
-        let margin = blanks_of(reads, at.min(1), line);
+        // The known spaces are in the first line.
+        let margin = blanks_of(reads, at.min(1), spaces.saturating_sub(at), line);
         let remainder = &line[margin.blanks..];
-        if !begins_comment(remainder) {
+        let next = first_or_lf(remainder);
+        if next != b'#' {
             return Margin {
                 at,
-                is_content: is_content(remainder),
+                is_content: next != b'\n',
                 ..margin
             };
         }
@@ -113,42 +127,27 @@ pub fn margin_of(reads: &mut ReadCounter, text: &str) -> Margin
     }
 }
 
-/// Number of spaces at the start of a text. The caller has to count the reads.
-// Up to 16 by a loop over a constant number of bytes, which is unrolled (2 % of deep indentation).
-#[inline(always)]
-fn margin_spaces_len(text: &[u8]) -> usize
-    ensures value { result ≡ prefix_len (nat_eq 32) text.now }
-    ensures within { result ≤ length text.now }
-{
-    let mut len = 0;
-    if text.len() >= UNROLLED {
-        len = uncounted_spaces_len(&text[..UNROLLED]);
-        if len < UNROLLED {
-            return len;
-        }
-    }
-    while len < text.len() && text[len] == b' ' {
-        len += 1;
-    }
-    len
-}
-
 /// The margin of `spaces` spaces and one or two CRs after them, if a blank line has these alone.
+/// The spaces and the first CR were read.
 #[inline(always)]
-fn blank_margin(text: &[u8], spaces: usize) -> Option<Margin>
+fn blank_margin(reads: &mut ReadCounter, text: &[u8], spaces: usize) -> Option<Margin>
     requires spaces { spaces ≡ prefix_len (nat_eq 32) text.now }
     requires inside { spaces < length text.now }
     requires next { get_or text.now spaces 0 ≡ 13 }
     ensures margin { IfSome result (λ found. IsMargin (grammar.margin_of text.now) found) }
     ensures plain { IfSome result (λ found. (found.at ≡ 0) × (found.is_content ≡ false) × (found.blanks ≤ length text.now)) }
+    ensures reads { IfSome result (λ found. (spaces < found.blanks) × (reads.new ≡ more_reads reads.old (found.blanks - spaces))) }
+    ensures none { result ≡ None → AreReads 1 2 reads.old reads.new }
 {
     let mut len = spaces + 1;
+    reads.count_run(0);
     // The first test is for lines with one CR, which are most (3 % of blank lines).
     if len < text.len() && text[len] != b'\n' {
         if text[len] != b'\r' {
             return None;
         }
         len += 1;
+        reads.count_run(0);
         if len < text.len() && text[len] != b'\n' {
             return None;
         }
@@ -161,23 +160,25 @@ fn blank_margin(text: &[u8], spaces: usize) -> Option<Margin>
 }
 
 /// The margin at the start of a text if it is spaces alone, or those and one or two CRs of a blank
-/// line. The caller has to count the reads.
+/// line. The error is the number of spaces at the start, for any other margin.
 #[inline(always)]
-pub(crate) fn plain_margin(text: &str) -> Option<Margin>
-    ensures margin { IfSome result (λ found. IsMargin (grammar.margin_of text.now) found) }
-    ensures within { IfSome result (λ found. found.blanks ≤ length text.now) }
-    ensures plain { IfSome result (λ found. found.at ≡ 0) }
-    ensures spaces { IfSome result (λ found. found.is_content ≡ true → found ≡ spaces_margin found.width) }
+pub(crate) fn plain_margin(reads: &mut ReadCounter, text: &str) -> Result<Margin, usize>
+    ensures margin { IfOk result (λ found. IsMargin (grammar.margin_of text.now) found) }
+    ensures within { IfOk result (λ found. found.blanks ≤ length text.now) }
+    ensures plain { IfOk result (λ found. found.at ≡ 0) }
+    ensures spaces { IfOk result (λ found. found.is_content ≡ true → found ≡ spaces_margin found.width) }
+    ensures reads { IfOk result (λ found. reads.new ≡ more_reads reads.old (found.blanks + 1)) }
+    ensures other { IfErr result (λ spaces. (spaces ≡ prefix_len (nat_eq 32) text.now) × AreReads (spaces + 1) (spaces + 3) reads.old reads.new) }
 {
     let bytes = text.as_bytes();
-    let spaces = margin_spaces_len(bytes);
+    let spaces = reads.spaces_len(bytes);
     match bytes.get(spaces) {
-        Some(next) if *next > b'#' => Some(Margin::of_spaces(spaces)),
-        Some(b'\r') => blank_margin(bytes, spaces),
-        None | Some(b'\n') => Some(Margin {
+        Some(next) if *next > b'#' => Ok(Margin::of_spaces(spaces)),
+        Some(b'\r') => blank_margin(reads, bytes, spaces).ok_or(spaces),
+        None | Some(b'\n') => Ok(Margin {
             is_content: false,
             ..Margin::of_spaces(spaces)
         }),
-        _ => None,
+        _ => Err(spaces),
     }
 }

@@ -1,6 +1,6 @@
 //! Pending lexemes: read already, and made one by one as the lexer yields them.
 
-ghost use Rattle.std.specs.Prelude.{◌≡◌, ◌<◌, ◌≤◌, ◌+◌, ◌*◌, [], drop, length, nat_lt, true, None, Some, OnErr, OnOk, IfOk, IfSome};
+ghost use Rattle.std.specs.Prelude.{◌≡◌, ◌<◌, ◌≤◌, ◌+◌, ◌-◌, ◌*◌, [], drop, length, nat_lt, true, None, Some, OnErr, OnOk, IfOk, IfSome};
 ghost use Rattle.starlark_reader.specs.Inner.Pending.{IsCommentIn, IsFirst, IsFirstAfter, IsFirstPast, IsPendingToken, IsPending, comment_lexeme, lexemes_after, owed, pending_lexemes};
 ghost use Rattle.starlark_reader.specs.Inner.MarginLines.{IsLinePassed, IsPassedLine};
 ghost use Rattle.starlark_grammar.specs.Margins as grammar;
@@ -174,6 +174,7 @@ impl Pending {
         ensures inside { IsCommentIn text.now result.0 result.1 }
         ensures lines { self.new.is_flat ≡ true → IsPassedLine text.now self.old self.new }
         ensures flat { self.new.is_flat ≡ self.old.is_flat }
+        ensures least { more_reads reads.old (self.new.from - self.old.from + 2) ≤ reads.new }
         ensures reads { (more_reads reads.old 0 ≤ reads.new) × (reads.new + 5 * owed self.new ≤ reads.old + 5 * owed self.old) }
     {
         let from = self.from;

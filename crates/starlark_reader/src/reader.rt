@@ -1,7 +1,7 @@
 //! The reader: reads a text piece by piece, and stores what later pieces depend on.
 
 ghost use Rattle.std.specs.Prelude.{◌&&◌, ◌≡◌, ◌≢◌, true, false, ◌<◌, ◌≤◌, ◌+◌, ◌-◌, ◌*◌, ◌^◌, [], ℕ, None, Some, List, Option, codes, drop, length, map, nat_eq, take, OnErr, OnOk, IfErr, IfOk, IfSome};
-ghost use Rattle.std.specs.List.{ends_with};
+ghost use Rattle.std.specs.List.{ends_with, prefix_len};
 ghost use Rattle.std.specs.Str.{IsCharBoundary};
 ghost use Rattle.starlark_words.specs.Inner.Reads.{AreReads, more_reads};
 ghost use Rattle.starlark_reader.specs.Inner.StepViews as steps;
@@ -18,7 +18,7 @@ ghost use Rattle.starlark_grammar.specs.declared.class.LiteralKind.TheVariants a
 ghost use Rattle.starlark_reader.specs.Inner.Pending.{IsIdle, IsPendingToken, owed, pending_lexemes};
 ghost use Rattle.starlark_reader.specs.Inner.MarginCuts.{IsCutBefore};
 ghost use Rattle.starlark_reader.specs.Inner.ReadBounds.{HasStarted, HasScanned, HasScannedHere, HasRead, HasReadAt, HasReadLast, IsMarginRead, IsPassedBy, IsTaken};
-ghost use Rattle.starlark_reader.specs.Inner.Reader.{From, HasKept, HasSomething, IsAhead, IsAtCode, IsAtEnd, IsAtLineEnd, IsAtStep, IsBangHere, IsInCode, IsLast, IsLineEndStep, IsPlainTextHere, IsReached, IsRead, IsReadPast, IsSound, IsStateAfter, IsTokenOf, IsWordHere, KeepsAhead, Origin, Start, Takes, TakesNext, chunk_lexemes, has_read_none, left_here, left_to_read, newline_of, remaining_outcome, step_here};
+ghost use Rattle.starlark_reader.specs.Inner.Reader.{From, HasSomething, IsAhead, IsAtCode, IsAtEnd, IsAtLineEnd, IsAtStep, IsBangHere, IsInCode, IsLast, IsLineEndStep, IsPlainTextHere, IsReached, IsRead, IsReadPast, IsSound, IsStateAfter, IsTokenOf, IsWordHere, KeepsAhead, Origin, Start, Takes, TakesNext, chunk_lexemes, has_read_none, kept_history, left_here, left_to_read, newline_of, remaining_outcome, step_here};
 ghost use Rattle.starlark_reader.specs.Inner.PieceViews.{IsLineEnd};
 ghost use Rattle.starlark_reader.specs.Inner.Lookaheads.{HasPeeked, IsLiteralHere, IsTextRun};
 ghost use Rattle.starlark_grammar.specs.Cuts.{is_settled};
@@ -34,7 +34,7 @@ use crate::indent_stack::IndentStack;
 use crate::literal::{
     Chunk, Opening, chunk_from, literal_piece, opening_of, plain_text, quotes_of,
 };
-use crate::margins::{Margin, margin_of, plain_margin};
+use crate::margins::{Margin, margin_from, margin_of, plain_margin};
 use crate::nesting::{LexerMode, Nesting};
 use crate::pending::{AfterComments, Pending, text_end};
 use crate::reading::terminals::own_token;
@@ -45,7 +45,7 @@ use starlark_token::token_int::TokenInt;
 use starlark_token::tokens::Token;
 use starlark_words::reads::ReadCounter;
 use starlark_words::scanner::{
-    Class, LiteralKind, Quote, Terminal, Word, gap_len, is_bang, unnamed_word, word_after,
+    Class, LiteralKind, Quote, Terminal, Word, gap_and_next, is_bang, unnamed_word, word_after,
 };
 use starlark_words::{Literal, plain_body_len};
 use std::alloc::{AllocError, Global};
@@ -125,27 +125,6 @@ impl<'a> Reader<'a> {
         }
     }
 
-    /// Moves the reader to another text. The offset and all that it stores stay.
-    ///
-    /// What is ahead is then what the other text has after the offset: the caller has to know that.
-    #[inline(always)]
-    pub fn over<'b>(self, text: &'b str) -> Reader<'b>
-        ensures text { result.text.now ≡ text.now }
-        ensures same { result ≡ record self.entry { text = result.text } }
-    {
-        Reader {
-            text,
-            at: self.at,
-            reads: self.reads,
-            before: self.before,
-            nesting: self.nesting,
-            levels: self.levels,
-            pending: self.pending,
-            stage: self.stage,
-            alloc: self.alloc,
-        }
-    }
-
     /// Stops at a fault. `begin` and `end` are in bytes from the reader's offset on.
     fn refuse(&mut self, begin: usize, fault: LexemeError, end: usize)
         requires begin { self.old.at + begin < 2 ^ 64 }
@@ -216,7 +195,7 @@ impl<'a> Reader<'a> {
         ensures text { self.new.text ≡ self.old.text }
         ensures read { IfOk result (λ line_end. Takes self.old (IsLineEndStep self.old len) (newline_of line_end self.old.at len) self.new) }
         ensures end { IfOk result (λ line_end. line_end ≡ TakenLineEnd.Fault → IsAtEnd self.old.text.now self.new) }
-        ensures reads { OnOk result ((before : ℕ) → AreReads (margin.at + margin.blanks) (5 * margin.at + margin.blanks + 2) before self.old.reads → IsLineEnd len (drop self.old.at self.old.text.now) →
+        ensures reads { OnOk result ((before : ℕ) → AreReads (margin.at + margin.blanks) (5 * margin.at + margin.blanks + 5) before self.old.reads → IsLineEnd len (drop self.old.at self.old.text.now) →
             IsMarginRead self.old.text.now len (record self.old { reads = before }) self.new self.new.stage) }
         ensures counts { IfOk result (λ line_end. (line_end ≢ TakenLineEnd.Passed) × (line_end ≢ TakenLineEnd.Newline)) }
     {
@@ -230,25 +209,28 @@ impl<'a> Reader<'a> {
         Ok(TakenLineEnd::Pending)
     }
 
-    /// Reads a newline of `len` bytes that counts, and any margin after it. Returns the outcome, and
-    /// stops at the fault, where the margin has one.
+    /// Reads a newline of `len` bytes that counts, and any margin after it, whose first `spaces` spaces
+    /// were read. Returns the outcome, and stops at the fault, where the margin has one.
     // A call: so a newline before a plain margin saves no registers (8 % of blank lines).
     #[inline(never)]
-    fn put_long_margin(&mut self, len: usize) -> Result<TakenLineEnd, AllocError>
-        requires { IsAtLineEnd self.old len }
+    fn put_long_margin(&mut self, len: usize, spaces: usize) -> Result<TakenLineEnd, AllocError>
+        requires line_end { IsAtLineEnd self.old len }
+        requires spaces { spaces ≡ prefix_len (nat_eq 32) (drop (self.old.at + len) self.old.text.now) }
         ensures text { self.new.text ≡ self.old.text }
         ensures read { IfOk result (λ line_end. Takes self.old (IsLineEndStep self.old len) (newline_of line_end self.old.at len) self.new) }
         ensures end { IfOk result (λ line_end. line_end ≡ TakenLineEnd.Fault → IsAtEnd self.old.text.now self.new) }
-        ensures reads { OnOk result (IsLineEnd len (drop self.old.at self.old.text.now) → IsMarginRead self.old.text.now len self.old self.new self.new.stage) }
+        ensures reads { OnOk result ((before : ℕ) → AreReads (spaces + 1) (spaces + 3) before self.old.reads → IsLineEnd len (drop self.old.at self.old.text.now) →
+            IsMarginRead self.old.text.now len (record self.old { reads = before }) self.new self.new.stage) }
         ensures counts { IfOk result (λ line_end. (line_end ≢ TakenLineEnd.Passed) × (line_end ≢ TakenLineEnd.Newline)) }
     {
         let begin = self.at + len;
-        let margin = margin_of(&mut self.reads, &self.text[begin..]);
+        let margin = margin_from(&mut self.reads, spaces, &self.text[begin..]);
         self.put_margin(len, margin)
     }
 
-    /// Reads a newline of `len` bytes that counts, and the margin of `width` spaces alone after it,
-    /// which content follows. Returns the outcome, and stops at the fault, where the margin has one.
+    /// Takes a newline of `len` bytes that counts, and the margin of `width` spaces alone after it,
+    /// which content follows. Returns the outcome, and stops at the fault, where the margin has one. The
+    /// margin was read.
     // Not `put_long_margin`: the known width is 2 % of deep indentation.
     #[inline(never)]
     fn change_width(&mut self, len: usize, width: usize) -> Result<TakenLineEnd, AllocError>
@@ -258,10 +240,10 @@ impl<'a> Reader<'a> {
         ensures text { self.new.text ≡ self.old.text }
         ensures read { IfOk result (λ line_end. Takes self.old (IsLineEndStep self.old len) (newline_of line_end self.old.at len) self.new) }
         ensures end { IfOk result (λ line_end. line_end ≡ TakenLineEnd.Fault → IsAtEnd self.old.text.now self.new) }
-        ensures reads { OnOk result (IsLineEnd len (drop self.old.at self.old.text.now) → IsMarginRead self.old.text.now len self.old self.new self.new.stage) }
+        ensures reads { OnOk result ((before : ℕ) → AreReads width (width + 1) before self.old.reads → IsLineEnd len (drop self.old.at self.old.text.now) →
+            IsMarginRead self.old.text.now len (record self.old { reads = before }) self.new self.new.stage) }
         ensures counts { IfOk result (λ line_end. (line_end ≢ TakenLineEnd.Passed) × (line_end ≢ TakenLineEnd.Newline)) }
     {
-        self.reads.count_run(width + 1);
         self.put_margin(len, Margin::of_spaces(width))
     }
 
@@ -278,13 +260,13 @@ impl<'a> Reader<'a> {
         ensures onward { IfOk result (λ line_end. line_end ≡ TakenLineEnd.Newline → (self.new.stage ≡ Stage.Onward) × (self.new.nesting ≡ self.old.nesting) × ((text : Text) → pending_lexemes text self.new.pending ≡ [])) }
     {
         let begin = self.at + len;
-        let Some(margin) = plain_margin(&self.text[begin..]) else {
-            return self.put_long_margin(len);
+        let margin = match plain_margin(&mut self.reads, &self.text[begin..]) {
+            Ok(margin) => margin,
+            Err(spaces) => return self.put_long_margin(len, spaces),
         };
         if !keeps_widths(&self.levels, margin) {
             return self.change_width(len, margin.width);
         }
-        self.reads.count_run(margin.blanks + 1);
         let is_flat = self.levels.len() == 0;
         self.pending.wait_for_comments(begin, begin, is_flat);
         self.step_to(begin + margin.blanks, Before::Layout);
@@ -349,6 +331,7 @@ impl<'a> Reader<'a> {
     #[tactic(auto, unfolding(starlark_grammar::specs::Cuts::is_settled))]
     pub fn is_clean_cut(&mut self) -> bool
         ensures value { (origin : Origin) (history : History) → IsStateAfter origin self.old.text.now history self.old → result ≡ (is_settled history && ends_with nat_eq self.old.text.now (codes "\n")) }
+        ensures last { (origin : Origin) (history : History) → IsStateAfter origin self.old.text.now history self.old → is_settled history ≡ true → more_reads self.old.reads 1 ≤ self.new.reads }
         ensures least { self.old.reads < 2 ^ 64 - 1 → self.old.reads ≤ self.new.reads }
         ensures most { self.new.reads ≤ self.old.reads + 1 }
         ensures same { self.new ≡ record self.old { reads = self.new.reads } }
@@ -495,8 +478,8 @@ impl<'a> Reader<'a> {
         requires order { begin ≤ end }
         requires fits { end < 2 ^ 64 - 1 }
         ensures text { self.new.text ≡ self.old.text }
-        ensures ahead { (origin : Origin) (text : Text) (history next : History) → IsStateAfter origin text history self.old → self.old.at ≤ end → IsCharBoundary text end → HasKept history next →
-            IsAhead (From next end) text self.new self.new.stage (map shown_lexeme (remaining_outcome next end (drop end text)).lexemes) (remaining_outcome next end (drop end text)).fault }
+        ensures ahead { (origin : Origin) (text : Text) (history : History) → IsStateAfter origin text history self.old → self.old.at ≤ end → IsCharBoundary text end →
+            IsAhead (From (kept_history history) end) text self.new self.new.stage (map shown_lexeme (remaining_outcome (kept_history history) end (drop end text)).lexemes) (remaining_outcome (kept_history history) end (drop end text)).fault }
         ensures reads { (text : Text) → more_reads 0 begin ≤ self.old.reads → self.old.reads + (end - begin) + 1 ≤ 10 * end + 2 → HasRead text self.new }
     {
         self.reads.count_run(end - begin);
@@ -524,11 +507,11 @@ impl<'a> Reader<'a> {
         ensures lookahead { IfSome result (λ word. HasScanned word.len ((5 * word.len - 4) + 2) self.old self.new) }
         ensures peeked { result ≡ None → HasScanned (peeked_len (drop self.new.at self.new.text.now)) (peeked_len (drop self.new.at self.new.text.now)) self.old self.new }
     {
-        let gap = gap_len(&self.text[self.at..]);
+        let (gap, first) = gap_and_next(&self.text[self.at..]);
         if gap > 0 {
             self.step_over(gap, Before::Gap);
         }
-        word_after(&mut self.reads, gap, &self.text[self.at..])
+        word_after(&mut self.reads, gap, first, &self.text[self.at..])
     }
 
     /// The word at the offset, where `common_word` has found none; `None` if no word begins there.

@@ -3,7 +3,7 @@
 ghost use Rattle.std.specs.Prelude.{◌≡◌, ◌+◌, ◌-◌, ◌≤◌, ◌<◌, ◌^◌, drop, length, take};
 ghost use Rattle.std.specs.List.{prefix_len};
 ghost use Rattle.starlark_words.specs.Inner.LaneMasks.{MarksEnd};
-ghost use Rattle.starlark_words.specs.Inner.Reads.{AreReads};
+ghost use Rattle.starlark_words.specs.Inner.Reads.{AreReads, CountsSteps};
 ghost use Rattle.starlark_words.specs.Inner.LineFronts.{is_in_front, most_front_reads};
 
 use crate::lanes::LANES;
@@ -61,6 +61,7 @@ fn long_front_len(
     ensures value { result ≡ prefix_len (is_in_front other) text.now }
     ensures within { result ≤ length text.now }
     ensures reads { AreReads (passed + (result + 1)) (passed + (result + 16)) reads.old reads.new }
+    ensures steps { CountsSteps from result passed reads.old reads.new }
 {
     let mut at = from;
     while at + LANES <= text.len() {
@@ -90,6 +91,7 @@ pub fn front_len(reads: &mut ReadCounter, passed: usize, text: &[u8], other: u8)
     ensures value { result ≡ prefix_len (is_in_front other) text.now }
     ensures within { result ≤ length text.now }
     ensures reads { AreReads (passed + (result + 1)) (passed + most_front_reads result text.now) reads.old reads.new }
+    ensures steps { 16 ≤ length text.now → CountsSteps 5 result passed reads.old reads.new }
 {
     if text.len() < LANES {
         let len = short_front_len(text, other);

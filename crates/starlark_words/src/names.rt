@@ -4,7 +4,7 @@ ghost use Rattle.std.specs.Prelude.{◌≡◌, ◌<◌, ◌≤◌, ◌+◌, ◌*
 ghost use Rattle.std.specs.List.{prefix_len};
 ghost use Rattle.starlark_grammar.specs.Words as grammar;
 ghost use Rattle.starlark_words.specs.Inner.LaneMasks.{MarksEnd};
-ghost use Rattle.starlark_words.specs.Inner.Reads.{AreReads};
+ghost use Rattle.starlark_words.specs.Inner.Reads.{AreReads, more_reads};
 
 use crate::lanes::LANES;
 use crate::reads::ReadCounter;
@@ -82,6 +82,7 @@ pub(crate) fn name_len(reads: &mut ReadCounter, passed: usize, text: &[u8]) -> u
     ensures value { result ≡ prefix_len grammar.is_in_name text.now }
     ensures within { result ≤ length text.now }
     ensures reads { AreReads (passed + (result + 1)) (passed + (5 * result + 1)) reads.old reads.new }
+    ensures step { 20 ≤ length text.now → 4 ≤ result → more_reads reads.old (passed + 20) ≤ reads.new }
 {
     if text.len() < ALONE + LANES {
         let len = last_name_len(text);

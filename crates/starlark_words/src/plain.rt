@@ -1,9 +1,9 @@
 //! Fast path for bodies of literals without escapes.
 
-ghost use Rattle.std.specs.Prelude.{◌≡◌, ◌+◌, ◌*◌, take, IfErr, IfOk, IfSome};
+ghost use Rattle.std.specs.Prelude.{◌≡◌, ◌+◌, ◌*◌, ◌≤◌, Ok, take, IfErr, IfOk, IfSome};
 ghost use Rattle.starlark_grammar.specs.Items.{Stops, found_at};
 ghost use Rattle.starlark_grammar.specs.Words.{Text};
-ghost use Rattle.starlark_words.specs.Inner.Reads.{AreReads};
+ghost use Rattle.starlark_words.specs.Inner.Reads.{AreReads, more_reads};
 ghost use Rattle.starlark_words.specs.Inner.LiteralViews.{IsPlainBody, IsPlainChunk, fstring_literal, single_literal, stop_view};
 ghost use Rattle.starlark_words.specs.Inner.PlainRuns.{IsRun};
 ghost use Rattle.starlark_grammar.specs.Inner.Openings.{opening_view};
@@ -30,11 +30,13 @@ pub fn plain_body_len(
     text: &str,
 ) -> Result<usize, usize>
     ensures plain { IfOk result (λ len. IsPlainBody kind is_raw quote text.now len) }
-    ensures reads { IfOk result (λ len. AreReads (len + 1) (6 * len + 3) reads.old reads.new) }
-    ensures other { IfErr result (λ run. IsRun (single_literal kind is_raw quote) text.now run × AreReads run (6 * run + 3) reads.old reads.new) }
+    ensures reads { IfOk result (λ len. AreReads (len + 2) (6 * len + 3) reads.old reads.new) }
+    ensures second { result ≡ Ok 0 → more_reads reads.old 3 ≤ reads.new }
+    ensures other { IfErr result (λ run. IsRun (single_literal kind is_raw quote) text.now run × AreReads (run + 2) (6 * run + 3) reads.old reads.new) }
 {
     let literal = single_quoted(kind, is_raw, quote);
-    let len = first_run(reads, 0, literal, text).len();
+    // The byte after the run is read twice.
+    let len = first_run(reads, 1, literal, text).len();
     let bytes = text.as_bytes();
     if byte_at(bytes, len) != quote_byte(quote) {
         return Err(len);
@@ -78,8 +80,8 @@ pub fn plain_chunk_len(
 ) -> Result<(usize, Stop), usize>
     ensures plain { IfOk result (λ found. IsPlainChunk (opening_view opening) text.now found.0 (stop_view found.1)) }
     ensures run { IfOk result (λ found. IsRun (fstring_literal (opening_view opening)) text.now found.0) }
-    ensures reads { IfOk result (λ found. AreReads (found.0 + 3) (6 * found.0 + 4) reads.old reads.new) }
-    ensures other { IfErr result (λ run. IsRun (fstring_literal (opening_view opening)) text.now run × AreReads run (6 * run + 4) reads.old reads.new) }
+    ensures reads { IfOk result (λ found. AreReads (found.0 + 4) (6 * found.0 + 4) reads.old reads.new) }
+    ensures other { IfErr result (λ run. IsRun (fstring_literal (opening_view opening)) text.now run × AreReads (run + 4) (6 * run + 4) reads.old reads.new) }
 {
     let literal = Literal {
         kind: LiteralKind::FString,

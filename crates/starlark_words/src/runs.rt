@@ -1,12 +1,12 @@
 //! Runs of a literal's body: characters without escapes, which are copied unchanged.
 
-ghost use Rattle.std.specs.Prelude.{◌≡◌, ◌<◌, ◌≤◌, ◌+◌, ◌*◌, ◌^◌, drop, length, take, true, false};
+ghost use Rattle.std.specs.Prelude.{◌≡◌, ◌<◌, ◌≤◌, ◌+◌, ◌*◌, ◌^◌, ◌-◌, drop, length, min, take, true, false};
 ghost use Rattle.std.specs.List.{prefix_len};
 ghost use Rattle.std.specs.Str.{IsCharBoundary};
 ghost use Rattle.starlark_grammar.specs.Items as grammar;
 ghost use Rattle.starlark_words.specs.Inner.LaneMasks.{MarksEnd};
 ghost use Rattle.starlark_words.specs.Inner.LiteralViews.{literal_view};
-ghost use Rattle.starlark_words.specs.Inner.Reads.{AreReads, more_reads};
+ghost use Rattle.starlark_words.specs.Inner.Reads.{AreReads, CountsSteps, more_reads};
 ghost use Rattle.starlark_words.specs.Inner.PlainRuns.{is_in_run, is_special};
 
 use super::items::{Literal, ends_line, is_brace, quote_byte};
@@ -92,6 +92,7 @@ fn long_run_len(reads: &mut ReadCounter, literal: Literal, bytes: &[u8]) -> usiz
     ensures within { result ≤ length bytes.now }
     ensures reads { AreReads (result + 1) (result + 16) reads.old reads.new }
     ensures few { length bytes.now < 16 → reads.new ≡ more_reads reads.old (result + 1) }
+    ensures steps { 16 ≤ length bytes.now → CountsSteps 0 (min result (length bytes.now - 16)) 0 reads.old reads.new }
 {
     let mut at = 0;
     while at + LANES <= bytes.len() {
@@ -114,6 +115,7 @@ fn run_len(reads: &mut ReadCounter, passed: usize, literal: Literal, bytes: &[u8
     requires { passed < 2 ^ 33 }
     ensures value { result ≡ prefix_len (is_in_run (literal_view literal)) bytes.now }
     ensures reads { AreReads (passed + (result + 1)) (passed + (6 * result + 1)) reads.old reads.new }
+    ensures steps { 16 ≤ length bytes.now → 3 ≤ result → CountsSteps 0 (min result (length bytes.now - 16)) (passed + 3) reads.old reads.new }
 {
     if bytes.len() < LANES {
         reads.add(passed);

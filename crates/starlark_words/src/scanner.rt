@@ -1,11 +1,11 @@
 //! Finds the longest word at the front of a text.
 
-ghost use Rattle.std.specs.Prelude.{◌≡◌, ◌≢◌, false, ◌<◌, ◌≤◌, ◌+◌, ◌-◌, ◌*◌, ◌^◌, IfSome, None, Some, length, nat_eq};
+ghost use Rattle.std.specs.Prelude.{◌≡◌, ◌≢◌, false, ◌<◌, ◌≤◌, ◌+◌, ◌-◌, ◌*◌, ◌^◌, IfSome, None, Some, get_or, length, nat_eq, true};
 ghost use Rattle.std.specs.Option.{option_map};
 ghost use Rattle.std.specs.List.{prefix_len};
 ghost use Rattle.starlark_grammar.specs.Front.{language_front};
 ghost use Rattle.starlark_words.specs.Inner.Reads.{AreReads, more_reads};
-ghost use Rattle.starlark_words.specs.Inner.ScannedWords.{begins_mark, begins_number, is_common, peeked_len, word_len, word_view};
+ghost use Rattle.starlark_words.specs.Inner.ScannedWords.{begins_mark, begins_number, is_common, looked_len, peeked_len, word_len, word_view};
 ghost use Rattle.starlark_grammar.specs.Pieces.{is_bang};
 ghost use Rattle.starlark_grammar.specs.Words as grammar;
 ghost use Rattle.starlark_grammar.specs.declared.class.Class.TheVariants as class;
@@ -17,7 +17,7 @@ mod word;
 
 use crate::lines::front_len;
 use crate::names::is_name_start;
-use crate::reads::{ReadCounter, byte_at, uncounted_spaces_len};
+use crate::reads::{ReadCounter, byte_at};
 pub use starlark_grammar::class::{Class, LiteralKind, Quote, Terminal};
 pub use word::Word;
 
@@ -32,20 +32,25 @@ fn begins_number(text: &[u8]) -> bool
     }
 }
 
-/// Length of the run of spaces at the front of a text. `word_after` counts their reads.
-// The first byte is asked before the loop (3 % of dense tokens).
+/// Length of the run of spaces at the front of a text, and the byte after it; 0 after its end.
+///
+/// Each byte is read once, and `word_after` counts the reads.
 #[inline(always)]
-pub fn gap_len(text: &str) -> usize
-    ensures value { result ≡ prefix_len (nat_eq 32) text.now }
-    ensures word { 0 < result → language_front text.now ≡ Some (class.Skipped, result) }
-    ensures bang { 0 < result → is_bang text.now ≡ false }
-    ensures within { result ≤ length text.now }
+pub fn gap_and_next(text: &str) -> (usize, u8)
+    ensures value { result.0 ≡ prefix_len (nat_eq 32) text.now }
+    ensures next { result.1 ≡ get_or text.now result.0 0 }
+    ensures word { 0 < result.0 → language_front text.now ≡ Some (class.Skipped, result.0) }
+    ensures bang { 0 < result.0 → is_bang text.now ≡ false }
+    ensures within { result.0 ≤ length text.now }
 {
     let bytes = text.as_bytes();
-    if bytes.is_empty() || bytes[0] != b' ' {
-        return 0;
+    let mut len = 0;
+    let mut next = byte_at(bytes, 0);
+    while next == b' ' {
+        len += 1;
+        next = byte_at(bytes, len);
     }
-    1 + uncounted_spaces_len(&bytes[1..])
+    (len, next)
 }
 
 /// The longest word after `gap` spaces if its first two bytes tell its kind: a name, a keyword, a
@@ -53,23 +58,24 @@ pub fn gap_len(text: &str) -> usize
 /// for any other word.
 ///
 /// Of a mark whose first two bytes are the same, the third one is read, too: a symbol of three bytes
-/// begins so. The reads of the spaces are counted with these.
+/// begins so. `first` is the first byte, or 0. Its read and those of the spaces are counted with these.
 // The reads are added up once, before the mark is found: after it a count costs each lexeme 15
 // instructions, and each further count four. A line end is found before all else (8 % of blank lines).
 #[inline(always)]
-pub fn word_after(reads: &mut ReadCounter, gap: usize, text: &str) -> Option<Word>
-    requires { gap < 2 ^ 32 }
+pub fn word_after(reads: &mut ReadCounter, gap: usize, first: u8, text: &str) -> Option<Word>
+    requires few { gap < 2 ^ 32 }
+    requires first { first ≡ get_or text.now 0 0 }
     ensures word { IfSome result (λ word. Some (word_view word) ≡ language_front text.now) }
     ensures bang { IfSome result (λ word. is_bang text.now ≡ false) }
     ensures comment { IfSome result (λ word. word.class ≢ class.Comment) }
     ensures none { result ≡ None → grammar.begins grammar.is_name_start text.now ≡ false }
     ensures rest { result ≡ None → begins_mark text.now ≡ false }
     ensures reads { IfSome result (λ word. AreReads (gap + word.len) (gap + (5 * word.len - 4) + 2) reads.old reads.new) }
+    ensures name { grammar.begins grammar.is_name_start text.now ≡ true → more_reads reads.old (gap + 1 + word_len result) ≤ reads.new }
+    ensures other { grammar.begins grammar.is_name_start text.now ≡ false → reads.new ≡ more_reads reads.old (gap + looked_len text.now) }
     ensures peeked { result ≡ None → reads.new ≡ more_reads reads.old (gap + peeked_len text.now) }
 {
-    let passed = gap + 2;
-    let bytes = text.as_bytes();
-    let first = byte_at(bytes, 0);
+    let passed = gap + 1;
     if first == b'\n' {
         reads.add(passed);
         return Some(Word {
@@ -78,13 +84,15 @@ pub fn word_after(reads: &mut ReadCounter, gap: usize, text: &str) -> Option<Wor
         });
     }
     if is_name_start(first) {
-        return Some(names::name_from(reads, passed, text));
+        // One more: the byte after a name of one or two letters is read twice, since it may be a quote.
+        return Some(names::name_from(reads, passed + 1, text));
     }
+    let bytes = text.as_bytes();
     let second = byte_at(bytes, 1);
     let (third, passed) = if second == first {
-        (byte_at(bytes, 2), passed + 1)
+        (byte_at(bytes, 2), passed + 2)
     } else {
-        (0, passed)
+        (0, passed + 1)
     };
     reads.add(passed);
     marks::mark(first, second, third)
@@ -140,7 +148,7 @@ pub fn first_word(reads: &mut ReadCounter, text: &str) -> Option<Word>
     ensures bang { IfSome result (λ word. is_bang text.now ≡ false) }
     ensures reads { AreReads (word_len result) (5 * word_len result + 3) reads.old reads.new }
 {
-    match word_after(reads, 0, text) {
+    match word_after(reads, 0, byte_at(text.as_bytes(), 0), text) {
         Some(word) => Some(word),
         None => unnamed_word(reads, text),
     }

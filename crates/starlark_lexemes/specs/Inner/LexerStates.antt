@@ -8,8 +8,8 @@ use Rattle.starlark_words.specs.Inner.Reads.{more_reads}
 use Rattle.starlark_grammar.specs.AfterFaults.{is_margin_tab, restart}
 use Rattle.starlark_grammar.specs.Inner.KeptFaults.{may_keep}
 use Rattle.starlark_grammar.specs.Laws.{AtBoundaries}
-use Rattle.starlark_grammar.specs.Reading.{History, outcome}
-use Rattle.starlark_grammar.specs.Repairs.{repair_end}
+use Rattle.starlark_grammar.specs.Reading.{outcome}
+use Rattle.starlark_grammar.specs.KeptLines.{passed_end}
 use Rattle.starlark_grammar.specs.Tokens as grammar
 use Rattle.starlark_grammar.specs.Tokens.{Fault, Spanned}
 use Rattle.starlark_grammar.specs.Words.{Text, begins, is_name_start}
@@ -17,8 +17,8 @@ use Rattle.starlark_grammar.specs.declared.class.Class.TheVariants as class
 use Rattle.starlark_grammar.specs.declared.class.LiteralKind.TheVariants as literal
 use Rattle.starlark_words.specs.Inner.ScannedWords.{begins_mark, peeked_len}
 use Rattle.starlark_words.specs.declared.scanner.word.Word.{Word}
-use Rattle.starlark_reader.specs.Inner.Reader.{IsAhead, IsAheadAfter, IsAheadPast, IsAtCode, IsAtEnd, IsRaw, IsSomething, IsStateAfter, IsStateAtFault, IsWordHere, From, HasKept, Origin, Start, begins_with_tab, has_read_none, history_since, is_fault, left_to_read, remaining_outcome}
-use Rattle.starlark_reader.specs.Inner.ReadBounds.{HasRead, LeavesRepair}
+use Rattle.starlark_reader.specs.Inner.Reader.{IsAhead, IsAheadAfter, IsAheadPast, IsAtCode, IsAtEnd, IsRaw, IsSomething, IsStateAfter, IsStateAtFault, IsWordHere, From, Origin, Start, begins_with_tab, has_read_none, history_since, is_fault, kept_history, left_to_read, outcome_since}
+use Rattle.starlark_reader.specs.Inner.ReadBounds.{HasRead, LeavesPassed}
 use Rattle.starlark_reader.specs.declared.reader.Before.{Before}
 use Rattle.starlark_reader.specs.declared.reader.Before.TheVariants as before
 use Rattle.starlark_reader.specs.declared.reader.Reader.{Reader}
@@ -46,6 +46,9 @@ pub record Course : Type 0 where
   pub origin : Origin
   pub lexemes : List grammar.Lexeme
   pub fault : Option (Spanned Fault)
+
+abbrev pub course_of : Origin → Text → Course
+course_of origin text = record { origin = origin; lexemes = (outcome_since origin text).lexemes; fault = (outcome_since origin text).fault }
 
 -- that of a whole text
 abbrev pub whole : Text → Course
@@ -120,7 +123,7 @@ abbrev pub has_fault : LexerState → Bool
 has_fault state = not state.has_ended && is_fault state.reader.stage
 
 -- The fault of a text was taken, and all lexemes before it were yielded. The reader stores what is open there, and its reads
--- leave those of the fault's repair.
+-- leave those of the bytes that are passed with the fault.
 pub record IsAtFault (course : Course) (text : Text) (fault : Spanned Fault) (state : LexerState) : Type 0 where
   pub fits : length text < 2 ^ 32
   pub has : course.fault ≡ Some fault
@@ -128,21 +131,20 @@ pub record IsAtFault (course : Course) (text : Text) (fault : Spanned Fault) (st
   pub stores : IsStateAtFault course.origin text state.reader
   pub before : state.reader.at ≤ fault.begin
   pub least : more_reads 0 fault.begin ≤ state.reader.reads
-  pub leaves : LeavesRepair text fault state.reader.reads
+  pub leaves : LeavesPassed text fault state.reader.reads
 
--- What is lexed from byte `at` of a text on, after a history.
-abbrev pub course_from : History → (at : ℕ) → Text → Course
-course_from history at text = record { origin = From history at; lexemes = (remaining_outcome history at (drop at text)).lexemes; fault = (remaining_outcome history at (drop at text)).fault }
+-- What is lexed from byte `end` of a text on, after a fault at which all that is open stays open.
+abbrev pub course_past : Course → (end : ℕ) → Text → Course
+course_past course end text = course_of (From (kept_history (history_since course.origin text)) end) text
 
--- At a fault all that is open stays open: reading goes on at byte `end`, after the history `next`.
-pub record KeepsOpen (course : Course) (text : Text) (fault : Spanned Fault) (next : History) (begin end : ℕ) : Type 0 where
+-- Such a fault: reading goes on at byte `end`.
+pub record KeepsOpen (course : Course) (text : Text) (fault : Spanned Fault) (begin end : ℕ) : Type 0 where
   pub begins : begin ≡ fault.begin
-  pub ends : end ≡ repair_end text fault
+  pub ends : end ≡ passed_end text fault
   pub may : may_keep fault.node ≡ true
   pub inside : is_margin_tab text fault ≡ false
   pub untabbed : course.origin ≡ Start → begins_with_tab text ≡ false
   pub boundary : IsCharBoundary text end
-  pub kept : HasKept (history_since course.origin text) next
 
 -- At a fault each byte before it was read, and at most so many, with those that find where lexing begins again.
 abbrev pub AreReadsTo : Text → Spanned Fault → ℕ → Type 0

@@ -1,5 +1,5 @@
 -- Margins, line by line.
-use Rattle.std.proofs.Common.{◌≡◌, ℕ, zero, suc, ◌+◌, ◌-◌, ◌≤◌, ◌<◌, Bool, true, false, cond, not, List, [], ◌∷◌, ◌++◌, length, take, drop, refl, ap, ◌∙◌, sym, subst, arith, one-add, zero-add, get_or, rules}
+use Rattle.std.proofs.Common.{◌≡◌, ℕ, zero, suc, ◌+◌, ◌-◌, ◌≤◌, ◌<◌, Bool, true, false, cond, not, List, [], ◌∷◌, ◌++◌, length, take, drop, refl, ap, ◌∙◌, sym, subst, nat_eq, arith, one-add, zero-add, get_or, rules}
 use Rattle.std.specs.Prelude.{◌==◌, ◌&&◌, if◌then◌else◌, min, nat_lt, take_while}
 use Rattle.starlark_words.specs.Inner.LineFronts.{is_in_front}
 use Rattle.std.specs.List.{prefix_len, onto_first, AllByRecursion}
@@ -223,6 +223,24 @@ last_passed text line remainder at found content passed e same f h is =
     search (rules, blanks, length-prefix_len, no_comment, lines_sum)
 
 -- a comment has a byte before its line's LF
+-- the spaces at the start of a text that are after an offset
+pub spaces_after : (text : Text) (spaces at : ℕ) → spaces ≤ prefix_len (nat_eq 32) text → spaces - at ≤ prefix_len (nat_eq 32) (drop at text)
+spaces_after text spaces zero known = omega (arith, known)
+spaces_after [] spaces (suc n) known = omega (arith, known)
+spaces_after (b ∷ bs) spaces (suc n) known = go (nat_eq 32 b) known (λ few. spaces_after bs (spaces - 1) n few)
+  where
+    go : (space : Bool) → spaces ≤ cond space (1 + prefix_len (nat_eq 32) bs) 0 → (spaces - 1 ≤ prefix_len (nat_eq 32) bs → spaces - 1 - n ≤ prefix_len (nat_eq 32) (drop n bs)) → spaces - suc n ≤ prefix_len (nat_eq 32) (drop n bs)
+    go true h more = omega (arith, more (omega (arith, h)))
+    go false h more = omega (arith, h)
+
+-- where a comment begins, all of them are before
+pub spaces_before : (text : Text) (spaces at : ℕ) → spaces ≤ prefix_len (nat_eq 32) text → begins_comment (drop at text) ≡ true → spaces ≤ at
+spaces_before text spaces at known begins = omega (arith, spaces_after text spaces at known, none (drop at text) begins)
+  where
+    none : (rest : Text) → begins_comment rest ≡ true → prefix_len (nat_eq 32) rest ≡ 0
+    none [] e = cc
+    none (b ∷ bs) e = let no : nat_eq 32 b ≡ false = grind (arith, nat_tests) in rw no refl
+
 pub comment_some : (text : Text) → begins_comment text ≡ true → 0 < prefix_len is_other text
 comment_some [] e = absurd (false≢true e)
 comment_some (b ∷ rest) e = let other : is_other b ≡ true = no_feed b e in rw other (omega arith)

@@ -38,7 +38,7 @@ use Rattle.starlark_reader.specs.Inner.Pending.{IsPending, lines_between, pendin
 use Rattle.starlark_reader.specs.Inner.Reader.{IsReadTo, remaining_outcome}
 use Rattle.starlark_reader.specs.declared.pending.Pending.{Pending}
 use Rattle.starlark_reader.proofs.TakenMargins.Pending.{margin_lines}
-use Rattle.starlark_reader.proofs.TakenPieces.Onward.{GoesOn, first_stands, margin_first, onward_stands}
+use Rattle.starlark_reader.proofs.TakenPieces.LeftOutcomes.{GoesOn, first_stands, margin_first, onward_stands}
 
 -- Readings
 

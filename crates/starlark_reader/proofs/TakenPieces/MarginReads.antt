@@ -119,7 +119,7 @@ some_blank (b ∷ bs) tab = omega arith
 -- lexing begins again after a margin that is a fault; the search for that is within the bound
 record MarginSearch (text : Text) (begin len : ℕ) (margin : Margin) (fault : Spanned Fault) : Type 0 where
   pub after : begin + len + (margin.at + margin.blanks) ≤ restart text fault
-  pub reads : 5 * margin.at + margin.blanks + 2 + search_reads text fault + 5 * len ≤ 10 * (restart text fault - begin) + 5
+  pub reads : 5 * margin.at + margin.blanks + 5 + search_reads text fault + 5 * len ≤ 10 * (restart text fault - begin) + 8
   pub keeps_none : may_keep fault.node ≡ true → is_margin_tab text fault ≡ true
 
 never_kept : may_keep Indentation ≡ true → ⊥
@@ -157,7 +157,7 @@ margin_search text begin len end margin fault there inside is found = λ node vi
 -- the reads at the fault of a margin after a newline
 pub refused_reads : (text : Text) (len end : ℕ) (margin : Margin) (fault : LexemeError) (old new : Reader) → IsLineEnd len (drop old.at text) → old.at + len + (margin.at + margin.blanks) ≤ length text
     → IsMargin (margin_of (drop (old.at + len) text)) margin → IsFaultFound (margin_fault len (margin_of (drop (old.at + len) text))) (fault, end) → new.stage ≡ stages.Fault (old.at + 0) fault (old.at + end)
-    → AreReads 0 (5 * margin.at + margin.blanks + 2) old.reads new.reads → owed new.pending ≡ 0 → IsMarginRead text len old new new.stage
+    → AreReads 0 (5 * margin.at + margin.blanks + 5) old.reads new.reads → owed new.pending ≡ 0 → IsMarginRead text len old new new.stage
 refused_reads text len end margin fault old new there inside is found stops read none =
     let here : old.at + 0 ≡ old.at = omega arith in
     subst (IsMarginRead text len old new) (sym (stops ∙ ap (λ at. stages.Fault at fault (old.at + end)) here)) (

@@ -2,15 +2,15 @@
 use Rattle.std.proofs.Common.{◌≡◌, Bool, true, false, ℕ, zero, suc, ◌+◌, ◌<◌, ◌≤◌, length, length-append, take, arith, List, [], ◌∷◌, ◌++◌, map, drop, refl, sym, ap, subst, ◌∙◌, None, Some, ◌⊎◌, inl, inr, rules}
 use Rattle.std.specs.Prelude.{Option, nat_lt, sum_by}
 use Rattle.starlark_grammar.specs.Words.{Text, language}
-use Rattle.starlark_grammar.specs.Tokens.{Fault, Lexeme, Outcome, Spanned}
+use Rattle.starlark_grammar.specs.Tokens.{Fault, Lexeme, Outcome, Spanned, moved}
 use Rattle.starlark_grammar.specs.Pieces.{Piece, Step, Fails}
-use Rattle.starlark_grammar.specs.Reading.{History, lexemes_along, outcome, outcome_in, outcome_of, read, read_from}
+use Rattle.starlark_grammar.specs.Reading.{History, lexemes_along, nothing, outcome, outcome_after, outcome_in, read, read_after, reading_outcome}
 use Rattle.starlark_token.specs.Lexemes.{lexeme_view, shown_lexeme}
 use Rattle.starlark_reader.specs.Inner.MarginCuts.{IsAfterLines, IsCutBefore, IsMarginAhead}
 use Rattle.starlark_reader.specs.Inner.MarginLines.{IsLinePassed, IsPassedLine}
 use Rattle.starlark_reader.specs.Inner.Nesting.{bracket_count}
 use Rattle.starlark_reader.specs.Inner.Pending.{IsFirst, IsFirstPast, IsIdle, lines_between, pending_lexemes}
-use Rattle.starlark_reader.specs.Inner.Reader.{IsAhead, IsAheadAfter, IsAheadPast, IsInFlatMargin, IsLast, IsLeft, IsOver, IsReady, IsSomething, IsStateAfter, Origin, Start, history_since, outcome_along, remaining_outcome}
+use Rattle.starlark_reader.specs.Inner.Reader.{IsAhead, IsAheadAfter, IsAheadPast, IsInFlatMargin, IsLast, IsLeft, IsOver, IsReady, IsSomething, IsStateAfter, Origin, Start, history_since, moved_fault, remaining_outcome}
 use Rattle.starlark_token.specs.TokenViews.{TokenView}
 use Rattle.starlark_token.specs.declared.lexeme_error.LexemeError.{LexemeError}
 use Rattle.starlark_token.specs.declared.tokens.Token.{Token}
@@ -127,25 +127,30 @@ nothing_next text old new lexemes fault here idle same e e_now ahead = search (r
 
 -- Something is ahead of a text that isn't read to its end.
 
-some_lexeme : (xs : List Lexeme) (y : Lexeme) (ys : List Lexeme) → map shown_lexeme (xs ++ y ∷ ys) ≡ [] → ⊥
+none_mapped : {A B : Type 0} (f : A → B) (xs : List A) → map f xs ≡ [] → xs ≡ []
+none_mapped f [] e = refl
+none_mapped f (x ∷ xs) e = cc
+
+some_lexeme : (xs : List Lexeme) (y : Lexeme) (ys : List Lexeme) → xs ++ y ∷ ys ≡ [] → ⊥
 some_lexeme [] y ys e = cc
 some_lexeme (x ∷ xs) y ys e = cc
 
-along_something : (history : History) (at : ℕ) (pieces : List Piece) (last : Step) → map shown_lexeme (outcome_along history at pieces last).lexemes ≡ [] → (outcome_along history at pieces last).fault ≡ None → ⊥
-along_something history at pieces (Fails fault) e none = cc
-along_something history at pieces last e none = some_lexeme (lexemes_along at pieces) _ _ e
+reading_something : (history : History) (text : Text) (pieces : List Piece) (last : Step) → (reading_outcome history text pieces last).lexemes ≡ [] → (reading_outcome history text pieces last).fault ≡ None → ⊥
+reading_something history text pieces (Fails fault) e none = cc
+reading_something history text pieces last e none = some_lexeme (lexemes_along 0 pieces) _ _ e
 
 rest_something : (history : History) (at : ℕ) (text : Text) → map shown_lexeme (remaining_outcome history at text).lexemes ≡ [] → (remaining_outcome history at text).fault ≡ None → ⊥
-unfolding remaining_outcome
-rest_something history at text e none = along_something history at (read_from language history 0 text).pieces (read_from language history 0 text).last e none
+unfolding remaining_outcome outcome_after
+rest_something history at text e none =
+    reading_something history text (read_after language history text).pieces (read_after language history text).last (none_mapped (moved at) _ (none_mapped shown_lexeme _ e)) (unmoved _ none)
+  where
+    unmoved : (fault : Option (Spanned Fault)) → moved_fault at fault ≡ None → fault ≡ None
+    unmoved None e = refl
+    unmoved (Some fault) e = cc
 
 whole_something : (text : Text) → map shown_lexeme (outcome text).lexemes ≡ [] → (outcome text).fault ≡ None → ⊥
 unfolding outcome outcome_in
-whole_something text e none = go (read language text).pieces (read language text).last e none
-  where
-    go : (pieces : List Piece) (last : Step) → map shown_lexeme (outcome_of text pieces last).lexemes ≡ [] → (outcome_of text pieces last).fault ≡ None → ⊥
-    go pieces (Fails fault) e none = cc
-    go pieces last e none = some_lexeme (lexemes_along 0 pieces) _ _ e
+whole_something text e none = reading_something nothing text (read language text).pieces (read language text).last (none_mapped shown_lexeme _ e) none
 
 pub begin_something : {origin : Origin} → (text : Text) (reader : Reader) (lexemes : List (Spanned TokenView)) (fault : Option (Spanned Fault)) → IsIdle text reader.pending → reader.stage ≡ stage.Begin → IsAhead origin text reader reader.stage lexemes fault → IsSomething lexemes fault
 begin_something text reader lexemes fault idle e ahead = search (rules, none_before, whole_something)

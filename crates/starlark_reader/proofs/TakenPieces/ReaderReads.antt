@@ -21,7 +21,7 @@ use Rattle.starlark_reader.specs.Inner.Pending.{IsIdle, owed}
 use Rattle.starlark_reader.specs.Inner.StepViews.{IsStep, ReadStep}
 use Rattle.starlark_reader.specs.Inner.ReadBounds.{AreStepReads, HasRead, HasReadAt, HasScannedHere, IsMarginRead, IsPassed, IsPassedBy, LeavesReads}
 use Rattle.starlark_reader.proofs.TakenPieces.Here.{fault_here}
-use Rattle.starlark_reader.proofs.TakenPieces.RepairReads.{moved_repair}
+use Rattle.starlark_reader.proofs.TakenPieces.KeptReads.{moved_passed}
 use Rattle.starlark_reader.proofs.TakenPieces.SearchReads.{fault_restart, step_search}
 use Rattle.starlark_reader.specs.declared.literal.chunks.Chunk.{Chunk}
 use Rattle.starlark_reader.specs.Inner.StepViews as steps
@@ -51,11 +51,11 @@ step_reads text before history (steps.Fault begin fault end) old new kept stands
       λ node is.
           let after = fault_restart text old.at begin end node kept.inside here.1 in
           let search = step_search text old.at begin end fault node is kept.inside here.1 in
-          (omega (arith, after, search, has.1, read.1, passed.0.1, passed.0.2), λ keeps inside. omega (arith, moved_repair text old.at begin end node, leaves node is keeps, has.1, passed.0.1, passed.0.2)),
+          (omega (arith, after, search, has.1, read.1, passed.0.1, passed.0.2), λ keeps inside. omega (arith, moved_passed text old.at begin end node, leaves node is keeps, has.1, passed.0.1, passed.0.2)),
     )
 
 -- the reads after a newline and its margin
-pub line_reads : (text : Text) (len before : ℕ) (old new : Reader) → old.at + len ≤ length text → IsReadBefore before old.at (owed old.pending) → AreReads len (5 * len + 3) before old.reads → 0 < len
+pub line_reads : (text : Text) (len before : ℕ) (old new : Reader) → old.at + len ≤ length text → IsReadBefore before old.at (owed old.pending) → AreReads len (5 * len) before old.reads → 0 < len
     → IsMarginRead text len old new new.stage → HasRead text new
 line_reads text len before old new inside has read some margin = go new.stage margin
   where
@@ -66,10 +66,10 @@ line_reads text len before old new inside has read some margin = go new.stage ma
 
 -- the run that was peeked after an opener, …
 pub opened_run : (rest : Text) (reads : ℕ) (reader : Reader) (kind : LiteralKind) (is_raw : Bool) (quote : Quote) (len : ℕ) (found : Result ℕ ℕ) → rest ≡ drop len (drop reader.at reader.text.now)
-    → IfErr found (λ run. IsRun (single_literal kind is_raw quote) rest run × AreReads run (6 * run + 3) reader.reads reads)
+    → IfErr found (λ run. IsRun (single_literal kind is_raw quote) rest run × AreReads (run + 2) (6 * run + 3) reader.reads reads)
     → IfErr found (λ run. IsRun (single_literal kind is_raw quote) (drop len (drop reader.at reader.text.now)) run × HasScannedHere run (6 * run + 3) reader (record reader { reads = reads }))
 opened_run rest reads reader kind is_raw quote len (Ok value) e other = tt
-opened_run rest reads reader kind is_raw quote len (Err run) e other = (subst (λ (t : Text). IsRun (single_literal kind is_raw quote) t run) e other.0, (refl, refl, omega arith, other.1))
+opened_run rest reads reader kind is_raw quote len (Err run) e other = (subst (λ (t : Text). IsRun (single_literal kind is_raw quote) t run) e other.0, (refl, refl, omega arith, (omega (arith, other.1.0), other.1.1)))
 
 -- … and in the text of an f-string
 pub text_run : (text rest : Text) (reads : ℕ) (reader : Reader) (opening : code.Opening) (found : Result Chunk ℕ) → rest ≡ drop reader.at text → reader.stage ≡ stages.Onward → IsIdle text reader.pending

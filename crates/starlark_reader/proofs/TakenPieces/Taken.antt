@@ -13,7 +13,7 @@ use Rattle.starlark_grammar.specs.Tokens as grammar
 use Rattle.starlark_grammar.specs.Margins.{Margin, comment_lines, comments_from, fits, has_tab, indentation, is_content, is_widest, margin_len, margin_of, open_widths, width_of}
 use Rattle.starlark_grammar.specs.Pieces.{Ends, Fails, Layout, Piece, Stands, first_margin, line_end, margin_step}
 use Rattle.starlark_grammar.specs.Cuts.{is_layout}
-use Rattle.starlark_grammar.specs.Reading.{History, after, after_all, closing, next_step, pieces_len, nothing, outcome, tokens_onto}
+use Rattle.starlark_grammar.specs.Reading.{History, after, after_all, closing, history_after, next_step, pieces_len, nothing, outcome, tokens_onto}
 use Rattle.starlark_grammar.specs.Longest.{IsReading}
 use Rattle.starlark_token.specs.Lexemes.{fault_view, lexeme_view, shown_lexeme}
 use Rattle.starlark_reader.specs.Inner.MarginViews.{IsRefused, IsTaken}
@@ -21,7 +21,7 @@ use Rattle.starlark_reader.specs.Inner.Pending.{IsIdle, IsPending, pending_lexem
 use Rattle.starlark_reader.specs.Inner.Nesting.{Represents, bracket_count, keeps_nesting}
 use Rattle.starlark_reader.specs.Inner.MarginCuts.{IsAfterLines, IsCutBefore}
 use Rattle.starlark_reader.specs.Inner.MarginLines.{IsOfMargin}
-use Rattle.starlark_reader.specs.Inner.Reader.{HoldsCuts, IsAhead, IsAheadAfter, IsAheadPast, IsCutAhead, IsInFlatMargin, IsLeft, IsReached, IsRead, IsReadPast, IsReadTo, IsStateAfter, IsStateAtFault, Origin, Start, before_view, begins_with_tab, has_read_none, history_from, history_of, history_since, left_here, left_to_read, remaining_outcome, step_here}
+use Rattle.starlark_reader.specs.Inner.Reader.{HoldsCuts, IsAhead, IsAheadAfter, IsAheadPast, IsCutAhead, IsInFlatMargin, IsLeft, IsReached, IsRead, IsReadPast, IsReadTo, IsStateAfter, IsStateAtFault, Origin, Start, before_view, begins_with_tab, has_read_none, history_since, left_here, left_to_read, remaining_outcome, step_here}
 use Rattle.starlark_token.specs.TokenViews.{TokenView, Whole, token_view}
 use Rattle.starlark_token.specs.declared.lexeme_error.LexemeError.{LexemeError}
 use Rattle.starlark_reader.specs.declared.nesting.Nesting.{Nesting}
@@ -36,7 +36,7 @@ use Rattle.starlark_reader.proofs.TakenMargins.Pending.{margin_comments}
 use Rattle.starlark_grammar.proofs.Order.Edges.{boundary_shift}
 use Rattle.starlark_grammar.proofs.Lists.{drop-sum}
 use Rattle.starlark_reader.proofs.TakenPieces.Here.{IsHere, after_some, kept_here}
-use Rattle.starlark_reader.proofs.TakenPieces.Onward.{GoesOn, first_fails, first_stands, history_ends, history_fails, history_first, history_onward, margin_first, onward_ends, onward_fails, onward_stands}
+use Rattle.starlark_reader.proofs.TakenPieces.LeftOutcomes.{GoesOn, first_fails, first_stands, history_onward, history_stops, margin_first, onward_ends, onward_fails, onward_stands}
 use Rattle.starlark_grammar.proofs.Reading.Readings.{one_least, piece_fits, started}
 use Rattle.starlark_grammar.proofs.Joining.Tabs.{margin_tab, tab, tab_of}
 use Rattle.starlark_reader.proofs.OpenBrackets.OpenFStrings.{one_kept}
@@ -115,7 +115,7 @@ first_is_quiet text piece e = subst (Each IsLayout (λ fault. ⊤)) e (margin_is
 -- the state after one more piece
 kept_after : {origin : Origin} → (text : Text) (history : History) (at : ℕ) (new : Reader) (piece : Piece) → IsUtf8 text → IsCharBoundary text at → next_step language history (drop at text) ≡ Stands piece
     → Represents (tokens_onto history.tokens piece.lexemes) new.nesting → new.levels ≡ open_widths (history.widths ++ option_to_list piece.width) → before_view new.before ≡ piece.sort → new.at ≡ at + piece.len → bracket_count new.nesting ≤ new.at
-    → history_from (after history piece) (drop piece.len (drop at text)) ≡ history_since origin text → (origin ≡ Start → IsReadTo text (after history piece) new.at) → IsStateAfter origin text (after history piece) new
+    → history_after (after history piece) (drop piece.len (drop at text)) ≡ history_since origin text → (origin ≡ Start → IsReadTo text (after history piece) new.at) → IsStateAfter origin text (after history piece) new
 unfolding after
 kept_after text history at new piece utf8 here stands nesting levels before is_at few onward read =
     let end : IsCharBoundary text (at + piece.len) = boundary_shift text at piece.len here (piece_bounded history (drop at text) piece (IsUtf8-drop text at utf8 here) stands).1 in
@@ -126,7 +126,7 @@ kept_after text history at new piece utf8 here stands nesting levels before is_a
       inside = omega (arith, end.0, is_at);
       boundary = subst (IsCharBoundary text) (sym is_at) end;
       few = few;
-      onward = ap (history_from (after history piece)) (ap (λ n. drop n text) is_at ∙ drop-sum at piece.len text) ∙ onward;
+      onward = ap (history_after (after history piece)) (ap (λ n. drop n text) is_at ∙ drop-sum at piece.len text) ∙ onward;
       read = read;
     }
 
@@ -161,7 +161,7 @@ took_by : {origin : Origin} → (text : Text) (history : History) (old : Reader)
     → new.stage ≡ stage.Onward → HandsPast text given new.pending (map (moved old.at) piece.lexemes) → IsReadPast origin text (left_here text history old) given new
 took_by text history old given new piece utf8 kept stands cuts nesting levels before is_at few is_onward hands =
     read_piece text (left_here text history old) history old.at given new piece (onward_stands history old.at (drop old.at text) piece (begun text history old kept) stands)
-    (kept_after text history old.at new piece utf8 kept.boundary stands nesting levels before is_at few (sym (history_onward history (drop old.at text) piece (begun text history old kept) stands) ∙ kept.onward) (λ start. read_more text history old.at new.at piece (kept.read start) stands is_at)) is_at is_onward hands cuts
+    (kept_after text history old.at new piece utf8 kept.boundary stands nesting levels before is_at few (sym (history_onward history (drop old.at text) piece stands) ∙ kept.onward) (λ start. read_more text history old.at new.at piece (kept.read start) stands is_at)) is_at is_onward hands cuts
 
 -- no cut is in a piece that is no margin
 no_cut_in : (text : Text) (history : History) (at : ℕ) (piece : Piece) (read : IsReadTo text history at) → is_nothing history.before ≡ false → next_step language history (drop at text) ≡ Stands piece → is_layout piece.sort ≡ false
@@ -199,7 +199,7 @@ took_first : (text : Text) (new : Reader) (piece : Piece) → IsUtf8 text → fi
     → new.stage ≡ stage.Onward → Hands text None new.pending (map (moved 0) piece.lexemes) → IsRead Start text (outcome text) None new
 took_first text new piece utf8 stands cuts nesting levels before is_at few is_onward hands =
     read_piece text (outcome text) nothing 0 [] new piece (first_stands text piece stands)
-    (kept_after text nothing 0 new piece utf8 (IsCharBoundary-start text utf8) (margin_first text ∙ stands) nesting levels before is_at few (sym (history_first text piece stands)) (λ start. read_first text new.at piece stands is_at)) is_at is_onward hands cuts
+    (kept_after text nothing 0 new piece utf8 (IsCharBoundary-start text utf8) (margin_first text ∙ stands) nesting levels before is_at few (sym (history_onward nothing text piece (margin_first text ∙ stands))) (λ start. read_first text new.at piece stands is_at)) is_at is_onward hands cuts
 
 pub piece_inside : {origin : Origin} → (text : Text) (history : History) (old : Reader) (piece : Piece) → IsStateAfter origin text history old → step_here text history old ≡ Stands piece → (old.at < old.at + piece.len) × (old.at + piece.len ≤ length text)
 piece_inside text history old piece kept stands =
@@ -257,7 +257,7 @@ read_fault {origin = origin} text whole at lexemes new fault error left view is 
 pub failed : {origin : Origin} → (text : Text) (history : History) (old new : Reader) (fault : Spanned grammar.Fault) (error : LexemeError) → IsStateAfter origin text history old → step_here text history old ≡ Fails fault → fault_view error ≡ Some fault.node
     → new.stage ≡ stage.Fault (old.at + fault.begin) error (old.at + fault.end) → Hands text None new.pending [] → IsHere old new → IsRead origin text (left_here text history old) None new
 failed {origin = origin} text history old new fault error kept fails view is hands here =
-    let whole = sym (history_fails history (drop old.at text) fault (begun text history old kept) fails) ∙ kept.onward in
+    let whole = sym (history_stops history (drop old.at text) (Fails fault) fails (λ piece e. cc)) ∙ kept.onward in
     let now = kept_here text history old new here kept in
     read_fault text (left_here text history old) old.at [] new fault error (onward_fails history old.at (drop old.at text) fault (begun text history old kept) fails) view is hands
     (λ start. same_place old new here.at here.before ∙ state_begun text history old kept start) now.inside (λ untabbed. subst (λ (h : History). IsStateAfter origin text h new) whole now) (omega (arith, here.at)) (λ x remainder cut most. omega (arith, most))
@@ -274,7 +274,7 @@ failed_first text new fault error fails view is hands at before =
 
 pub closed : {origin : Origin} → (text : Text) (history : History) (old : Reader) (given : Option (ℕ × Token × ℕ)) (new : Reader) → IsHere old new → IsStateAfter origin text history old → step_here text history old ≡ Ends → Hands text given new.pending (closing old.at history) → new.stage ≡ stage.Closed → IsRead origin text (left_here text history old) given new
 closed {origin = origin} text history old given new here kept ends hands is =
-    let whole = sym (history_ends history (drop old.at text) (begun text history old kept) ends) ∙ kept.onward in
+    let whole = sym (history_stops history (drop old.at text) Ends ends (λ piece e. cc)) ∙ kept.onward in
     let left = onward_ends history old.at (drop old.at text) (begun text history old kept) ends in
     record {
       lexemes = closing old.at history;

@@ -31,7 +31,7 @@ use Rattle.starlark_reader.proofs.TakenPieces.CodePlaces.{code_at, in_code_none,
 use Rattle.starlark_reader.proofs.TakenPieces.PieceReads.{whole_reads}
 use Rattle.starlark_reader.proofs.TakenPieces.PieceTaken.{after_sort, is_gap_sort, word_read, word_within}
 use Rattle.starlark_reader.proofs.TakenPieces.ReaderReads.{IsReadBefore, state_reads, step_reads}
-use Rattle.starlark_reader.proofs.TakenPieces.RepairReads.{front_leaves}
+use Rattle.starlark_reader.proofs.TakenPieces.KeptReads.{front_leaves}
 
 -- the step of the word is the step at the reader's offset
 pub step_of_word : {origin : Origin} → (text : Text) (history : History) (reader : Reader) (word : Word) (front : Text) (step : ReadStep) → IsStateAfter origin text history reader → IsWordHere text reader word → front ≡ take word.len (drop reader.at text)

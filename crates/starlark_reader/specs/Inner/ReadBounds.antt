@@ -2,7 +2,7 @@
 use Rattle.std.specs.Prelude.{◌≡◌, ◌≤◌, ◌<◌, ◌+◌, ◌-◌, ◌*◌, if◌then◌else◌, Bool, true, false, ℕ, Option, None, Some, length, ⊤}
 use Rattle.starlark_grammar.specs.AfterFaults.{is_margin_tab, is_tab, restart}
 use Rattle.starlark_grammar.specs.Inner.KeptFaults.{may_keep}
-use Rattle.starlark_grammar.specs.Repairs.{repair_end}
+use Rattle.starlark_grammar.specs.KeptLines.{passed_end}
 use Rattle.starlark_grammar.specs.Tokens.{Fault, Spanned}
 use Rattle.starlark_grammar.specs.Words.{Text}
 use Rattle.starlark_token.specs.Lexemes.{fault_view}
@@ -63,11 +63,11 @@ AreWordReads passed factor more line extra (step.Fault begin fault end) before a
 abbrev pub AtFault : ℕ → LexemeError → ℕ → (Spanned Fault → Type 0) → Type 0
 AtFault begin fault end P = (node : Fault) → fault_view fault ≡ Some node → P (record { begin = begin; node = node; end = end })
 
--- reads up to a fault that may keep its line, after `spent` others, leave one for each byte of its
--- repair and one more: all are at most ten for each of these bytes
+-- reads up to a fault that may keep its line, after `spent` others, leave one for each byte that is
+-- passed with it and one more: all are at most ten for each of these bytes
 abbrev pub LeavesReads : (spent : ℕ) → Text → ReadStep → (before after : ℕ) → Type 0
 LeavesReads spent text (step.Fault begin fault end) before after =
-    AtFault begin fault end (λ spanned. may_keep spanned.node ≡ true → after + spent + (repair_end text spanned - begin) + 1 ≤ before + 10 * (repair_end text spanned - begin))
+    AtFault begin fault end (λ spanned. may_keep spanned.node ≡ true → after + spent + (passed_end text spanned - begin) + 1 ≤ before + 10 * (passed_end text spanned - begin))
 LeavesReads spent text step before after = ⊤
 
 -- the reader advanced to byte `at`, and read nothing
@@ -103,27 +103,27 @@ IsPassed old (step.Fault begin fault end) new = IsPassedBy old.at old new × (ne
 abbrev pub most_reads_to : Text → Spanned Fault → ℕ
 most_reads_to text fault = 16 * (restart text fault + 1)
 
--- reads at a fault that keeps its line leave one for each byte of its repair and one more: all are
--- at most ten for each byte up to the repair's end and two more
-abbrev pub LeavesRepair : (text : Text) → Spanned Fault → (reads : ℕ) → Type 0
-LeavesRepair text fault reads = may_keep fault.node ≡ true → is_margin_tab text fault ≡ false → reads + (repair_end text fault - fault.begin) + 1 ≤ 10 * repair_end text fault + 2
+-- reads at a fault that keeps its line leave one for each byte that is passed with it and one more:
+-- all are at most ten for each byte up to the last of these and two more
+abbrev pub LeavesPassed : (text : Text) → Spanned Fault → (reads : ℕ) → Type 0
+LeavesPassed text fault reads = may_keep fault.node ≡ true → is_margin_tab text fault ≡ false → reads + (passed_end text fault - fault.begin) + 1 ≤ 10 * passed_end text fault + 2
 
 -- the margin after a newline of `len` bytes was read; at its fault, the bound includes the search
 abbrev pub IsMarginRead : Text → ℕ → Reader → Reader → Stage → Type 0
 IsMarginRead text len old new stage.Onward =
-    AreReads (new.at - (old.at + len)) (5 * (new.at - (old.at + len)) + 2) old.reads new.reads × (old.at + len + owed new.pending ≤ new.at)
+    AreReads (new.at - (old.at + len)) (5 * (new.at - (old.at + len)) + 5) old.reads new.reads × (old.at + len + owed new.pending ≤ new.at)
 IsMarginRead text len old new (stage.Fault begin fault end) =
     (begin ≡ old.at) × (more_reads old.reads 0 ≤ new.reads)
-    × AtFault begin fault end (λ spanned. (new.reads + search_reads text spanned + 5 * len ≤ old.reads + 10 * (restart text spanned - old.at) + 5) × (owed new.pending ≡ 0) × (old.at ≤ restart text spanned) × (may_keep spanned.node ≡ true → is_margin_tab text spanned ≡ true))
+    × AtFault begin fault end (λ spanned. (new.reads + search_reads text spanned + 5 * len ≤ old.reads + 10 * (restart text spanned - old.at) + 8) × (owed new.pending ≡ 0) × (old.at ≤ restart text spanned) × (may_keep spanned.node ≡ true → is_margin_tab text spanned ≡ true))
 IsMarginRead text len old new stage = ⊥
 
 -- the reads at a stage: one to ten for each byte passed; at a fault one or more
 -- for each byte before it; the upper bound includes five for each byte of pending comments, and at a
--- fault the search after it, or its repair
+-- fault the search after it, or the bytes that are passed with it
 abbrev pub HasReadAt : (text : Text) → Reader → Stage → Type 0
 HasReadAt text reader stage.Begin = (reader.at ≡ 0) × (reader.reads + 5 * owed reader.pending ≡ 0)
 HasReadAt text reader stage.Onward = (more_reads 0 reader.at ≤ reader.reads) × (reader.reads + 5 * owed reader.pending ≤ 10 * reader.at + 2)
-HasReadAt text reader (stage.Fault begin fault end) = (more_reads 0 begin ≤ reader.reads) × AtFault begin fault end (λ spanned. (reader.reads + search_reads text spanned + 5 * owed reader.pending ≤ most_reads_to text spanned) × LeavesRepair text spanned (reader.reads + 5 * owed reader.pending))
+HasReadAt text reader (stage.Fault begin fault end) = (more_reads 0 begin ≤ reader.reads) × AtFault begin fault end (λ spanned. (reader.reads + search_reads text spanned + 5 * owed reader.pending ≤ most_reads_to text spanned) × LeavesPassed text spanned (reader.reads + 5 * owed reader.pending))
 HasReadAt text reader stage.Closed = (more_reads 0 (length text) ≤ reader.reads) × (reader.reads + 5 * owed reader.pending ≤ 10 * length text + 9)
 
 abbrev pub HasRead : (text : Text) → Reader → Type 0
@@ -131,5 +131,5 @@ HasRead text reader = HasReadAt text reader reader.stage
 
 -- the reads after the last lexeme, when the fault was taken or there is none
 abbrev pub HasReadLast : (text : Text) → Option (ℕ × LexemeError × ℕ) → Reader → Type 0
-HasReadLast text (Some found) reader = (more_reads 0 found.0 ≤ reader.reads) × AtFault found.0 found.1 found.2 (λ spanned. (reader.reads + search_reads text spanned ≤ most_reads_to text spanned) × LeavesRepair text spanned reader.reads)
+HasReadLast text (Some found) reader = (more_reads 0 found.0 ≤ reader.reads) × AtFault found.0 found.1 found.2 (λ spanned. (reader.reads + search_reads text spanned ≤ most_reads_to text spanned) × LeavesPassed text spanned reader.reads)
 HasReadLast text None reader = HasRead text reader × (more_reads 0 (length text) ≤ reader.reads) × (reader.reads < 10 * (length text + 1))

@@ -8,10 +8,10 @@ use Rattle.starlark_grammar.specs.Cuts.{is_layout}
 use Rattle.starlark_grammar.specs.Depths.{mode_after}
 use Rattle.starlark_grammar.specs.Front.{language_front}
 use Rattle.starlark_grammar.specs.Pieces as pieces
-use Rattle.starlark_grammar.specs.Pieces.{Before, Gap, Layout, Other, Step, Piece, Fails, counts, is_bang}
+use Rattle.starlark_grammar.specs.Pieces.{Before, Gap, Layout, Other, Step, Piece, counts, is_bang}
 use Rattle.starlark_words.specs.Inner.ScannedWords.{word_view}
 use Rattle.starlark_words.specs.declared.scanner.word.Word.{Word}
-use Rattle.starlark_grammar.specs.Reading.{History, Reading, after_all, nothing, pieces_len, lexemes_along, closing, next_step, read, read_from, outcome}
+use Rattle.starlark_grammar.specs.Reading.{History, after_all, history_after, nothing, pieces_len, next_step, outcome, outcome_after}
 use Rattle.starlark_grammar.specs.Longest.{IsReading}
 use Rattle.starlark_token.specs.Lexemes.{fault_view, lexeme_view, shown_lexeme}
 use Rattle.starlark_reader.specs.Inner.MarginCuts.{IsAfterLines, IsCutBefore, IsMarginAhead}
@@ -25,7 +25,6 @@ use Rattle.starlark_grammar.specs.declared.class.Terminal.{Terminal}
 use Rattle.starlark_token.specs.declared.lexeme_error.LexemeError.{LexemeError}
 use Rattle.starlark_token.specs.declared.tokens.Token.{Token}
 use Rattle.starlark_token.specs.declared.tokens.Token.TheVariants as token
-use Rattle.starlark_reader.specs.declared.nesting.Nesting.{Nesting}
 use Rattle.starlark_reader.specs.declared.reader.Reader.{Reader}
 use Rattle.starlark_reader.specs.declared.reader.Before as code
 use Rattle.starlark_reader.specs.declared.reader.Before.TheVariants as before
@@ -34,30 +33,31 @@ use Rattle.starlark_reader.specs.declared.reader.TakenLineEnd.TheVariants as lin
 use Rattle.starlark_reader.specs.declared.reader.Stage.{Stage}
 use Rattle.starlark_reader.specs.declared.reader.Stage.TheVariants as stage
 
--- the outcome of pieces from byte `at` on, after a history, and of the step after them
-abbrev pub outcome_along : History → ℕ → List Piece → Step → grammar.Outcome
-outcome_along history at pieces (Fails fault) = record { lexemes = lexemes_along at pieces; fault = Some (grammar.moved (at + pieces_len pieces) fault) }
-outcome_along history at pieces step = record { lexemes = lexemes_along at pieces ++ closing (at + pieces_len pieces) (after_all history pieces); fault = None }
+-- an outcome of the rest of a text, at its place in the text
+abbrev pub moved_fault : ℕ → Option (grammar.Spanned grammar.Fault) → Option (grammar.Spanned grammar.Fault)
+moved_fault at None = None
+moved_fault at (Some fault) = Some (grammar.moved at fault)
+
+abbrev pub moved_outcome : ℕ → grammar.Outcome → grammar.Outcome
+moved_outcome at found = record { lexemes = map (grammar.moved at) found.lexemes; fault = moved_fault at found.fault }
 
 -- the outcome of the rest of a text from byte `at` on, after a history
 unfoldable pub remaining_outcome : History → ℕ → Text → grammar.Outcome
-remaining_outcome history at text = go (read_from language history 0 text)
-  where
-    go : Reading → grammar.Outcome
-    go reading = outcome_along history at reading.pieces reading.last
-
--- the history after all pieces of a text
-unfoldable pub history_of : Text → History
-history_of text = after_all nothing (read language text).pieces
-
--- the history after all pieces of the rest of a text, given the one before it
-unfoldable pub history_from : History → Text → History
-history_from history text = after_all history (read_from language history 0 text).pieces
+remaining_outcome history at text = moved_outcome at (outcome_after history text)
 
 -- Where the reading of a text began: at its start, or at an offset, where what was read before is a history.
 pub data Origin : Type 0 where
   Start : Origin
   From : (history : History) (at : ℕ) → Origin
+
+-- what was read before, and where the rest begins
+abbrev pub history_before : Origin → History
+history_before Start = nothing
+history_before (From history at) = history
+
+abbrev pub begin_of : Origin → ℕ
+begin_of Start = 0
+begin_of (From history at) = at
 
 -- the outcome of a text from there on
 abbrev pub outcome_since : Origin → Text → grammar.Outcome
@@ -66,8 +66,7 @@ outcome_since (From history at) text = remaining_outcome history at (drop at tex
 
 -- the history after all pieces from there on
 abbrev pub history_since : Origin → Text → History
-history_since Start text = history_of text
-history_since (From history at) text = history_from history (drop at text)
+history_since origin text = history_after (history_before origin) (drop (begin_of origin) text)
 
 -- the kind of the last piece, as the grammar names it
 abbrev pub before_view : code.Before → Before
@@ -96,7 +95,7 @@ pub record IsStateAfter (origin : Origin) (text : Text) (history : History) (rea
   pub inside : reader.at ≤ length text
   pub boundary : IsCharBoundary text reader.at
   pub few : bracket_count reader.nesting ≤ reader.at
-  pub onward : history_from history (drop reader.at text) ≡ history_since origin text
+  pub onward : history_after history (drop reader.at text) ≡ history_since origin text
   pub read : origin ≡ Start → IsReadTo text history reader.at
 
 -- whether a text's first margin has a tab before content, which is a fault
@@ -107,11 +106,9 @@ begins_with_tab text = is_content (margin_of text).remainder && has_tab (margin_
 abbrev pub IsStateAtFault : Origin → Text → Reader → Type 0
 IsStateAtFault origin text reader = (origin ≡ Start → begins_with_tab text ≡ false) → IsStateAfter origin text (history_since origin text) reader
 
--- after one history all is open that was open after another, and its last piece was neither a margin nor a gap
-pub record HasKept (history next : History) : Type 0 where
-  pub nesting : (nesting : Nesting) → Represents history.tokens nesting → Represents next.tokens nesting
-  pub levels : open_widths next.widths ≡ open_widths history.widths
-  pub before : next.before ≡ Other
+-- the history after a fault that keeps its line: all stays open, and its last piece is neither a margin nor a gap
+abbrev pub kept_history : History → History
+kept_history history = record history { before = Other }
 
 -- whether no piece of a text was read
 abbrev pub has_read_none : Reader → Bool

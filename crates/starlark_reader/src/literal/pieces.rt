@@ -1,6 +1,6 @@
 //! String and bytes literals as lexemes.
 
-ghost use Rattle.std.specs.Prelude.{◌≡◌, ◌+◌, ◌*◌, ◌<◌, ◌^◌, ℕ, Some, false, length, not, IfOk};
+ghost use Rattle.std.specs.Prelude.{◌≡◌, ◌+◌, ◌*◌, ◌<◌, ◌≤◌, ◌^◌, ℕ, Some, false, length, not, IfOk};
 ghost use Rattle.starlark_reader.specs.Inner.StepViews.{IsStep, fault_step, literal_step};
 ghost use Rattle.starlark_reader.specs.Inner.Nesting.{mode_view};
 ghost use Rattle.starlark_reader.specs.Inner.ReadBounds.{AreWordReads, IsFaultAt, is_tab_error};
@@ -41,6 +41,7 @@ fn unfinished(
 ) -> LexemeError
     ensures fault { fault_view result ≡ Some (grammar.unfinished (mode_view mode) literal.kind (opening_view literal.opening) remainder.now) }
     ensures reads { AreReads 0 (length remainder.now) reads.old reads.new }
+    ensures again { result ≡ LexemeError.UnfinishedFStringExpression → more_reads reads.old (length remainder.now) ≤ reads.new }
     ensures untabbed { is_tab_error result ≡ false }
 {
     if !matches!(mode, LexerMode::Outside)

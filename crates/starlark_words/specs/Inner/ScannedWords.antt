@@ -92,6 +92,10 @@ begins_mark text = is_common_front (mark_front text)
 abbrev pub peeked_len : grammar.Text → ℕ
 peeked_len text = if get_or text 1 0 == get_or text 0 0 then 3 else 2
 
+-- how many bytes are read in all, where no name is at the front: of an LF only that
+abbrev pub looked_len : grammar.Text → ℕ
+looked_len text = if get_or text 0 0 == 10 then 1 else peeked_len text
+
 -- a byte that may be part of a number
 abbrev pub may_be_in_number : ℕ → Bool
 may_be_in_number c = grammar.is_in_name c || c == 46

@@ -1,4 +1,4 @@
-use Rattle.std.proofs.Common.{arith}
+use Rattle.std.proofs.Common.{◌+◌, arith, refl}
 use Rattle.starlark_words.specs.Inner.LineFronts.{is_in_front}
 use Rattle.starlark_words.proofs.LaneRuns.{last_run, step_ends, step_goes_on}
 use Rattle.starlark_words.proofs.lines.long_front_len.Goals as goal
@@ -19,6 +19,14 @@ returns-then-ends-ne0-clause-reads c =
     let found = c.front_ends-ends.ensures.some (omega (arith, c.if-ends-ne0.true)) in
     (omega (arith, found.1, c.loop-at.invariant.reads, c.add.ensures), omega (arith, found.1, c.loop-at.invariant.reads, c.add.ensures))
 
+pub loop-at-init : goal.loop-at-init
+loop-at-init c = record { within = c.requires.inside; value = c.requires.none; reads = refl; steps = (0, omega arith) }
+
+pub returns-then-ends-ne0-clause-steps : goal.returns-then-ends-ne0-clause-steps
+returns-then-ends-ne0-clause-steps c = λ count less.
+    let found = c.front_ends-ends.ensures.some (omega (arith, c.if-ends-ne0.true)) in
+    omega (arith, less, found.1, c.loop-at.invariant.steps.1, c.loop-at.invariant.reads, c.add.ensures)
+
 pub loop-at-preserved : goal.loop-at-preserved
 loop-at-preserved c =
     let none = c.front_ends-ends.ensures.none (omega (arith, c.if-ends-ne0.false)) in
@@ -26,6 +34,7 @@ loop-at-preserved c =
       within = c.loop-at-test.true;
       value = step_goes_on (is_in_front c.args.other) 16 c.loop-at.at c.args.text.now c.loop-at.invariant.value c.loop-at-test.true none;
       reads = c.loop-at.invariant.reads;
+      steps = (c.loop-at.invariant.steps.0 + 1, omega (arith, c.loop-at.invariant.steps.1));
     }
 
 pub returns-then-ends-eq0-clause-value : goal.returns-then-ends-eq0-clause-value
@@ -54,3 +63,11 @@ returns-else-ends-eq0-clause-reads c =
     let last = last_run (is_in_front c.args.other) 16 c.loop-at.at c.args.text.now c.loop-at.invariant.value c.requires.long (omega (arith, c.loop-at-test.false)) in
     let found = c.front_ends-ends-2.ensures.some (omega (arith, c.if-ends-eq0.false)) in
     (omega (arith, found.1, c.loop-at-test.false, c.requires.long, c.loop-at.invariant.reads, c.add-2.ensures), omega (arith, last, found.0, c.loop-at.invariant.value, c.loop-at.invariant.reads, c.add-2.ensures))
+
+pub returns-then-ends-eq0-clause-steps : goal.returns-then-ends-eq0-clause-steps
+returns-then-ends-eq0-clause-steps c = λ count less. omega (arith, less, c.loop-at-test.false, c.loop-at.invariant.steps.1, c.loop-at.invariant.reads, c.add-2.ensures)
+
+pub returns-else-ends-eq0-clause-steps : goal.returns-else-ends-eq0-clause-steps
+returns-else-ends-eq0-clause-steps c = λ count less.
+    let found = c.front_ends-ends-2.ensures.some (omega (arith, c.if-ends-eq0.false)) in
+    omega (arith, less, found.1, c.requires.long, c.loop-at-test.false, c.loop-at.invariant.steps.1, c.loop-at.invariant.reads, c.add-2.ensures)

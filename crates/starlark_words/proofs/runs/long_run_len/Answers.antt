@@ -1,4 +1,4 @@
-use Rattle.std.proofs.Common.{◌+◌, ◌-◌, ◌≤◌, drop, take, length, arith, rules}
+use Rattle.std.proofs.Common.{◌+◌, ◌-◌, ◌≤◌, drop, take, length, arith, refl, rules}
 use Rattle.std.proofs.lemmas.List.{length-drop, length-take-le}
 use Rattle.std.proofs.lemmas.List.Sums.{prefix_len-le-length}
 use Rattle.std.specs.List.{prefix_len}
@@ -23,6 +23,14 @@ returns-then-ends-ne0-clause-reads c =
     let found = c.run_ends-ends.ensures.some (omega (arith, c.if-ends-ne0.true)) in
     (omega (arith, found.1, c.loop-at.invariant.reads, c.add.ensures), omega (arith, found.1, c.loop-at.invariant.reads, c.add.ensures))
 
+pub loop-at-init : goal.loop-at-init
+loop-at-init c = record { within = omega arith; value = omega arith; reads = refl; steps = (0, omega arith) }
+
+pub returns-then-ends-ne0-clause-steps : goal.returns-then-ends-ne0-clause-steps
+returns-then-ends-ne0-clause-steps c = λ long count less.
+    let found = c.run_ends-ends.ensures.some (omega (arith, c.if-ends-ne0.true)) in
+    omega (arith, less, found.1, c.loop-at.invariant.steps.1, c.loop-at.invariant.reads, c.add.ensures)
+
 pub loop-at-preserved : goal.loop-at-preserved
 loop-at-preserved c =
     let none = c.run_ends-ends.ensures.none (omega (arith, c.if-ends-ne0.false)) in
@@ -30,6 +38,7 @@ loop-at-preserved c =
       within = c.loop-at-test.true;
       value = step_goes_on (is_in_run (literal_view c.args.literal)) 16 c.loop-at.at c.args.bytes.now c.loop-at.invariant.value c.loop-at-test.true none;
       reads = c.loop-at.invariant.reads;
+      steps = (c.loop-at.invariant.steps.0 + 1, omega (arith, c.loop-at.invariant.steps.1));
     }
 
 pub overflow_add-len : goal.overflow_add-len
@@ -43,3 +52,6 @@ pub returns-clause-reads : goal.returns-clause-reads
 returns-clause-reads c =
     let same = c.loop-at.invariant.reads in
     (omega (arith, same, c.count_run.ensures), omega (arith, same, c.count_run.ensures))
+
+pub returns-clause-steps : goal.returns-clause-steps
+returns-clause-steps c = λ long count less. omega (arith, long, less, c.loop-at-test.false, c.loop-at.invariant.steps.1, c.loop-at.invariant.reads, c.count_run.ensures)

@@ -1,6 +1,8 @@
-use Rattle.std.proofs.Common.{◌≡◌, ◌-◌, ◌∙◌, ap, sym, drop, length, arith}
-use Rattle.std.proofs.lemmas.List.{length-drop, take_all}
+use Rattle.std.proofs.Common.{◌≡◌, ◌≤◌, ◌+◌, ◌-◌, ◌*◌, ◌∙◌, ℕ, zero, suc, ap, sym, drop, take, length, arith}
+use Rattle.std.proofs.lemmas.List.{length-drop, length-take-le, take_all}
 use Rattle.std.specs.List.{prefix_len}
+use Rattle.std.specs.Prelude.{min}
+use Rattle.starlark_words.specs.Inner.Reads.{CountsSteps, more_reads}
 use Rattle.starlark_words.specs.Inner.PlainRuns.{is_in_run}
 use Rattle.starlark_words.specs.Inner.LiteralViews.{literal_view}
 use Rattle.starlark_words.proofs.LaneRuns.{run_ends, run_goes_on, run_within}
@@ -32,3 +34,19 @@ returns-clause-value c =
     let rest = take_all (length c.args.bytes.now - 16) (drop 16 c.args.bytes.now) (omega (arith, length-drop 16 c.args.bytes.now)) in
     let on = run_goes_on p 16 c.args.bytes.now room none in
     omega (arith, on, c.long_run_len-2.ensures.value, ap (prefix_len p) rest)
+
+-- the steps of a run whose first one was read before
+stepped : (old mid new passed len result more count : ℕ) → mid ≡ more_reads old (passed + 19) → more_reads mid 1 ≤ new → result ≡ 16 + more → (16 ≤ len - 16 → CountsSteps 0 (min more (len - 16 - 16)) 0 mid new)
+    → 0 + 16 * count ≤ min result (len - 16) → more_reads old (passed + 3 + 0 + 16 * count + 16) ≤ new
+stepped old mid new passed len result more zero is after whole steps less = omega (arith, is, after)
+stepped old mid new passed len result more (suc n) is after whole steps less = omega (arith, is, steps (omega (arith, less)) n (omega (arith, whole, less)))
+
+pub returns-then-ends-ne0-clause-steps : goal.returns-then-ends-ne0-clause-steps
+returns-then-ends-ne0-clause-steps c = λ long some count less.
+    let found = c.run_ends-ends.ensures.some (omega (arith, c.if-ends-ne0.true)) in
+    omega (arith, less, found.1, c.add-2.ensures)
+
+pub returns-clause-steps : goal.returns-clause-steps
+returns-clause-steps c = λ long some count less.
+    let rest : length (take (length c.args.bytes.now - 16) (drop 16 c.args.bytes.now)) ≡ length c.args.bytes.now - 16 = length-take-le (length c.args.bytes.now - 16) (drop 16 c.args.bytes.now) (omega (arith, length-drop 16 c.args.bytes.now)) in
+    stepped c.args.reads.now _ _ c.args.passed (length c.args.bytes.now) _ c.long_run_len-2.result count (omega (arith, c.add-2.ensures)) (omega (arith, c.long_run_len-2.ensures.reads)) (omega arith) (rw rest at c.long_run_len-2.ensures.steps) less

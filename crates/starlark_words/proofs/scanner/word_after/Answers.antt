@@ -6,15 +6,15 @@ use Rattle.starlark_words.proofs.scanner.word_after.Goals as goal
 
 pub returns-then-first-eq10-clause-word : goal.returns-then-first-eq10-clause-word
 returns-then-first-eq10-clause-word c =
-    let first : get_or c.args.text.now 0 0 ≡ 10 = rw c.as_bytes-bytes.ensures.value at (sym c.byte_at-first.ensures ∙ c.if-first-eq10.true) in
+    let first : get_or c.args.text.now 0 0 ≡ 10 = sym c.requires.first ∙ c.if-first-eq10.true in
     sym (at_line_feed c.args.text.now (λ i. omega (arith, c.type_inv.text i)) first)
 
 is_word : (c : goal.After-mark) → IsWord c.args.text.now c.mark.result
 is_word c =
     let small : (i : ℕ) → get_or c.args.text.now i 0 < 256 = λ i. omega (arith, c.type_inv.text i) in
     elim c.if-second-first.branch [
-      | then-second-first w ↦ by_three_bytes c.args.text.now c.mark.result small (rw (w.third-is, c.byte_at-first.ensures, c.byte_at-second.ensures, w.byte_at.ensures, c.as_bytes-bytes.ensures.value) at c.mark.ensures.word)
-      | else-second-first w ↦ by_two_bytes c.args.text.now c.mark.result small (rw (c.byte_at-first.ensures, c.byte_at-second.ensures, c.as_bytes-bytes.ensures.value) at w.if-second-first.false) (rw (w.third-is, c.byte_at-first.ensures, c.byte_at-second.ensures, c.as_bytes-bytes.ensures.value) at c.mark.ensures.word)
+      | then-second-first w ↦ by_three_bytes c.args.text.now c.mark.result small (rw (w.third-is, c.requires.first, c.byte_at-second.ensures, w.byte_at.ensures, c.as_bytes-bytes.ensures.value) at c.mark.ensures.word)
+      | else-second-first w ↦ by_two_bytes c.args.text.now c.mark.result small (rw (c.requires.first, c.byte_at-second.ensures, c.as_bytes-bytes.ensures.value) at w.if-second-first.false) (rw (w.third-is, c.requires.first, c.byte_at-second.ensures, c.as_bytes-bytes.ensures.value) at c.mark.ensures.word)
     ]
 
 pub returns-clause-word : goal.returns-clause-word
@@ -28,7 +28,7 @@ returns-clause-rest c = (is_word c).1
 
 pub returns-clause-comment : goal.returns-clause-comment
 returns-clause-comment c =
-    mark_not_comment c.args.text.now c.mark.result c.byte_at-first.result c.byte_at-second.result c.if-second-first.third.0 (rw c.as_bytes-bytes.ensures.value at c.byte_at-first.ensures) c.mark.ensures.word (is_word c).0
+    mark_not_comment c.args.text.now c.mark.result c.args.first c.byte_at-second.result c.if-second-first.third.0 c.requires.first c.mark.ensures.word (is_word c).0
 
 pub returns-then-is_name_start-clause-comment : goal.returns-then-is_name_start-clause-comment
-returns-then-is_name_start-clause-comment c = name_not_comment c.args.text.now c.name_from.result (sym (rw (c.byte_at-first.ensures, c.as_bytes-bytes.ensures.value) at c.if-is_name_start.ensures)) c.name_from.ensures.word
+returns-then-is_name_start-clause-comment c = name_not_comment c.args.text.now c.name_from.result (sym (rw c.requires.first at c.if-is_name_start.ensures)) c.name_from.ensures.word

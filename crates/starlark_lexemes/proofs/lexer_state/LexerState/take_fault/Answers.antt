@@ -6,7 +6,7 @@ use Rattle.starlark_reader.specs.Searches.{search_reads}
 use Rattle.starlark_lexemes.specs.Inner.LexerStates.{left_in}
 use Rattle.starlark_lexemes.proofs.FoundWords.{one_more_fits}
 use Rattle.starlark_lexemes.proofs.LexerStates.{fault_inside, none_dropped, raw_place, same_lexing}
-use Rattle.starlark_reader.specs.Inner.ReadBounds.{LeavesRepair}
+use Rattle.starlark_reader.specs.Inner.ReadBounds.{LeavesPassed}
 use Rattle.starlark_lexemes.proofs.lexer_state.LexerState.take_fault.Goals as goal
 
 pub returns-in_err-fault-clause-last : goal.returns-in_err-fault-clause-last
@@ -52,7 +52,7 @@ returns-clause-last c = λ going course lexing.
           stores = is.3;
           before = omega (arith, is.4, raw.0);
           least = omega (arith, read.0, raw.0);
-          leaves = subst (λ (f : Spanned Fault). LeavesRepair text f c.take_fault.new.self.reads) place few.1;
+          leaves = subst (λ (f : Spanned Fault). LeavesPassed text f c.take_fault.new.self.reads) place few.1;
         };
       },
       raw,

@@ -9,8 +9,8 @@ use Rattle.starlark_reader.proofs.reader.Reader.common_word.Goals.{then-gap-gt0,
 
 pub step_over-requires-clause-fits : goal.step_over-requires-clause-fits
 step_over-requires-clause-fits c =
-    let some : 0 < c.gap_len-gap.result = omega (arith, c.if-gap-gt0.true) in
-    let word = spaces_word c.args.self.now c.gap_len-gap.result c.range_from.result.now c.requires.code c.range_from.ensures.value (c.gap_len-gap.ensures.word some) (c.gap_len-gap.ensures.bang some) in
+    let some : 0 < c.gap_and_next-gap.result.0 = omega (arith, c.if-gap-gt0.true) in
+    let word = spaces_word c.args.self.now c.gap_and_next-gap.result.0 c.range_from.result.now c.requires.code c.range_from.ensures.value (c.gap_and_next-gap.ensures.word some) (c.gap_and_next-gap.ensures.bang some) in
     (word_inside_text c.args.self.now _ c.requires.sound word).1
 
 pub range_from-requires-2 : goal.range_from-requires-2
@@ -18,8 +18,8 @@ range_from-requires-2 c = λ some.
     let old = c.args.self.now in
     let mid = c.if-gap-gt0.self in
     let keeps : KeepsAhead old mid × (mid.stage ≡ stage.Onward) × (mid.text ≡ old.text) = elim c.if-gap-gt0.branch [
-      | then-gap-gt0 w ↦ let some : 0 < c.gap_len-gap.result = omega (arith, w.if-gap-gt0.true) in
-          spaces_passed old mid c.gap_len-gap.result c.requires.sound (spaces_word old c.gap_len-gap.result c.range_from.result.now c.requires.code c.range_from.ensures.value (c.gap_len-gap.ensures.word some) (c.gap_len-gap.ensures.bang some)) (rw w.self-is w.step_over.ensures)
+      | then-gap-gt0 w ↦ let some : 0 < c.gap_and_next-gap.result.0 = omega (arith, w.if-gap-gt0.true) in
+          spaces_passed old mid c.gap_and_next-gap.result.0 c.requires.sound (spaces_word old c.gap_and_next-gap.result.0 c.range_from.result.now c.requires.code c.range_from.ensures.value (c.gap_and_next-gap.ensures.word some) (c.gap_and_next-gap.ensures.bang some)) (rw w.self-is w.step_over.ensures)
       | else-gap-gt0 w ↦ spaces_none old mid c.requires.code.stage w.self-is
     ] in
     (state_here mid (sound_after old mid keeps.2 c.requires.sound keeps.0) keeps.1).2.boundary
@@ -29,8 +29,8 @@ returns-clause-ahead c =
     let old = c.args.self.now in
     let mid = c.if-gap-gt0.self in
     let keeps : KeepsAhead old mid × (mid.stage ≡ stage.Onward) × (mid.text ≡ old.text) = elim c.if-gap-gt0.branch [
-      | then-gap-gt0 w ↦ let some : 0 < c.gap_len-gap.result = omega (arith, w.if-gap-gt0.true) in
-          spaces_passed old mid c.gap_len-gap.result c.requires.sound (spaces_word old c.gap_len-gap.result c.range_from.result.now c.requires.code c.range_from.ensures.value (c.gap_len-gap.ensures.word some) (c.gap_len-gap.ensures.bang some)) (rw w.self-is w.step_over.ensures)
+      | then-gap-gt0 w ↦ let some : 0 < c.gap_and_next-gap.result.0 = omega (arith, w.if-gap-gt0.true) in
+          spaces_passed old mid c.gap_and_next-gap.result.0 c.requires.sound (spaces_word old c.gap_and_next-gap.result.0 c.range_from.result.now c.requires.code c.range_from.ensures.value (c.gap_and_next-gap.ensures.word some) (c.gap_and_next-gap.ensures.bang some)) (rw w.self-is w.step_over.ensures)
       | else-gap-gt0 w ↦ spaces_none old mid c.requires.code.stage w.self-is
     ] in
     λ origin lexemes fault ahead. reads_ahead old.text.now mid c.word_after.new.reads mid.stage lexemes fault (keeps.0 origin lexemes fault ahead)

@@ -1,22 +1,22 @@
-use Rattle.std.proofs.Common.{◌++◌, List, ap, [], arith, refl, sym, ◌∙◌, drop, map}
+use Rattle.std.proofs.Common.{◌++◌, List, ap, [], arith, refl, sym, drop, map}
 use Rattle.starlark_grammar.specs.Tokens.{Lexeme}
-use Rattle.starlark_reader.specs.Inner.Reader.{remaining_outcome}
+use Rattle.starlark_reader.specs.Inner.Reader.{kept_history, remaining_outcome}
 use Rattle.starlark_token.specs.Lexemes.{shown_lexeme}
 use Rattle.starlark_reader.proofs.reader.Reader.go_on.Goals as goal
 
 pub returns-clause-ahead : goal.returns-clause-ahead
-returns-clause-ahead c = λ origin text history next kept order boundary has.
+returns-clause-ahead c = λ origin text history kept order boundary.
     let end = c.args.end in
     let pending = c.nothing-self.ensures text in
-    let left = remaining_outcome next end (drop end text) in
+    let left = remaining_outcome (kept_history history) end (drop end text) in
     record {
       left = left;
       is_left = (
-        next,
+        kept_history history,
         record {
-          nesting = has.nesting c.args.self.now.nesting kept.nesting;
-          levels = kept.levels ∙ sym has.levels;
-          before = sym has.before;
+          nesting = kept.nesting;
+          levels = kept.levels;
+          before = refl;
           inside = boundary.0;
           boundary = boundary;
           few = omega (arith, kept.few, order);

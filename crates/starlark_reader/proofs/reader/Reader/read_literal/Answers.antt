@@ -1,5 +1,5 @@
 use Rattle.std.proofs.Common.{◌≡◌, ◌≢◌, subst, arith, ◌+◌, ◌*◌, ℕ, ap, drop, false, None, Option, Some, refl, sym, take, true, ◌∙◌}
-use Rattle.starlark_grammar.proofs.Repairs.Faults.{opener_lost}
+use Rattle.starlark_grammar.proofs.KeptLines.Faults.{opener_lost}
 use Rattle.starlark_grammar.specs.AfterFaults.{next_line}
 use Rattle.starlark_grammar.specs.Front.{language_front}
 use Rattle.starlark_grammar.specs.Pieces as grammar
@@ -31,7 +31,7 @@ use Rattle.starlark_reader.proofs.TakenPieces.NextLexeme.{onward_something}
 use Rattle.starlark_reader.proofs.TakenPieces.PieceReads.{opener_reads}
 use Rattle.starlark_reader.proofs.TakenPieces.PieceTaken.{refused_fits, refused_read}
 use Rattle.starlark_reader.proofs.TakenPieces.ReaderReads.{state_reads}
-use Rattle.starlark_reader.proofs.TakenPieces.RepairReads.{no_repair}
+use Rattle.starlark_reader.proofs.TakenPieces.KeptReads.{never_kept}
 use Rattle.starlark_reader.proofs.TakenPieces.SameTexts.{state_here, taken_here}
 use Rattle.starlark_reader.proofs.TakenPieces.WordSteps.{literal_here, word_step_reads}
 use Rattle.starlark_reader.proofs.reader.Reader.read_literal.Goals as goal
@@ -142,7 +142,7 @@ reads_after c opened step new is passed =
     let parts = split_reads c.args.opener.len c.args.run peeked.0 old.reads peeked.2 in
     word_step_reads text peeked.0 parts.0 c.literal_piece.new.reads left.1 word step old new left.2 stands (rw is at (read_here c opened left.1 left.2)) peeked.1 parts.1
     (opener_reads c.args.opener.len (next_line front 0) step parts.0 c.literal_piece.new.reads (rw is at (step_reads c opened parts.0 parts.2)))
-    (no_repair (5 * c.args.opener.len + 3) front (grammar.opener mode c.in-Opener.kind opening c.args.opener.len c.range_from-remainder.result.now) step parts.0 c.literal_piece.new.reads (rw is at (read_step c opened)) (opener_lost mode c.in-Opener.kind opening c.args.opener.len c.range_from-remainder.result.now))
+    (never_kept (5 * c.args.opener.len + 3) front (grammar.opener mode c.in-Opener.kind opening c.args.opener.len c.range_from-remainder.result.now) step parts.0 c.literal_piece.new.reads (rw is at (read_step c opened)) (opener_lost mode c.in-Opener.kind opening c.args.opener.len c.range_from-remainder.result.now))
     passed
 
 pub take_token-requires : goal.take_token-requires

@@ -15,7 +15,7 @@ use Rattle.starlark_reader.proofs.TakenMargins.PendingLexemes.{after_error}
 use Rattle.starlark_reader.proofs.TakenPieces.NextLexeme.{onward_something}
 use Rattle.starlark_reader.proofs.TakenPieces.PieceReads.{none_reads}
 use Rattle.starlark_reader.proofs.TakenPieces.ReaderReads.{state_reads, step_reads}
-use Rattle.starlark_reader.proofs.TakenPieces.RepairReads.{character_leaves, none_leave}
+use Rattle.starlark_reader.proofs.TakenPieces.KeptReads.{character_leaves, none_leave}
 use Rattle.starlark_reader.proofs.TakenPieces.SameTexts.{at_step, keeps_takes, state_here, taken_here}
 use Rattle.starlark_reader.proofs.TakenPieces.PieceTaken.{bang_step, refused_fits, refused_read}
 use Rattle.starlark_reader.proofs.TakenPieces.WordSteps.{character_some, none_here}

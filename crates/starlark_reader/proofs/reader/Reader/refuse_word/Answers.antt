@@ -22,7 +22,7 @@ use Rattle.starlark_reader.proofs.TakenPieces.CodePlaces.{word_class, word_cut, 
 use Rattle.starlark_reader.proofs.TakenPieces.NextLexeme.{onward_something}
 use Rattle.starlark_reader.proofs.TakenPieces.PieceReads.{tabs_reads, word_reads}
 use Rattle.starlark_reader.proofs.TakenPieces.PieceTaken.{refused_fits, refused_read}
-use Rattle.starlark_reader.proofs.TakenPieces.RepairReads.{step_leaves, tabs_leave, word_leaves}
+use Rattle.starlark_reader.proofs.TakenPieces.KeptReads.{step_leaves, tabs_leave, word_leaves}
 use Rattle.starlark_reader.proofs.TakenPieces.SameTexts.{at_step, state_here, taken_here}
 use Rattle.starlark_reader.proofs.TakenPieces.WordSteps.{step_of_word, word_step_reads}
 use Rattle.starlark_reader.proofs.reader.Reader.refuse_word.Goals as goal

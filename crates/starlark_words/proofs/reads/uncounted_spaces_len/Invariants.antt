@@ -1,6 +1,6 @@
 use Rattle.std.proofs.Common.{◌≡◌, ◌+◌, ◌-◌, ◌≤◌, drop, length, nat_eq}
 use Rattle.std.specs.List.{prefix_len}
-use Rattle.starlark_reader.proofs.margins.margin_spaces_len.Given as goal
+use Rattle.starlark_words.proofs.reads.uncounted_spaces_len.Given as goal
 
 abbrev pub invariant-loop-len : goal.invariant-loop-len
 invariant-loop-len l = record {

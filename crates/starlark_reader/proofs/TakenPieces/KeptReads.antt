@@ -1,4 +1,4 @@
--- Reads of a fault that may keep its line leave some for its repair.
+-- Reads of a fault that may keep its line leave some for the bytes that are passed with it.
 use Rattle.std.proofs.Common.{◌≡◌, ◌≤◌, ◌+◌, ◌-◌, ◌*◌, Bool, true, false, ℕ, zero, suc, List, [], ◌∷◌, Some, length, drop, take, nat_eq, refl, ap, sym, subst, ◌∙◌, arith, rules}
 use Rattle.std.specs.Prelude.{if◌then◌else◌}
 use Rattle.std.specs.List.{list_all, prefix_len}
@@ -7,14 +7,14 @@ use Rattle.starlark_grammar.specs.AfterFaults.{is_tab}
 use Rattle.starlark_grammar.specs.Inner.KeptFaults.{may_keep}
 use Rattle.starlark_grammar.specs.Pieces as grammar
 use Rattle.starlark_grammar.specs.Pieces.{Fails}
-use Rattle.starlark_grammar.specs.Repairs.{repair_end}
+use Rattle.starlark_grammar.specs.KeptLines.{passed_end}
 use Rattle.starlark_grammar.specs.Tokens.{Fault, InvalidTab, Opening, Spanned}
 use Rattle.starlark_grammar.specs.Words.{Text, class_in, is_run, language, line_ends, names, openers, symbols}
 use Rattle.starlark_grammar.specs.declared.class.Class.{Class}
 use Rattle.starlark_grammar.specs.declared.class.Class.TheVariants as class
 use Rattle.starlark_grammar.specs.Items.{body_at}
 use Rattle.starlark_grammar.specs.declared.class.LiteralKind.TheVariants.{FString as OfFString}
-use Rattle.starlark_grammar.proofs.Repairs.Faults.{chunk_lost, step_keeps}
+use Rattle.starlark_grammar.proofs.KeptLines.Faults.{chunk_lost, step_keeps}
 use Rattle.starlark_grammar.proofs.Lists.{drop-sum}
 use Rattle.starlark_grammar.proofs.Words.Classes.{RowsFit, language_all_fit, patterns_all_fit}
 use Rattle.starlark_reader.proofs.NextLines.{front_run}
@@ -27,7 +27,7 @@ use Rattle.starlark_reader.specs.Inner.StepViews as steps
 -- what the bound says of a step of the grammar
 abbrev pub Leaves : (spent : ℕ) → Text → grammar.Step → (before after : ℕ) → Type 0
 Leaves spent text stands before after =
-    (fault : Spanned Fault) → stands ≡ Fails fault → may_keep fault.node ≡ true → after + spent + (repair_end text fault - fault.begin) + 1 ≤ before + 10 * (repair_end text fault - fault.begin)
+    (fault : Spanned Fault) → stands ≡ Fails fault → may_keep fault.node ≡ true → after + spent + (passed_end text fault - fault.begin) + 1 ≤ before + 10 * (passed_end text fault - fault.begin)
 
 -- so it says it of the step of the code
 pub step_leaves : (spent : ℕ) (text : Text) (stands : grammar.Step) (step : ReadStep) (before after : ℕ) → IsStep stands step → Leaves spent text stands before after → LeavesReads spent text step before after
@@ -38,8 +38,8 @@ step_leaves spent text stands (steps.Fault begin fault end) before after is leav
     let same : is.0 ≡ node = cc in
     leaves (record { begin = begin; node = node; end = end }) (is.2 ∙ ap (λ node. grammar.fault begin node end) same) keeps
 
-pub no_repair : (spent : ℕ) (text : Text) (stands : grammar.Step) (step : ReadStep) (before after : ℕ) → IsStep stands step → step_keeps stands ≡ false → LeavesReads spent text step before after
-no_repair spent text stands step before after is none = step_leaves spent text stands step before after is (λ fault e keeps. let some : step_keeps stands ≡ true = ap step_keeps e ∙ keeps in cc)
+pub never_kept : (spent : ℕ) (text : Text) (stands : grammar.Step) (step : ReadStep) (before after : ℕ) → IsStep stands step → step_keeps stands ≡ false → LeavesReads spent text step before after
+never_kept spent text stands step before after is none = step_leaves spent text stands step before after is (λ fault e keeps. let some : step_keeps stands ≡ true = ap step_keeps e ∙ keeps in cc)
 
 -- no text of an f-string is such a fault
 pub chunk_keeps_none : (opening : Opening) (text : Text) → step_keeps (grammar.chunk opening text) ≡ false
@@ -75,15 +75,15 @@ pub tabs_leave : (word : Text) (reads : ℕ) → class_in language word ≡ Some
 tabs_leave word reads known some = λ fault e keeps.
     let same : record { begin = 0; node = InvalidTab; end = 0 } ≡ fault = cc in
     let whole = run_passed (nat_eq 9) word (tabs_are word class.Tabs known) in
-    subst (λ (fault : Spanned Fault). reads + (5 * length word + 3) + (repair_end word fault - fault.begin) + 1 ≤ reads + 10 * (repair_end word fault - fault.begin)) same (omega (arith, whole, some))
+    subst (λ (fault : Spanned Fault). reads + (5 * length word + 3) + (passed_end word fault - fault.begin) + 1 ≤ reads + 10 * (passed_end word fault - fault.begin)) same (omega (arith, whole, some))
 
 drop_of_front : {A : Type 0} (at n : ℕ) (text : List A) → (k : ℕ) × (drop at (take n text) ≡ take k (drop at text))
 drop_of_front zero n text = (n, refl)
 drop_of_front (suc at) (suc n) (b ∷ bs) = drop_of_front at n bs
 drop_of_front (suc at) n text = (0, refl)
 
-front_repair : (n : ℕ) (text : Text) (fault : Spanned Fault) → repair_end (take n text) fault ≤ repair_end text fault
-front_repair n text fault = by (is_tab fault.node)
+front_passed : (n : ℕ) (text : Text) (fault : Spanned Fault) → passed_end (take n text) fault ≤ passed_end text fault
+front_passed n text fault = by (is_tab fault.node)
   where
     by : (tab : Bool) → (if tab then fault.begin + prefix_len (nat_eq 9) (drop fault.begin (take n text)) else fault.end) ≤ (if tab then fault.begin + prefix_len (nat_eq 9) (drop fault.begin text) else fault.end)
     by true =
@@ -96,7 +96,7 @@ pub front_leaves : (n spent : ℕ) (text : Text) (it : ReadStep) (before between
 front_leaves n spent text (steps.Token token len) before between after read leaves = tt
 front_leaves n spent text (steps.Text value chunk) before between after read leaves = tt
 front_leaves n spent text (steps.Fault begin fault end) before between after read leaves = λ node view keeps.
-    omega (arith, read, leaves node view keeps, front_repair n text (record { begin = begin; node = node; end = end }))
+    omega (arith, read, leaves node view keeps, front_passed n text (record { begin = begin; node = node; end = end }))
 
 -- the same text, with reads before
 pub none_leave : (spent : ℕ) (text : Text) (it : ReadStep) (before between after : ℕ) → between ≤ before + spent → LeavesReads spent text it between after → LeavesReads 0 text it before after
@@ -111,9 +111,9 @@ character_leaves text end fault before between after some bang untabbed reads = 
     let read : after ≤ between + (1 * end + 0) = subst (λ tab. after ≤ between + (if tab then 5 * 0 + 3 else 1 * end + 0)) untabbed reads.1 in
     rw other (omega (arith, some, bang.1, read))
 
--- a repair in the rest of a text, at its place in the text
-pub moved_repair : (text : Text) (at begin end : ℕ) (node : Fault) → repair_end text (record { begin = at + begin; node = node; end = at + end }) ≡ at + repair_end (drop at text) (record { begin = begin; node = node; end = end })
-moved_repair text at begin end node = by (is_tab node)
+-- where lexing goes on in the rest of a text, at its place in the text
+pub moved_passed : (text : Text) (at begin end : ℕ) (node : Fault) → passed_end text (record { begin = at + begin; node = node; end = at + end }) ≡ at + passed_end (drop at text) (record { begin = begin; node = node; end = end })
+moved_passed text at begin end node = by (is_tab node)
   where
     by : (tab : Bool) → (if tab then at + begin + prefix_len (nat_eq 9) (drop (at + begin) text) else at + end) ≡ at + (if tab then begin + prefix_len (nat_eq 9) (drop begin (drop at text)) else end)
     by true = omega (arith, ap (prefix_len (nat_eq 9)) (drop-sum at begin text))
