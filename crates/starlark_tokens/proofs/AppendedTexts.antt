@@ -7,3 +7,7 @@ three l a b c = append_assoc (l ++ a) b c ∙ append_assoc l a (b ++ c)
 pub four : (l a b c d : List ℕ) → (((l ++ a) ++ b) ++ c) ++ d ≡ l ++ (a ++ (b ++ (c ++ d)))
 four l a b c d =
     append_assoc ((l ++ a) ++ b) c d ∙ append_assoc (l ++ a) b (c ++ d) ∙ append_assoc l a (b ++ (c ++ d))
+
+pub five : (l a b c d e : List ℕ) → ((((l ++ a) ++ b) ++ c) ++ d) ++ e ≡ l ++ (a ++ (b ++ (c ++ (d ++ e))))
+five l a b c d e =
+    append_assoc (((l ++ a) ++ b) ++ c) d e ∙ append_assoc ((l ++ a) ++ b) c (d ++ e) ∙ append_assoc (l ++ a) b (c ++ (d ++ e)) ∙ append_assoc l a (b ++ (c ++ (d ++ e)))

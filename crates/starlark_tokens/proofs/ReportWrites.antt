@@ -3,6 +3,7 @@ use Rattle.std.proofs.Common.{◌≡◌, List, [], ◌∷◌, ◌++◌, Result, 
 use Rattle.std.proofs.KnownBytes.{Appends-kept, Appends-nil, Appends-trans}
 use Rattle.std.proofs.lemmas.List.{map-append}
 use Rattle.std.specs.IoError.{error_kind}
+use Rattle.std.specs.Prelude.{⊤}
 use Rattle.std.specs.Io.KnownBytes.{Appends, Keeps}
 use Rattle.std.specs.List.{AllByRecursion, flat_map}
 use Rattle.std.specs.declared.io.Error.{Error}
@@ -95,6 +96,12 @@ module _ {W : Type 0} (calls : WriterCalls W) where
     stops = stops_then a b c error x stopped.taken took stopped.stops;
     whole = append_assoc x stopped.taken stopped.left ∙ ap (λ t. x ++ t) stopped.whole;
   }
+
+  -- a text that was written, and then a flush, which may have failed
+  pub flushed_after : (a b c : W) (x : Text) (result : Result ⊤ Error) → Took calls Going a b x → Keeps (calls.contents b) (calls.contents c) → calls.flush b result c → Takes calls Going a c x result
+  flushed_after a b c x (Ok flushed) took keeps flush = subst (Took calls Going a c) (append-nil x) (took_then Going a b c x [] took (flushed_among b c keeps flush))
+  flushed_after a b c x (Err error) took keeps flush =
+      subst (StopsWithin calls a c error) (append-nil x) (stops_later a b c error x [] took (stops_first b c error [] (unflushed b c error keeps flush)))
 
   -- a text, and then writing another, which may have stopped
   pub takes_later : (T : Type 0) (ending : Ending) (a b c : W) (x y : Text) (result : Result T Error) → Took calls Going a b x → Takes calls ending b c y result → Takes calls ending a c (x ++ y) result

@@ -7,3 +7,4 @@ pub mod KnownPositions
 pub mod FoundProblems
 pub mod GlobAnswers
 pub mod NotedGlobs
+pub mod ReportedFailures

@@ -9,3 +9,4 @@ pub mod SarifResults
 pub mod ShownNames
 pub mod SourceLines
 pub mod Values
+pub mod FailureReports

@@ -1,6 +1,7 @@
 //! How tokens, faults and whole reports are written in each format.
 
 pub mod character_widths;
+pub mod failure_reports;
 pub mod fault_lines;
 pub mod form;
 pub mod github_lines;

@@ -1,8 +1,9 @@
 -- Sources of a run, and what reading one gives.
-use Rattle.std.specs.Prelude.{◌≡◌, ◌<◌, ℕ, ⊤, Result, Ok, Err, Option, Some, None, length, slice_index, string_bytes}
+use Rattle.std.specs.Prelude.{◌≡◌, ◌<◌, ℕ, ⊤, ◌++◌, codes, Result, Ok, Err, length, slice_index, string_bytes}
 use Rattle.std.specs.Str.{IsValidUpTo}
-use Rattle.starlark_base.specs.Places.{Text, place_at}
+use Rattle.starlark_base.specs.Places.{Text, place_at, place_text}
 use Rattle.starlark_base.specs.declared.codemap.resolved.ResolvedPos.{ResolvedPos}
+use Rattle.starlark_run.specs.Output.{hex_pair}
 use Rattle.starlark_run.specs.declared.ends.TheConstants.{GREATEST_LEN}
 use Rattle.starlark_tokens.specs.declared.files.sources.Source.{Source}
 use Rattle.starlark_tokens.specs.declared.files.sources.Source.TheVariants.{Input, File}
@@ -15,10 +16,10 @@ abbrev pub name_of : Source → Text
 name_of (Input name) = string_bytes name
 name_of (File name) = string_bytes name
 
--- the text of a source that was read, or nothing
-abbrev pub text_in : {A : Type 0} → Result (String A) SourceFault → Option Text
-text_in (Ok text) = Some (string_bytes text)
-text_in (Err fault) = None
+-- what reading a source gave: its text, or why it has none
+abbrev pub text_in : {A : Type 0} → Result (String A) SourceFault → Result Text SourceFault
+text_in (Ok text) = Ok (string_bytes text)
+text_in (Err fault) = Err fault
 
 -- the first byte of a text from which on it isn't UTF-8, and its place
 pub record IsBadByte (text : Text) (byte : ℕ) (place : ResolvedPos) : Type 0 where
@@ -32,3 +33,13 @@ abbrev pub HasFault : (bytes : Text) → SourceFault → Type 0
 HasFault bytes (Unreadable error) = ⊤
 HasFault bytes TooLong = GREATEST_LEN < length bytes
 HasFault bytes (NotUtf8 byte place) = IsBadByte bytes byte place
+
+-- that a byte isn't UTF-8, and its place
+unfoldable pub bad_byte_text : (byte : ℕ) → ResolvedPos → Text
+bad_byte_text byte place = codes "not UTF-8: byte 0x" ++ (hex_pair byte ++ (codes " at " ++ place_text place))
+
+-- Why a source has no text, in words. Of one that can't be read they are the system's.
+abbrev pub IsReason : SourceFault → (reason : Text) → Type 0
+IsReason (Unreadable error) reason = ⊤
+IsReason TooLong reason = reason ≡ codes "longer than 4294967295 bytes"
+IsReason (NotUtf8 byte place) reason = reason ≡ bad_byte_text byte place

@@ -24,6 +24,10 @@ property text = flat_map property_char (chars text)
 abbrev pub message : Text → Text
 message text = flat_map github_char (chars text)
 
+-- the annotation of a file that has no text, and why
+unfoldable pub github_failure : (name reason : Text) → Text
+github_failure name reason = codes "::error file=" ++ (property name ++ (codes "::" ++ (message reason ++ codes "\n")))
+
 -- the title and the message of a fault
 unfoldable pub title : (code said : Text) → Text
 title code said = codes ",title=" ++ (code ++ (codes "::" ++ (message (reason said) ++ codes "\n")))

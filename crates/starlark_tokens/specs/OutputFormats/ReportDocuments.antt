@@ -32,28 +32,28 @@ json_counts totals =
 abbrev pub json_closing : Totals → Text
 json_closing totals = codes "{\"kind\":\"Summary\"" ++ json_counts totals
 
--- how many files couldn't be read, as a field of an object of JSON
-unfoldable pub notification : (unreadable : ℕ) → Text
-notification unreadable =
+-- how many files couldn't be read, and then what is told of each, as a field of an object of JSON
+unfoldable pub notification : (unreadable : ℕ) → (notices : Text) → Text
+notification unreadable notices =
     codes ",\"toolExecutionNotifications\":[{\"level\":\"error\",\"message\":{\"text\":\""
-    ++ ((codes "files that couldn't be read: " ++ decimal unreadable) ++ codes "\"}}]")
+    ++ ((codes "files that couldn't be read: " ++ decimal unreadable) ++ (codes "\"}}" ++ (notices ++ codes "]")))
 
 -- … if there are some
-abbrev pub notifications : (unreadable : ℕ) → Text
-notifications unreadable = if unreadable == 0 then [] else notification unreadable
+abbrev pub notifications : (unreadable : ℕ) → (notices : Text) → Text
+notifications unreadable notices = if unreadable == 0 then [] else notification unreadable notices
 
 -- a document of SARIF after its results
-abbrev pub sarif_closing : Totals → Text
-sarif_closing totals =
+abbrev pub sarif_closing : Totals → (notices : Text) → Text
+sarif_closing totals notices =
     codes "\n],\"invocations\":[{\"executionSuccessful\":" ++ ((if totals.unreadable == 0 then codes "true" else codes "false")
-    ++ (notifications totals.unreadable ++ codes "}]}]}\n"))
+    ++ (notifications totals.unreadable notices ++ codes "}]}]}\n"))
 
--- what a document ends with
-unfoldable pub closing : Form → Totals → Text
-closing Json totals = json_closing totals
-closing JsonFaults totals = json_closing totals
-closing Sarif totals = sarif_closing totals
-closing form totals = []
+-- what a document ends with, by what was found, and what is told of files that have no text
+unfoldable pub closing : Form → Totals → (notices : Text) → Text
+closing Json totals notices = json_closing totals
+closing JsonFaults totals notices = json_closing totals
+closing Sarif totals notices = sarif_closing totals notices
+closing form totals notices = []
 
 -- a form whose reports are collected before they are written
 abbrev pub is_collected : Form → Bool
@@ -64,6 +64,6 @@ is_collected form = false
 abbrev pub body : Form → (reports : Text) → Text
 body form reports = if is_collected form then drop 1 reports else reports
 
--- a document, by what was found and the reports of all files
-abbrev pub document : Form → Totals → (reports : Text) → Text
-document form totals reports = opening form ++ (body form reports ++ closing form totals)
+-- a document, by what was found, what is told of files that have no text, and the reports of all files
+abbrev pub document : Form → Totals → (notices reports : Text) → Text
+document form totals notices reports = opening form ++ (body form reports ++ closing form totals notices)

@@ -1,4 +1,4 @@
--- Results of SARIF.
+-- Results of SARIF, and its notifications.
 use Rattle.std.specs.Prelude.{ℕ, ◌+◌, ◌==◌, nat_eq, Bool, ◌||◌, if◌then◌else◌, [], ◌∷◌, ◌++◌, codes}
 use Rattle.std.specs.Fmt.{decimal}
 use Rattle.std.specs.List.{flat_map, starts_with}
@@ -45,3 +45,9 @@ sarif_end end =
 -- a fault between two places as a result, after a comma
 unfoldable pub sarif_result : (prefix : Text) → (begin end : ResolvedPos) → (code said : Text) → Text
 sarif_result prefix begin end code said = sarif_words code said ++ (sarif_begin prefix begin ++ sarif_end end)
+
+-- that a file has no text, and why, as a notification after a comma
+unfoldable pub sarif_notice : (name reason : Text) → Text
+sarif_notice name reason =
+    (codes ",\n{\"level\":\"error\",\"message\":{\"text\":" ++ json_string reason)
+    ++ (codes "},\"locations\":[{\"physicalLocation\":{\"artifactLocation\":{\"uri\":\"" ++ (uri name ++ codes "\"}}}]}"))

@@ -1,5 +1,5 @@
--- What was found in the sources of a run: for each the text that was read, or nothing where it couldn't be read.
-use Rattle.std.specs.Prelude.{◌≡◌, ℕ, ◌+◌, ◌-◌, ◌^◌, min, Bool, true, false, not, nat_lt, if◌then◌else◌, List, length, count_by, sum_by, Option, Some, None}
+-- What was found in the sources of a run: for each the text that was read, or why it couldn't be read.
+use Rattle.std.specs.Prelude.{◌≡◌, ℕ, ◌+◌, ◌-◌, ◌^◌, min, Bool, true, false, not, nat_lt, if◌then◌else◌, List, length, count_by, sum_by, Result, Ok, Err}
 use Rattle.starlark_base.specs.Places.{Text}
 use Rattle.starlark_tokens.specs.Reporting.Reports.{fault_count}
 use Rattle.starlark_tokens.specs.declared.output_formats.form.Style.{Style}
@@ -10,18 +10,18 @@ use Rattle.starlark_tokens.specs.declared.reporting.totals.Totals.{Totals}
 abbrev pub in_64_bits : ℕ → ℕ
 in_64_bits count = min count (2 ^ 64 - 1)
 
-abbrev pub is_read : Option Text → Bool
-is_read (Some text) = true
-is_read None = false
+abbrev pub is_read : Result Text Text → Bool
+is_read (Ok text) = true
+is_read (Err reason) = false
 
 -- how many faults a source has; none where it couldn't be read
-abbrev pub faults_in : Style → Option Text → ℕ
-faults_in style (Some text) = fault_count style text
-faults_in style None = 0
+abbrev pub faults_in : Style → Result Text Text → ℕ
+faults_in style (Ok text) = fault_count style text
+faults_in style (Err reason) = 0
 
 -- How many files were read, how many of them have faults in a style, how many faults these are, and how many files couldn't be read:
 -- some of the sources, and so many others.
-abbrev pub totals_of : Style → (lost : ℕ) → List (Option Text) → Totals
+abbrev pub totals_of : Style → (lost : ℕ) → List (Result Text Text) → Totals
 totals_of style lost sources = record {
   files = in_64_bits (count_by is_read sources);
   faulty_files = in_64_bits (count_by (λ source. nat_lt 0 (faults_in style source)) sources);
@@ -39,13 +39,13 @@ with_file totals faults = record {
 }
 
 -- totals with one source more
-abbrev pub with_source : Style → Totals → Option Text → Totals
-with_source style totals (Some text) = with_file totals (in_64_bits (fault_count style text))
-with_source style totals None = record totals { unreadable = in_64_bits (totals.unreadable + 1) }
+abbrev pub with_source : Style → Totals → Result Text Text → Totals
+with_source style totals (Ok text) = with_file totals (in_64_bits (fault_count style text))
+with_source style totals (Err reason) = record totals { unreadable = in_64_bits (totals.unreadable + 1) }
 
 -- The totals are those of as many sources as are read in a style, and of those that are lost.
 pub record AreTotalsOf (style : Style) (sources : Sources) (totals : Totals) : Type 0 where
-  pub texts : List (Option Text)
+  pub texts : List (Result Text Text)
   pub each : length texts ≡ length sources.all.items
   pub found : totals ≡ totals_of style sources.lost texts
 

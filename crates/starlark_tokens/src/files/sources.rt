@@ -1,6 +1,6 @@
 //! The sources of a run: standard input and files. Reads the text of one.
 
-ghost use Rattle.std.specs.Prelude.{◌≡◌, ◌≤◌, ⊤, IfErr, IfOk, IfSome, Option, length, string_bytes};
+ghost use Rattle.std.specs.Prelude.{◌≡◌, ◌≤◌, ⊤, IfErr, IfOk, IfSome, Result, length, string_bytes};
 ghost use Rattle.std.specs.Str.{IsUtf8, IsValidUpTo};
 ghost use Rattle.starlark_base.specs.Places.{Text};
 ghost use Rattle.starlark_run.specs.declared.ends.TheConstants.{GREATEST_LEN};
@@ -13,7 +13,6 @@ use std::alloc::{AllocError, Global};
 use std::fs::File;
 use std::io::Read;
 use std::{fs, io};
-use thiserror::Error;
 
 /// The name of standard input among names of files.
 pub const STDIN: &str = "-";
@@ -51,16 +50,13 @@ pub struct Sources {
 }
 
 /// Why a source has no text.
-#[derive(Debug, Drop, Error)]
+#[derive(Drop)]
 pub enum SourceFault {
     /// It can't be opened or read.
-    #[error("{0}")]
     Unreadable(io::Error),
     /// It has more than 4294967295 bytes.
-    #[error("longer than 4294967295 bytes")]
     TooLong,
     /// It isn't UTF-8 from a byte on.
-    #[error("not UTF-8: byte {byte:#04x} at {place}")]
     NotUtf8 { byte: u8, place: ResolvedPos },
 }
 
@@ -140,9 +136,10 @@ pub fn read_text<R: Read + Drop>(alloc: Global, reader: R) -> Result<String, Sou
 /// What the texts of sources are read from.
 pub trait Texts {
     ghost use Rattle.starlark_tokens.specs.declared.files.sources.Source.{Source};
+    ghost use Rattle.starlark_tokens.specs.declared.files.sources.SourceFault.{SourceFault};
 
-    /// Whether reading a source gives this text, or nothing where it can't be read.
-    ghost gives: { Self → Source → Option Text → Type 0 };
+    /// Whether reading a source gives this text, or fails with this fault.
+    ghost gives: { Self → Source → Result Text SourceFault → Type 0 };
 
     /// Reads the text of a source.
     fn text(&self, source: &Source) -> Result<String, SourceFault>

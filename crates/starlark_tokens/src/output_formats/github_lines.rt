@@ -53,6 +53,19 @@ fn push_message(line: &mut String, text: &str) -> Result<(), AllocError>
     Ok(())
 }
 
+/// Appends the annotation of a file that has no text, with the reason.
+#[tactic(auto, unfolding(crate::specs::OutputFormats::GithubLines::github_failure))]
+pub fn push_github_failure(line: &mut String, name: &str, reason: &str) -> Result<(), AllocError>
+    ensures { OnOk result (string_bytes line.new ≡ string_bytes line.old ++ spec.github_failure name.now reason.now) }
+{
+    line.push_str("::error file=")?;
+    push_property(line, name)?;
+    line.push_str("::")?;
+    push_message(line, reason)?;
+    line.push_str("\n")?;
+    Ok(())
+}
+
 /// Appends the title and the message of a fault.
 #[tactic(auto, unfolding(crate::specs::OutputFormats::GithubLines::title))]
 fn push_title(line: &mut String, code: &str, message: &str) -> Result<(), AllocError>

@@ -73,31 +73,33 @@ fn json_closing(alloc: Global, totals: Totals) -> Result<String, AllocError>
     Ok(text)
 }
 
-/// Appends how many files couldn't be read, as a field of an object of JSON.
-fn push_notification(text: &mut String, unreadable: usize) -> Result<(), AllocError>
-    ensures { OnOk result (string_bytes text.new ≡ string_bytes text.old ++ spec.notification unreadable) }
+/// Appends how many files couldn't be read, and what is told of each, as a field of an object of JSON.
+fn push_notification(text: &mut String, unreadable: usize, notices: &str) -> Result<(), AllocError>
+    ensures { OnOk result (string_bytes text.new ≡ string_bytes text.old ++ spec.notification unreadable notices.now) }
 {
     text.push_str(
         ",\"toolExecutionNotifications\":[{\"level\":\"error\",\"message\":{\"text\":\"",
     )?;
     push_count(text, "files that couldn't be read: ", unreadable)?;
-    text.push_str("\"}}]")?;
+    text.push_str("\"}}")?;
+    text.push_str(notices)?;
+    text.push_str("]")?;
     Ok(())
 }
 
 /// Appends how many files couldn't be read, if there are some, as a field of an object of JSON.
-fn push_notifications(text: &mut String, unreadable: usize) -> Result<(), AllocError>
-    ensures { OnOk result (string_bytes text.new ≡ string_bytes text.old ++ spec.notifications unreadable) }
+fn push_notifications(text: &mut String, unreadable: usize, notices: &str) -> Result<(), AllocError>
+    ensures { OnOk result (string_bytes text.new ≡ string_bytes text.old ++ spec.notifications unreadable notices.now) }
 {
     if unreadable == 0 {
         return Ok(());
     }
-    push_notification(text, unreadable)
+    push_notification(text, unreadable, notices)
 }
 
 /// A document of SARIF after its results.
-fn sarif_closing(alloc: Global, totals: Totals) -> Result<String, AllocError>
-    ensures { IfOk result (λ text. string_bytes text ≡ spec.sarif_closing totals) }
+fn sarif_closing(alloc: Global, totals: Totals, notices: &str) -> Result<String, AllocError>
+    ensures { IfOk result (λ text. string_bytes text ≡ spec.sarif_closing totals notices.now) }
 {
     let mut text = String::from_str(alloc, "\n],\"invocations\":[{\"executionSuccessful\":")?;
     text.push_str(if totals.unreadable == 0 {
@@ -105,20 +107,25 @@ fn sarif_closing(alloc: Global, totals: Totals) -> Result<String, AllocError>
     } else {
         "false"
     })?;
-    push_notifications(&mut text, totals.unreadable)?;
+    push_notifications(&mut text, totals.unreadable, notices)?;
     text.push_str("}]}]}\n")?;
     Ok(text)
 }
 
-/// What a document ends with.
+/// What a document ends with, by what was found, and what is told of files that have no text.
 #[tactic(auto, unfolding(crate::specs::OutputFormats::ReportDocuments::closing))]
-pub fn closing(alloc: Global, form: Form, totals: Totals) -> Result<String, AllocError>
-    ensures { IfOk result (λ text. string_bytes text ≡ spec.closing form totals) }
+pub fn closing(
+    alloc: Global,
+    form: Form,
+    totals: Totals,
+    notices: &str,
+) -> Result<String, AllocError>
+    ensures { IfOk result (λ text. string_bytes text ≡ spec.closing form totals notices.now) }
 {
     match form {
         Form::Json => json_closing(alloc, totals),
         Form::JsonFaults => json_closing(alloc, totals),
-        Form::Sarif => sarif_closing(alloc, totals),
+        Form::Sarif => sarif_closing(alloc, totals, notices),
         _ => Ok(String::new(alloc)),
     }
 }

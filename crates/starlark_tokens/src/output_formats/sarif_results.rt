@@ -1,7 +1,8 @@
-//! Results of SARIF.
+//! Results of SARIF, and its notifications.
 
 ghost use Rattle.std.specs.Prelude.{◌≡◌, ◌+◌, ◌++◌, OnOk, codes, string_bytes};
 ghost use Rattle.std.specs.List.{flat_map};
+ghost use Rattle.starlark_tokens.specs.OutputFormats.JsonStrings.{json_string};
 ghost use Rattle.starlark_tokens.specs.OutputFormats.SarifResults as spec;
 
 use crate::output_formats::fault_lines::reason;
@@ -97,4 +98,24 @@ pub fn push_sarif_fault(
     push_sarif_words(line, code, message)?;
     push_sarif_begin(line, prefix, begin)?;
     push_sarif_end(line, end)
+}
+
+/// Appends the level and message of a notification, after a comma.
+fn push_sarif_reason(line: &mut String, reason: &str) -> Result<(), AllocError>
+    ensures { OnOk result (string_bytes line.new ≡ string_bytes line.old ++ (codes ",\n{\"level\":\"error\",\"message\":{\"text\":" ++ json_string reason.now)) }
+{
+    line.push_str(",\n{\"level\":\"error\",\"message\":{\"text\":")?;
+    push_json_string(line, reason)?;
+    Ok(())
+}
+
+/// Appends that a file has no text, and why, as a notification after a comma.
+#[tactic(auto, unfolding(crate::specs::OutputFormats::SarifResults::sarif_notice))]
+pub fn push_sarif_notice(line: &mut String, name: &str, reason: &str) -> Result<(), AllocError>
+    ensures { OnOk result (string_bytes line.new ≡ string_bytes line.old ++ spec.sarif_notice name.now reason.now) }
+{
+    push_sarif_reason(line, reason)?;
+    line.push_str("},\"locations\":[{\"physicalLocation\":{\"artifactLocation\":{\"uri\":\"")?;
+    push_uri(line, name)?;
+    line.push_str("\"}}}]}")
 }

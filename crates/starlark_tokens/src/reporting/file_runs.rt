@@ -1,7 +1,7 @@
 //! The run of `starlark_tokens`: goes over its sources, and reports each.
 
 ghost use Rattle.std.specs.IoError.{error_kind};
-ghost use Rattle.std.specs.Prelude.{◌≡◌, ◌++◌, IfOk, drop};
+ghost use Rattle.std.specs.Prelude.{◌≡◌, ◌++◌, IfOk, drop, string_bytes};
 ghost use Rattle.starlark_tokens.specs.Reporting.ReportStatus.{status_of_output, status_of_run};
 ghost use Rattle.starlark_tokens.specs.OutputFormats.ReportDocuments as documents;
 ghost use Rattle.starlark_devices.specs.Calls.{Done, Going};
@@ -19,9 +19,10 @@ use crate::output_formats::form::{Form, Style, Terminal};
 use crate::output_formats::report_documents::{closing, opening};
 use crate::output_formats::styles::style_of;
 use crate::reporting::counts::count_line;
-use crate::reporting::messages::say_fault;
+use crate::reporting::failures::report_failure;
 use crate::reporting::report::report_text;
 use crate::reporting::screen::{Progress, Screen};
+use crate::reporting::summary::Summary;
 use crate::reporting::totals::Totals;
 use starlark_devices::{WriteDevice, write_all};
 use starlark_run::TROUBLE;
@@ -58,23 +59,29 @@ fn report_source<S: Texts, W: WriteDevice>(
     style: Style<'_>,
     texts: &S,
     source: &Source,
-    totals: &mut Totals,
+    summary: &mut Summary,
     output: &mut W,
 ) -> io::Result<()>
-    ensures { IsReported (S.gives texts.now) W.calls style.entry source.now totals.old totals.new output.old output.new result }
+    ensures { IsReported (S.gives texts.now) W.calls style.entry source.now summary.old summary.new output.old output.new result }
 {
     match texts.text(source) {
         Ok(text) => {
             let faults = report_text(rt.alloc(), style, source.name(), text.as_str(), output)?;
-            totals.add(faults);
+            summary.totals.add(faults);
+            Ok(())
         }
         Err(fault) => {
-            totals.add_failure();
-            output.flush_once()?;
-            say_fault(rt, source.name().as_bytes(), &fault);
+            summary.totals.add_failure();
+            report_failure(
+                rt,
+                style.form,
+                source.name(),
+                &fault,
+                &mut summary.notices,
+                output,
+            )
         }
     }
-    Ok(())
 }
 
 /// Shows how many sources are done, where the clock can be read and memory is left.
@@ -93,15 +100,15 @@ fn report_each<S: Texts, W: WriteDevice, T: WriteDevice>(
     texts: &S,
     sources: &Sources,
     screen: &mut Screen<W, T>,
-) -> io::Result<Totals>
+) -> io::Result<Summary>
     ensures { AreReportedAlone (S.gives texts.now) W.calls style.entry sources.now screen.old.output screen.new.output result }
 {
-    let mut totals = Totals::of_unreadable(sources.lost);
+    let mut summary = Summary::of_unreadable(rt.alloc(), sources.lost);
     for (done, source) in sources.all.iter().enumerate() {
         show_done(rt, screen, done);
-        report_source(rt, style, texts, source, &mut totals, screen)?;
+        report_source(rt, style, texts, source, &mut summary, screen)?;
     }
-    Ok(totals)
+    Ok(summary)
 }
 
 /// Writes bytes to the output of a screen.
@@ -127,12 +134,12 @@ fn put_opening<W: WriteDevice, T: WriteDevice>(
 fn put_closing<W: WriteDevice, T: WriteDevice>(
     alloc: Global,
     form: Form,
-    totals: Totals,
+    summary: &Summary,
     screen: &mut Screen<W, T>,
 ) -> io::Result<()>
-    ensures { Takes W.calls Going screen.old.output screen.new.output (documents.closing form totals) result }
+    ensures { Takes W.calls Going screen.old.output screen.new.output (documents.closing form summary.now.totals (string_bytes summary.now.notices)) result }
 {
-    let text = closing(alloc, form, totals)?;
+    let text = closing(alloc, form, summary.totals, summary.notices.as_str())?;
     put(screen, text.as_bytes())
 }
 
@@ -143,14 +150,14 @@ fn report_streamed<S: Texts, W: WriteDevice, T: WriteDevice>(
     texts: &S,
     sources: &Sources,
     screen: &mut Screen<W, T>,
-) -> io::Result<Totals>
-    ensures { AreReported (λ totals reports. documents.opening style.entry.form ++ (reports ++ documents.closing style.entry.form totals))
+) -> io::Result<Summary>
+    ensures { AreReported (λ totals notices reports. documents.opening style.entry.form ++ (reports ++ documents.closing style.entry.form totals notices))
         (S.gives texts.now) W.calls Going style.entry sources.now screen.old.output screen.new.output result }
 {
     put_opening(rt.alloc(), style.form, screen)?;
-    let totals = report_each(rt, style, texts, sources, screen)?;
-    put_closing(rt.alloc(), style.form, totals, screen)?;
-    Ok(totals)
+    let summary = report_each(rt, style, texts, sources, screen)?;
+    put_closing(rt.alloc(), style.form, &summary, screen)?;
+    Ok(summary)
 }
 
 /// Bytes without the first one.
@@ -160,20 +167,20 @@ fn without_first(bytes: &[u8]) -> &[u8]
     if bytes.is_empty() { bytes } else { &bytes[1..] }
 }
 
-/// The reports of all sources, and what was found in them, in memory.
+/// The reports of all sources, and what the document's end tells of them, in memory.
 fn collected<S: Texts>(
     rt: &HostRuntime,
     style: Style<'_>,
     texts: &S,
     sources: &Sources,
-) -> Result<(Totals, Vec<u8>), AllocError>
+) -> Result<(Summary, Vec<u8>), AllocError>
     ensures { IfOk result (λ found. AreCollected (S.gives texts.now) style.entry sources.now found.0 found.1.items) }
 {
     let progress = Progress::begun(rt, sources.all.len());
     let mut results = Screen::new(rt.alloc(), Vec::new(rt.alloc()), rt.stderr(), progress);
-    let totals = report_each(rt, style, texts, sources, &mut results).map_err(|_| AllocError)?;
+    let summary = report_each(rt, style, texts, sources, &mut results).map_err(|_| AllocError)?;
     results.clear();
-    Ok((totals, results.into_output()))
+    Ok((summary, results.into_output()))
 }
 
 /// Writes an opening, the reports of all sources without their first byte, and a closing, once all
@@ -184,15 +191,15 @@ fn report_collected<S: Texts, W: WriteDevice, T: WriteDevice>(
     texts: &S,
     sources: &Sources,
     screen: &mut Screen<W, T>,
-) -> io::Result<Totals>
-    ensures { AreReported (λ totals reports. documents.opening style.entry.form ++ (drop 1 reports ++ documents.closing style.entry.form totals))
+) -> io::Result<Summary>
+    ensures { AreReported (λ totals notices reports. documents.opening style.entry.form ++ (drop 1 reports ++ documents.closing style.entry.form totals notices))
         (S.gives texts.now) W.calls Going style.entry sources.now screen.old.output screen.new.output result }
 {
-    let (totals, reports) = collected(rt, style, texts, sources)?;
+    let (summary, reports) = collected(rt, style, texts, sources)?;
     put_opening(rt.alloc(), style.form, screen)?;
     put(screen, without_first(reports.as_slice()))?;
-    put_closing(rt.alloc(), style.form, totals, screen)?;
-    Ok(totals)
+    put_closing(rt.alloc(), style.form, &summary, screen)?;
+    Ok(summary)
 }
 
 /// Writes the document of all sources.
@@ -202,7 +209,7 @@ fn report_document<S: Texts, W: WriteDevice, T: WriteDevice>(
     texts: &S,
     sources: &Sources,
     screen: &mut Screen<W, T>,
-) -> io::Result<Totals>
+) -> io::Result<Summary>
     ensures { IsDocument (S.gives texts.now) W.calls Going style.entry sources.now screen.old.output screen.new.output result }
 {
     if style.form.is_collected() {
@@ -211,7 +218,7 @@ fn report_document<S: Texts, W: WriteDevice, T: WriteDevice>(
     report_streamed(rt, style, texts, sources, screen)
 }
 
-/// Writes the document of all sources, and returns what was found in them once all is written.
+/// Writes the document of all sources, and returns what its end tells of them once all is written.
 ///
 /// The contract holds for every output. Of standard output, whose calls std doesn't know, it promises
 /// the totals alone.
@@ -221,14 +228,14 @@ fn report_to<S: Texts, W: WriteDevice, T: WriteDevice>(
     texts: &S,
     sources: &Sources,
     screen: &mut Screen<W, T>,
-) -> io::Result<Totals>
+) -> io::Result<Summary>
     ensures { IsDocument (S.gives texts.now) W.calls Done style.entry sources.now screen.old.output screen.new.output result }
 {
     let found = report_document(rt, style, texts, sources, screen);
     screen.clear();
-    let totals = found?;
+    let summary = found?;
     screen.flush_once()?;
-    Ok(totals)
+    Ok(summary)
 }
 
 /// Whether lines of tokens have the names of their sources: some are found in a folder, or they are
@@ -239,7 +246,7 @@ fn are_named(sources: &Sources) -> bool
     sources.are_found || sources.all.len().saturating_add(sources.lost) > 1
 }
 
-/// Writes the document that is asked for, and returns what was found once all is written.
+/// Writes the document that is asked for, and returns what its end tells once all is written.
 fn report_wanted<S: Texts, W: WriteDevice, T: WriteDevice>(
     rt: &HostRuntime,
     wanted: &Reports<'_>,
@@ -247,7 +254,7 @@ fn report_wanted<S: Texts, W: WriteDevice, T: WriteDevice>(
     texts: &S,
     sources: &Sources,
     screen: &mut Screen<W, T>,
-) -> io::Result<Totals>
+) -> io::Result<Summary>
     ensures { (style : Style) × requests.IsStyleOf wanted.now (spec.are_named sources.now) terminal style
         × IsDocument (S.gives texts.now) W.calls Done style sources.now screen.old.output screen.new.output result }
 {
@@ -267,7 +274,8 @@ pub fn report_sources(
     let output = BufWriter::with_capacity(rt.alloc(), BUFFER_LEN, rt.stdout())?;
     let progress = Progress::begun(rt, sources.all.len());
     let mut screen = Screen::new(rt.alloc(), output, rt.stderr(), progress);
-    report_wanted(rt, wanted, terminal, rt, sources, &mut screen)
+    let summary = report_wanted(rt, wanted, terminal, rt, sources, &mut screen)?;
+    Ok(summary.totals)
 }
 
 /// Says how many faults were found, in how many files.

@@ -29,13 +29,13 @@ pub fn say<D: Display>(rt: &HostRuntime, name: &[u8], what: &D) {
 }
 
 /// Says on standard error why a source isn't reported: of a byte that isn't UTF-8 as a compiler says it
-/// of a place, else in the name of `starlark_tokens`.
-pub fn say_fault(rt: &HostRuntime, name: &[u8], fault: &SourceFault) {
+/// of a place, else the reason in the name of `starlark_tokens`.
+pub fn say_fault(rt: &HostRuntime, name: &[u8], fault: &SourceFault, reason: &str) {
     let SourceFault::NotUtf8 { byte, place } = fault else {
-        return say(rt, name, fault);
+        return say(rt, name, &reason);
     };
     let _ = match one_line(rt, name) {
         Ok(name) => eprintln!(rt; "{name}:{place}: error: not UTF-8: byte {byte:#04x}"),
-        Err(_) => eprintln!(rt; "starlark_tokens: {fault}"),
+        Err(_) => eprintln!(rt; "starlark_tokens: {reason}"),
     };
 }

@@ -1,6 +1,7 @@
 //! What was found in all files of a run.
 
-ghost use Rattle.std.specs.Prelude.{◌≡◌, [], None};
+ghost use Rattle.std.specs.Prelude.{◌≡◌, [], Err};
+ghost use Rattle.starlark_base.specs.Places.{Text};
 ghost use Rattle.starlark_tokens.specs.Reporting.ReportStatus.{status_of};
 ghost use Rattle.starlark_tokens.specs.declared.output_formats.form.Style.{Style};
 ghost use Rattle.starlark_tokens.specs.Reporting.Totals.{totals_of, with_file, with_source};
@@ -49,7 +50,7 @@ impl Totals {
 
     /// Counts a file that couldn't be read.
     pub fn add_failure(&mut self)
-        ensures { (style : Style) → self.new ≡ with_source style self.old None }
+        ensures { (style : Style) (reason : Text) → self.new ≡ with_source style self.old (Err reason) }
     {
         self.unreadable = self.unreadable.saturating_add(1);
     }

@@ -4,4 +4,4 @@ use Rattle.starlark_tokens.specs.CommandLine.Requests.{IsStyleOf}
 use Rattle.starlark_tokens.proofs.reporting.file_runs.report_sources.Goals as goal
 
 pub returns : goal.returns
-returns c = styled_totals _ _ (IsStyleOf c.args.wanted.now (are_named c.args.sources.now) c.args.terminal) _ _ _ _ c.report_wanted.result c.report_wanted.ensures
+returns c = styled_totals _ _ (IsStyleOf c.args.wanted.now (are_named c.args.sources.now) c.args.terminal) _ _ _ _ _ c.in_ok-summary.ensures
