@@ -63,7 +63,6 @@ JOBS = [
     Job("documents", "oracles/document_edits.py --edits 20000"),
     Job("fuzz", "oracles/fuzz.py --count 20000 --seconds 60"),
     Job("edits", "oracles/random_edits.py --texts 200"),
-    Job("repaired", "oracles/repaired_texts.py --count 500"),
     Job("reports", "oracles/token_reports.py"),
     Job("pages", "checks/pages.py"),
     Job("globs", "oracles/random_globs.py", may_lack_tools=True),

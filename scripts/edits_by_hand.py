@@ -8,10 +8,10 @@
 WHICH is a crate, one of its files or folders, or an edit, as starlark_base, starlark_base/codemap/spans or
 starlark_base/codemap/spans/begin_is_end.edit.
 
-It works on a clone, so on what is committed, with these edits in place of those of the gate: `rt ci` takes the proofs there that
-earlier runs kept. scripts/edits_by_hand.txt has each edit with the commit at which it was last refused; it is written by this
-script alone, and `--share` leaves it as it is. The exit status is 0 where all that were tried were refused, 1 where one wasn't,
-and 2 where a share wasn't done after N seconds.
+It works on a clone, so on what is committed, with these edits in place of those of the gate. `rt ci` proves their crates there, and
+those below them, before the first edit. scripts/edits_by_hand.txt has each edit with the commit at which it was last refused; it is
+written by this script alone, and `--share` leaves it as it is. The exit status is 0 where all that were tried were refused, 1 where
+one wasn't, and 2 where a share wasn't done after N seconds.
 """
 
 import argparse

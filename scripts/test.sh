@@ -12,7 +12,6 @@
 #     fuzz         random texts, against the plain lexer
 #     edits        random edits of texts
 #     recovered    random texts that are lexed on after their faults
-#     repaired     texts with faults, repaired, by the plain lexer; this runs no program
 #     documents    random edits of documents
 #     status       exit status, arguments and messages of starlark_lex
 #     reports      what starlark_tokens reports
@@ -25,7 +24,7 @@
 set -u
 
 cd "$(dirname -- "$0")/.." || exit 1
-parts='rows runs stored fuzz edits recovered repaired documents status reports pages'
+parts='rows runs stored fuzz edits recovered documents status reports pages'
 logs=out/test
 
 # Runs an oracle over the programs that are there, proved or not.
@@ -57,7 +56,6 @@ try_part() {
     fuzz) try oracles/fuzz.py --count 3000 ;;
     edits) try oracles/random_edits.py --texts 20 ;;
     recovered) try oracles/recovered_texts.py --count 2000 --stored ;;
-    repaired) scripts/oracles/repaired_texts.py --count 200 ;;
     documents) try oracles/document_edits.py --edits 2000 ;;
     status) try oracles/exit_status.py ;;
     reports) try oracles/token_reports.py --count 100 ;;

@@ -10,7 +10,7 @@ sys.path.append(str(TOP / "scripts"))
 
 from shared import plain_lexer  # noqa: E402
 from shared.random_texts import is_utf8  # noqa: E402
-from shared.repairs import items_of  # noqa: E402
+from shared.recovering import items_of  # noqa: E402
 
 KINDS = {
     "Identifier": "name", "Int": "int", "Float": "float", "String": "string", "Bytes": "bytes", "Comment": "comment",

@@ -15,7 +15,7 @@ from threading import Thread
 sys.path.append(f"{sys.path[0]}/..")  # where shared/ lies
 from shared.programs import TOP
 from shared.random_texts import random_texts
-from shared.repairs import lines_of
+from shared.recovering import lines_of
 
 sys.path.insert(0, str(TOP / "bindings/python/tests"))
 

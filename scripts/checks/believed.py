@@ -235,14 +235,14 @@ PRIVATE = "starlark_tokens"
 IN_THE_MAKING = "starlark_tokens/src/reporting/reporter.rt"
 # Lines of definitions that a row has at most: one that is added is one more to believe.
 MOST_LINES = {
-    "the grammar": 661,
-    "`Lexer::next`": 897,
-    "`RecoveringLexer`": 962,
-    "`LexedText`": 882,
-    "`run`, `run_edits`": 1053,
-    "the calls from C": 1497,
-    "reports, `starlark_tokens`": 2251,
-    "`Document`": 979,
+    "the grammar": 660,
+    "`Lexer::next`": 896,
+    "`RecoveringLexer`": 961,
+    "`LexedText`": 881,
+    "`run`, `run_edits`": 1052,
+    "the calls from C": 1502,
+    "reports, `starlark_tokens`": 2280,
+    "`Document`": 978,
     "checks": 391,
 }
 

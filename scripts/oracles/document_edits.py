@@ -23,7 +23,7 @@ import sys
 
 sys.path.append(f"{sys.path[0]}/..")  # where shared/ lies
 from shared.random_texts import INSERTIONS, random_texts
-from shared.repairs import items_of
+from shared.recovering import items_of
 from shared.stored import printed_for, read_part, write_part
 
 PART = "documents"

@@ -6,7 +6,7 @@ usage: recovered_texts.py [--write] [--count N] [--seed N] [--stored] [--referen
 Without options it compares the stored output of the part `recovered` of crates/starlark_rows with what the plain lexer finds.
 
 --write             store what the plain lexer finds
---count N           also compare the program starlark_rows on N random texts (0)
+--count N           also compare the program starlark_rows on N random texts (0); half of them get more faults
 --seed N            another seed gives other texts (1)
 --stored            also compare the program on the texts of the part `texts`
 --reference FOLDER  also compare the plain lexer with that of a folder: its recovery.py has `recovered(text)`, all lexemes and
@@ -16,15 +16,26 @@ It prints the first text for which two of them differ, and exits with 1; else it
 """
 
 import argparse
+import random
 import re
 import sys
 
 sys.path.append(f"{sys.path[0]}/..")  # where shared/ lies
 from shared.random_texts import LONGEST, is_utf8, random_texts
-from shared.repairs import items_of, lines_of
+from shared.recovering import items_of, lines_of
 from shared.stored import TEXTS, printed_for, read_part, records_of, write_part
 
 PART = "recovered"
+SALT = [b" assert ", b"$", b" 01 ", b"\t", b"as", "\u00e9".encode(), b"0777", b"!", b"while", b"\t\t ", b"\r", b"`", b"00", b"try:"]
+
+
+def salted(text, dice):
+    """The text with a few faults more, if it is UTF-8 then, and else the text."""
+    changed = text
+    for _ in range(dice.randrange(4)):
+        at = dice.randrange(len(changed) + 1)
+        changed = changed[:at] + dice.choice(SALT) + changed[at:]
+    return changed if is_utf8(changed) else text
 
 
 def stored_texts():
@@ -98,7 +109,8 @@ def main():
         write_part("stdout", PART, written([lines_of(text) for text in rows]))
     groups = [("stored", rows, read_part("stdout", PART))]
     if options.count:
-        texts = list(random_texts(options.count, options.seed))
+        dice = random.Random(options.seed)
+        texts = [salted(text, dice) if number % 2 else text for number, text in enumerate(random_texts(options.count, options.seed))]
         groups.append(("random", texts, printed_for_texts(texts)))
     if options.stored:
         texts = list(stored_texts())

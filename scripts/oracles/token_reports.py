@@ -38,7 +38,7 @@ from shared import plain_checks
 from shared.plain_lexer import line_and_column
 from shared.programs import TOP, built
 from shared.random_texts import random_texts
-from shared.repairs import items_of
+from shared.recovering import items_of
 
 DATA = TOP / "crates/starlark_tokens/data"
 SCHEMA = TOP / "docs/use/lexemes.schema.json"
@@ -346,18 +346,16 @@ def github_line(name, text, item, unit="characters"):
     """The annotation of a fault."""
     line, column, end_line, end_column = shown_region(text, item, unit)
     escaped = {"%": "%25", "\r": "%0D", "\n": "%0A"}
-    file = "".join({**escaped, ":": "%3A", ",": "%2C"}.get(c, c) for c in name)
     said = "".join(escaped.get(c, c) for c in reason(message_in(unit, text, item[4])))
     place = f"line={line},col={column},endLine={end_line},endColumn={end_column}"
-    return f"::error file={file},{place},title={code_of(item[4])}::{said}"
+    return f"::error file={escaped_name(name)},{place},title={code_of(item[4])}::{said}"
 
 
 def sarif_result(name, text, item):
     """The result of a fault, as an object."""
     line, column, end_line, end_column = shown_region(text, item)
-    uri = ("file://" if name.startswith("/") else "") + urllib.parse.quote(name, safe="/-._~").replace("%", "%")
     region = {"startLine": line, "startColumn": column, "endLine": end_line, "endColumn": end_column}
-    place = {"artifactLocation": {"uri": uri}, "region": region}
+    place = {"artifactLocation": {"uri": uri_of(name)}, "region": region}
     said = {"text": reason(item[4])}
     return {"ruleId": code_of(item[4]), "level": "error", "message": said, "locations": [{"physicalLocation": place}]}
 
@@ -365,9 +363,22 @@ def sarif_result(name, text, item):
 MOST_FAULTS = 100
 
 
+def escaped_name(name):
+    """A file's name as a property of an annotation."""
+    return "".join({"%": "%25", "\r": "%0D", "\n": "%0A", ":": "%3A", ",": "%2C"}.get(c, c) for c in name)
+
+
+def uri_of(name):
+    """A file's name as SARIF has it."""
+    return ("file://" if name.startswith("/") else "") + urllib.parse.quote(name, safe="/-._~")
+
+
 def report(form, name, text, most=None, is_told=lambda item: True):
     """The plain report of a text in a form, and how many faults it has; `most` of them are shown, and 100 of --check in text.
-    Where no tokens are printed, only faults that are told are among them."""
+    Where no tokens are printed, only faults that are told are among them. A file that can't be read has a reason, a string, in
+    place of its text."""
+    if isinstance(text, str):
+        return f"::error file={escaped_name(name)}::{text}\n" if form == "github" else "", 0
     of_faults = {"check": fault_lines, "check json": json_line, "github": github_line}
     found = [item for item in problems(text) if is_told(item)] if form in of_faults else list(items(text))
     faults = [item for item in found if item[2] == "Fault"]
@@ -450,10 +461,25 @@ def document(form, lines, counts, unreadable, build):
     return f"{head}\n{lines}{json_written({'kind': 'Summary', **found})}\n"
 
 
-def ended(tester, form, named_texts, said="", unreadable=0):
-    """How a run over texts has to end, with what is said of others, which couldn't be read."""
+def said_of(name, reason):
+    """What is said of a file that can't be read."""
+    bad_byte = re.fullmatch(r"(.*: byte 0x..) at (.*)", reason)
+    return f"{name_text(name)}:{bad_byte[2]}: error: {bad_byte[1]}\n" if bad_byte else f"starlark_tokens: {name_text(name)}: {reason}\n"
+
+
+def parted(named_texts, said="", lost=0):
+    """The files that can't be read, as names and reasons, what is said of these and of others, which aren't named in reports, and
+    how many they are."""
+    unread = [(name, text) for name, text in named_texts if isinstance(text, str)]
+    return unread, said + "".join(said_of(*one) for one in unread), lost + len(unread)
+
+
+def ended(tester, form, named_texts, said="", lost=0):
+    """How a run over files has to end, with what is said of others, which couldn't be read."""
+    named_texts = list(named_texts)
     reports = [report(form, name, text) for name, text in named_texts]
-    counts = [count for _, count in reports]
+    counts = [count for (_, count), (_, text) in zip(reports, named_texts) if isinstance(text, bytes)]
+    _, said, unreadable = parted(named_texts, said, lost)
     lines = document(form, "".join(lines for lines, _ in reports), counts, unreadable, tester.build)
     status = 2 if unreadable else 1 if any(counts) else 0
     return Ended(status, lines, said + summary(form, counts, unreadable))
@@ -684,6 +710,7 @@ def wrong_sarif(printed, build):
         "their words": all(set(rule) == {"id", "name", *RULE_TEXTS} and all(set(rule[text]) == {"text"} for text in RULE_TEXTS) for rule in driver["rules"]),
         "their help": {rule["id"]: rule["help"]["text"] for rule in driver["rules"]} == HELPS,
         "invocations": [set(one) - {"toolExecutionNotifications"} for one in run["invocations"]] == [{"executionSuccessful"}],
+        "notifications": all(set(told) <= {"level", "message", "locations"} for told in run["invocations"][0].get("toolExecutionNotifications", [])),
     }
     for result in run["results"]:
         [place] = result["locations"]
@@ -698,18 +725,28 @@ def wrong_sarif(printed, build):
     return [what for what, is_right in facts.items() if not is_right]
 
 
-def compare_sarif(tester, what, found, named_texts, said="", unreadable=0):
+def notifications(unread, unreadable):
+    """What an invocation tells of files that couldn't be read: how many they are, and then each that is named, with the reason."""
+    counted = {"level": "error", "message": {"text": f"files that couldn't be read: {unreadable}"}}
+    places = [[{"physicalLocation": {"artifactLocation": {"uri": uri_of(name)}}}] for name, _ in unread]
+    named = [{"level": "error", "message": {"text": reason}, "locations": place} for (_, reason), place in zip(unread, places)]
+    return {"toolExecutionNotifications": [counted, *named]} if unreadable else {}
+
+
+def compare_sarif(tester, what, found, named_texts, said="", lost=0):
     """Compares a run in SARIF with the plain results."""
-    wanted = [sarif_result(name, text, item) for name, text in named_texts for item in problems(text)]
+    named_texts = list(named_texts)
+    unread, said, unreadable = parted(named_texts, said, lost)
+    wanted = [sarif_result(name, text, item) for name, text in named_texts if isinstance(text, bytes) for item in problems(text)]
     tester.compare(f"sarif of {what}", wrong_sarif(found.stdout, tester.build), [])
     [run] = json.loads(found.stdout)["runs"]
-    urls = [result["locations"][0]["physicalLocation"]["artifactLocation"] for result in run["results"]]
+    told = run["invocations"][0].get("toolExecutionNotifications", [])
+    urls = [one["locations"][0]["physicalLocation"]["artifactLocation"] for one in [*run["results"], *told[1:]]]
     for url in urls:
         url["uri"] = re.sub("%..", lambda match: match[0].upper(), url["uri"])
     tester.compare(f"results of {what}", run["results"], wanted)
-    message = {"text": f"files that couldn't be read: {unreadable}"}
-    told = {"toolExecutionNotifications": [{"level": "error", "message": message}]} if unreadable else {}
-    tester.compare(f"invocations of {what}", run["invocations"], [{"executionSuccessful": unreadable == 0, **told}])
+    invocation = {"executionSuccessful": unreadable == 0, **notifications(unread, unreadable)}
+    tester.compare(f"invocations of {what}", run["invocations"], [invocation])
     tester.compare(f"status of {what}", (found.status, found.stderr), (2 if unreadable else 1 if wanted else 0, said))
 
 
@@ -852,6 +889,34 @@ def bounded_runs(tester):
         tester.compare(f"100,000 findings like {text[-8:]}", (found.stderr, taken < MOST_SECONDS), (counted, True))
 
 
+MISSING = "No such file or directory (os error 2)"
+# Files of which a document tells why they have no text, beside one with a fault and one without.
+UNREAD = [
+    ("bad.star", "not UTF-8: byte 0xff at 3:4"), ("fault.star", b"01\n"), ("missing.star", MISSING), ("x.star", b"x\n"), ("long.star", "longer than 4294967295 bytes"),
+    ("no\nsuch: a,b %.star", MISSING), ("/no/\"such\\ \u00e9\u65e5.star", MISSING), ("bad.star", "not UTF-8: byte 0xff at 3:4"), ("fault.star/x", "Not a directory (os error 20)"),
+    ("n" * 300, "File name too long (os error 36)"),
+]
+
+
+def unread_runs(tester, folder):
+    """Files that aren't UTF-8, are too long or can't be opened, each told with the reason, in each form; alone, in a list, and standard input."""
+    (folder / "fault.star").write_bytes(b"01\n")
+    with open(folder / "long.star", "wb") as file:
+        file.truncate(2**32)
+    for named in (UNREAD, UNREAD[:1], UNREAD[2:3], UNREAD[4:5], [UNREAD[3], UNREAD[5]]):
+        names = [name for name, _ in named]
+        for form in ("named", "json", "check", "check json", "github"):
+            tester.compare(f"{form} of {names}", tester.run([*OPTIONS[form], *names], cwd=folder), ended(tester, form, named))
+            found = tester.run([*OPTIONS[form], "--files-from=-"], "\0".join(names + [""]).encode(), cwd=folder)
+            tester.compare(f"{form} of a list {names}", found, ended(tester, form, named))
+        compare_sarif(tester, f"{names}", tester.run(["--format", "sarif", *names], cwd=folder), named)
+    for text, reason in ((b"\xff", "not UTF-8: byte 0xff at 1:1"), ("x\né ".encode() + b"\xed\xa0\x80", "not UTF-8: byte 0xed at 2:3")):
+        tester.compare(f"github of {text}", tester.run(["--format", "github"], text), ended(tester, "github", [("<stdin>", reason)]))
+        compare_sarif(tester, f"{text}", tester.run(["--format", "sarif"], text), [("<stdin>", reason)])
+    for name in ("fault.star", "long.star"):
+        (folder / name).unlink()
+
+
 ODD_NAMES = ["a\nb.star", "it's \"a\" test.star", "--check", "a b.star", "é.star", "\u202e.star"]
 
 
@@ -873,6 +938,7 @@ def file_runs(tester, folder):
     ]
     for arguments, *wanted in rows:
         tester.compare(f"{arguments}", tester.run(arguments, cwd=folder), Ended(*wanted))
+    unread_runs(tester, folder)
     for name in ODD_NAMES:
         (folder / name).write_bytes(b"x = 01\n")
     for form in ("named", "json", "check"):
@@ -893,6 +959,26 @@ def shell_runs(tester, folder):
     command = '"$0" long.star | head -1; echo "${PIPESTATUS[0]}"'
     made = subprocess.run(["bash", "-c", command, tester.program], cwd=folder, capture_output=True, check=False)
     tester.compare("| head -1", (made.stdout, made.stderr), (b"1:1-1:2 Identifier 'x'\n141\n", b""))
+
+
+# What prints something, by how it ends where that can't be written, or nobody reads it.
+PRINTED = [["--help"], ["--version"], ["--explain", "SL001"], ["x.star"], ["--json", "x.star"], ["--check", "y.star"], ["--format=github", "y.star"], ["--format", "sarif", "x.star"]]
+FULL = "starlark_tokens: cannot write the output: No space left on device (os error 28)\n"
+
+
+def unwritable_runs(tester, folder):
+    """The status of whatever is printed: 2 on a full device, which is told, and 141 in a pipe that nobody reads."""
+    (folder / "x.star").write_bytes(b"x\n")
+    (folder / "y.star").write_bytes(b"!\n")
+    for arguments in PRINTED:
+        with open("/dev/full", "wb") as full:
+            made = subprocess.run([tester.program, *arguments], cwd=folder, stdout=full, stderr=subprocess.PIPE, check=False, timeout=60)
+        tester.compare(f"{arguments} on a full device", (made.returncode, made.stderr.decode()), (2, FULL))
+        reader, writer = os.pipe()
+        os.close(reader)
+        made = subprocess.run([tester.program, *arguments], cwd=folder, stdout=writer, stderr=subprocess.PIPE, check=False, timeout=60)
+        os.close(writer)
+        tester.compare(f"{arguments} in a closed pipe", (made.returncode, made.stderr), (141, b""))
 
 
 # -- Folders
@@ -921,6 +1007,11 @@ def walked(folder, prefix="", is_taken=TAKEN.fullmatch, is_left_out=lambda name,
             yield path, here.read_bytes()
 
 
+def in_order(named_texts):
+    """Files by names, in the order in which folders are walked."""
+    return sorted(named_texts, key=lambda named: os.fsencode(named[0]).split(b"/"))
+
+
 def made_tree(folder):
     """A tree of files with links, loops, a pipe and empty folders."""
     for name, text in TREE.items():
@@ -941,11 +1032,10 @@ def made_tree(folder):
 def folder_runs(tester, folder):
     """Runs over a tree: what is read, in which order, and what is left out."""
     made_tree(folder)
-    loop = "starlark_tokens: b/BUILD: Too many levels of symbolic links (os error 40)\n"
-    everything = list(walked(folder))
+    everything = in_order([*walked(folder), ("b/BUILD", "Too many levels of symbolic links (os error 40)")])
     for form in ("named", "json", "check", "check json", "github"):
-        tester.compare(f"{form} of a tree", tester.run([*OPTIONS[form], "."], cwd=folder), ended(tester, form, everything, loop, 1))
-    compare_sarif(tester, "a tree", tester.run(["--format", "sarif", "."], cwd=folder), everything, loop, 1)
+        tester.compare(f"{form} of a tree", tester.run([*OPTIONS[form], "."], cwd=folder), ended(tester, form, everything))
+    compare_sarif(tester, "a tree", tester.run(["--format", "sarif", "."], cwd=folder), everything)
     (folder / "b/BUILD").unlink()
     everything = list(walked(folder))
     globs = {
@@ -987,8 +1077,8 @@ def folder_runs(tester, folder):
         tester.compare(f"{arguments} of a tree", tester.run(["--check", *arguments], cwd=folder), ended(tester, "check", texts))
     tester.compare("tokens of one file of a folder", tester.run(["z"], cwd=folder), ended(tester, "named", [("z/BUILD", b"x\n")]))
     (folder / "gone.bzl").symlink_to("nowhere")
-    said = "starlark_tokens: gone.bzl: No such file or directory (os error 2)\n"
-    tester.compare("a link that leads nowhere", tester.run(["--check", "."], cwd=folder), ended(tester, "check", everything, said, 1))
+    wanted = in_order([*everything, ("gone.bzl", MISSING)])
+    tester.compare("a link that leads nowhere", tester.run(["--check", "."], cwd=folder), ended(tester, "check", wanted))
     (folder / "gone.bzl").unlink()
 
 
@@ -1023,8 +1113,8 @@ def too_long_runs(tester, folder):
     (folder / "x.bzl").write_bytes(b"!")
     begun = time.monotonic()
     found = tester.run(["--check", "."], cwd=folder)
-    said = "starlark_tokens: long.bzl: longer than 4294967295 bytes\n"
-    tester.compare("a file that is too long", found, ended(tester, "check", [("x.bzl", b"!")], said, 1))
+    wanted = ended(tester, "check", [("long.bzl", "longer than 4294967295 bytes"), ("x.bzl", b"!")])
+    tester.compare("a file that is too long", found, wanted)
     tester.compare("a file that is too long is not read", time.monotonic() - begun < 2, True)
 
 
@@ -1058,8 +1148,12 @@ def locked_runs(tester, folder):
     if not os.access(tester.program, os.X_OK) or any(not parent.stat().st_mode & 0o001 for parent in tester.program.parents):
         print("no other user can run the program: unreadable folders weren't tried")
         return
-    said = "".join(f"starlark_tokens: {name}: Permission denied (os error 13)\n" for name in ("locked", "y.bzl"))
-    tester.compare("an unreadable folder", tester.run(["--check", "."], **options), ended(tester, "check", [("x.bzl", b"!")], said, 2))
+    denied = "Permission denied (os error 13)"
+    everything = [("x.bzl", b"!"), ("y.bzl", denied)]
+    for form in ("check", "github"):
+        found = tester.run([*OPTIONS[form], "."], **options)
+        tester.compare(f"{form} of an unreadable folder", found, ended(tester, form, everything, said_of("locked", denied), 1))
+    compare_sarif(tester, "an unreadable folder", tester.run(["--format=sarif", "."], **options), everything, said_of("locked", denied), 1)
 
 
 # Literals of docs/use/compatible.md: the value here and in Python; None is a fault or no single literal.
@@ -1288,6 +1382,7 @@ def main():
             (top / name).mkdir()
         file_runs(tester, top / "files")
         shell_runs(tester, top / "files")
+        unwritable_runs(tester, top / "files")
         progress_runs(tester, top / "files")
         painted_runs(tester, top / "files")
         long_runs(tester, top / "files")
