@@ -46,6 +46,15 @@ exec "$kit/toolchain/bin/clang" "\$@"
 END
 cat >"$work/kit/toolchain/bin/ld.lld" <<END
 #!/bin/sh
+sanitizer=
+for word do
+    shift
+    case \$word in
+        --whole-archive) sanitizer=1 ;;
+        --no-whole-archive) sanitizer= ;;
+        *) [ -n "\$sanitizer" ] || set -- "\$@" "\$word" ;;
+    esac
+done
 "$kit/toolchain/bin/ld.lld" "\$@" && cp program "$work/program"
 END
 # Beside the build `rt try` calls the prover, only to name words that a check will refuse: half of the time.

@@ -15,6 +15,7 @@
 #     documents    random edits of documents
 #     status       exit status, arguments and messages of starlark_lex
 #     reports      what starlark_tokens reports
+#     refused      each allocation of the programs refused in turn
 #     pages        what the pages show
 #
 # Each part has a line, and out/test/PART.log what its scripts printed: the first text for which two
@@ -24,7 +25,7 @@
 set -u
 
 cd "$(dirname -- "$0")/.." || exit 1
-parts='rows runs stored fuzz edits recovered documents status reports pages'
+parts='rows runs stored fuzz edits recovered documents status reports refused pages'
 logs=out/test
 
 # Runs an oracle over the programs that are there, proved or not.
@@ -41,6 +42,7 @@ programs_of() {
     runs) echo starlark_lex starlark_tokens starlark_examples ;;
     fuzz | status) echo starlark_lex ;;
     reports | pages) echo starlark_lex starlark_tokens ;;
+    refused) echo starlark_lex starlark_rows starlark_tokens ;;
     esac
 }
 
@@ -59,6 +61,7 @@ try_part() {
     documents) try oracles/document_edits.py --edits 2000 ;;
     status) try oracles/exit_status.py ;;
     reports) try oracles/token_reports.py --count 100 ;;
+    refused) try oracles/refused_memory.py ;;
     pages) try checks/pages.py ;;
     esac
 }

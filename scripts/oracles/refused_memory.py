@@ -96,6 +96,10 @@ TOKEN_OPTIONS = [
 ]
 TOKEN_FILES = [b"x = 'a'\ny = 01\n", b"!\n"]
 
+# A name of no file, by which a text is reported, and why it can't be read.
+LOST_NAME = "/missing/file"
+LOST_REASON = b"No such file or directory (os error 2)"
+
 
 # A document, and an edit of it: in a line, over lines, one that opens a literal, and one that makes many segments.
 DOCUMENT_EDITS = [
@@ -339,14 +343,19 @@ def tried_text(allocator, program, text):
     return tries
 
 
-def tried_report(allocator, program, arguments, text):
+def printed_for_lost(allocator, program, arguments):
+    """What a run prints for files of which some are missing, as if memory had run out for those."""
+    return Run(program, allocator, b"", 0, arguments).output.replace(LOST_REASON, OUT_OF_MEMORY)
+
+
+def tried_report(allocator, program, options, text):
     """A report of a text with each of the program's allocations refused in turn. With none refused memory may not run out."""
-    tries = Tries(allocator, program, text, arguments)
+    tries = Tries(allocator, program, text, [*options, "--stdin-filename", LOST_NAME])
     whole = tries.run(0)
     if OUT_OF_MEMORY in whole.message or whole.status not in (0, 1):
         tries.report(0, whole)
-    lost = Run(program, allocator, b"", 0, [*arguments, "/missing/file"])
-    tries.each_allocation(whole, lambda run: is_report_kept(run, whole, [lost.output]))
+    lost = printed_for_lost(allocator, program, [*options, LOST_NAME])
+    tries.each_allocation(whole, lambda run: is_report_kept(run, whole, [lost]))
     return tries
 
 
@@ -357,8 +366,8 @@ def tried_files(allocator, program, options, paths):
     whole = tries.run(0)
     if OUT_OF_MEMORY in whole.message or whole.status != 1:
         tries.report(0, whole)
-    missing = f"{paths[0]}.missing"
-    others = [Run(program, allocator, b"", 0, [*options, *names]).output for names in product([missing, paths[0]], [missing, paths[1]])]
+    lost = [printed_for_lost(allocator, program, [*options, *names]) for names in product(*([f"{path}.missing", path] for path in paths))]
+    others = [printed.replace(b".missing", b"") for printed in lost]
     tries.each_allocation(whole, lambda run: is_report_kept(run, whole, others))
     return tries
 
