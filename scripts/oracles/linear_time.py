@@ -1,12 +1,12 @@
 #!/usr/bin/env python3
 """Measures over hostile texts that the programs take time and memory linear in the text's bytes.
 
-Each shape of a text is made once and at twice its length. starlark_bench lexes both, and starlark_lex prints the lines of
-both. What is measured is time: some runs of each in turn, of which the least time counts; or, with --instructions, the
-instructions that valgrind counts, which other work doesn't change. A line says, in this order: the shorter text's length in
-megabytes; nanoseconds or instructions a byte for lexing the shorter and the longer one; how many times as much the longer
-one took to be lexed, and to be printed; and, with time, the most memory that starlark_lex held for the longer one, in bytes
-a byte of the text.
+Each shape of a text is made once and at twice its length. For both starlark_bench lexes, starlark_lex prints lines, and
+starlark_tokens prints tokens, and then all faults. What is measured is time: some runs of each in turn, of which the least time
+counts; or, with --instructions, the instructions that valgrind counts, which other work doesn't change. A line says, in this
+order: the shorter text's length in megabytes; nanoseconds or instructions a byte for lexing the shorter and the longer one; how
+many times as much the longer one took in each of the four; and, with time, the most memory that starlark_lex held for the longer
+one, in bytes a byte of the text.
 
     scripts/oracles/linear_time.py [--instructions] [--times N] [--divide N] [--most RATIO] [WORD..]
 
@@ -30,12 +30,25 @@ import sys
 import tempfile
 from concurrent.futures import ThreadPoolExecutor
 from pathlib import Path
+from typing import NamedTuple
 
 sys.path.append(f"{sys.path[0]}/..")  # where shared/ lies
 from shared.programs import built
 
 ATTEMPTS = 3
 MEGABYTE = 1_000_000
+
+
+class Task(NamedTuple):
+    """What is measured: a program with its arguments, over a text on its standard input."""
+
+    column: str
+    crate: str
+    arguments: tuple = ()
+
+
+LEXED, LINES = Task("lexed", "starlark_bench"), Task("lines", "starlark_lex")
+TASKS = [LEXED, LINES, Task("tokens", "starlark_tokens"), Task("faults", "starlark_tokens", ("--check", "--max-faults", "0"))]
 
 
 def widths(count):
@@ -49,6 +62,8 @@ SHAPES = [
     ("open round brackets", 4_000_000, lambda n: b"(" * n),
     ("open brackets of all kinds", 1_000_000, lambda n: b"([{" * n),
     ("closing brackets", 1_000_000, lambda n: b")" * n),
+    ("leading zeros", 500_000, lambda n: b"01 " * n),
+    ("faults at line ends", 500_000, lambda n: b'f"{1a\n}" ' * n),
     ("brackets inside of an f-string", 1_000_000, lambda n: b'f"{' + b"(" * n),
     ("closed f-strings", 500_000, lambda n: b'f"{x}" ' * n),
     ("f-strings in f-strings", 500_000, lambda n: b"f'{f\"{" * n),
@@ -100,9 +115,11 @@ def write_apart(make, count, source):
 class Ran:
     """One run of a program over a text: its status, its processor time in seconds, and the most memory that it held."""
 
-    def __init__(self, program, source):
+    def __init__(self, task, source):
         with source.open("rb") as text:
-            process = subprocess.Popen([program], stdin=text, stdout=subprocess.DEVNULL)
+            process = subprocess.Popen(
+                [built(task.crate), *task.arguments], stdin=text, stdout=subprocess.DEVNULL, stderr=subprocess.DEVNULL
+            )
             _, status, usage = os.wait4(process.pid, 0)
         process.returncode = self.status = os.waitstatus_to_exitcode(status)
         self.cost = usage.ru_utime + usage.ru_stime
@@ -114,8 +131,9 @@ class Counted:
 
     peak = 0
 
-    def __init__(self, program, source):
-        command = ["valgrind", "--tool=cachegrind", "--cache-sim=no", "--cachegrind-out-file=/dev/null", program]
+    def __init__(self, task, source):
+        program = [built(task.crate), *task.arguments]
+        command = ["valgrind", "--tool=cachegrind", "--cache-sim=no", "--cachegrind-out-file=/dev/null", *program]
         with source.open("rb") as text:
             ran = subprocess.run(command, stdin=text, stdout=subprocess.DEVNULL, stderr=subprocess.PIPE, text=True)
         self.status = ran.returncode
@@ -124,21 +142,25 @@ class Counted:
 
 
 class Measured:
-    """What one text takes: the least cost to lex it, the least cost to print its lines, and the most memory."""
+    """What one text takes: the least cost of each task, and the most memory for its lines."""
 
     def __init__(self, make, count, source, run):
         write_apart(make, count, source)
         self.source, self.length, self.run = source, source.stat().st_size, run
-        self.lexed = self.printed = float("inf")
+        self.costs = dict.fromkeys(TASKS, float("inf"))
         self.peak = 0
         self.failed = False
 
-    def measure(self, bench, lex):
-        lexing, printing = self.run(bench, self.source), self.run(lex, self.source)
-        self.lexed = min(self.lexed, lexing.cost)
-        self.printed = min(self.printed, printing.cost)
-        self.peak = max(self.peak, printing.peak)
-        self.failed |= lexing.status != 0 or printing.status not in (0, 1)
+    def measure(self):
+        for task in TASKS:
+            ran = self.run(task, self.source)
+            self.costs[task] = min(self.costs[task], ran.cost)
+            self.failed |= ran.status not in ((0,) if task is LEXED else (0, 1))
+            if task is LINES:
+                self.peak = max(self.peak, ran.peak)
+
+    def per_byte(self, task):
+        return self.costs[task] / self.length
 
 
 class Shape:
@@ -154,12 +176,12 @@ class Shape:
         self.short = Measured(make, short, folder / f"{self.name} short", run)
         self.long = Measured(make, round(short * grown), folder / f"{self.name} long", run)
 
-    def measure(self, bench, lex, times):
+    def measure(self, times):
         """Measures `times` times, and again where that isn't linear; instructions once."""
         for _ in range(1 if self.is_counted else ATTEMPTS):
             for _ in range(1 if self.is_counted else times):
-                self.short.measure(bench, lex)
-                self.long.measure(bench, lex)
+                self.short.measure()
+                self.long.measure()
             if self.is_linear() or self.failed():
                 break
         self.short.source.unlink()
@@ -169,13 +191,9 @@ class Shape:
     def failed(self):
         return self.short.failed or self.long.failed
 
-    def ratio(self, short_cost, long_cost):
-        """How many times as much a text of exactly twice the bytes would have taken."""
-        return 2 * (long_cost / self.long.length) / (short_cost / self.short.length)
-
     def ratios(self):
-        short, long = self.short, self.long
-        return self.ratio(short.lexed, long.lexed), self.ratio(short.printed, long.printed)
+        """How many times as much a text of exactly twice the bytes would have taken, for each task."""
+        return [2 * self.long.per_byte(task) / self.short.per_byte(task) for task in TASKS]
 
     def is_linear(self):
         return not self.failed() and max(self.ratios()) <= self.most
@@ -184,20 +202,21 @@ class Shape:
         if self.failed():
             return f"{self.name:38} gave up"
         short, long = self.short, self.long
-        lexed, printed = self.ratios()
         unit = 1 if self.is_counted else 1e9
+        ratios = "".join(f" {ratio:6.2f}" for ratio in self.ratios())
         memory = "" if self.is_counted else f" {long.peak / long.length:8.2f}"
         return (
-            f"{self.name:38} {short.length / MEGABYTE:6.2f} {short.lexed / short.length * unit:9.2f}"
-            f" {long.lexed / long.length * unit:9.2f} {lexed:6.2f} {printed:6.2f}{memory}"
+            f"{self.name:38} {short.length / MEGABYTE:6.2f} {short.per_byte(LEXED) * unit:9.2f}"
+            f" {long.per_byte(LEXED) * unit:9.2f}{ratios}{memory}"
         )
 
 
 def measured(shapes, folder, options):
     """The shapes with what they take, each when it is measured: in turn by time, side by side by instructions."""
-    bench, lex = built("starlark_bench"), built("starlark_lex")
+    for task in TASKS:
+        built(task.crate)
     with ThreadPoolExecutor(os.cpu_count() if options.instructions else 1) as side_by_side:
-        yield from side_by_side.map(lambda shape: Shape(shape, folder, options).measure(bench, lex, options.times), shapes)
+        yield from side_by_side.map(lambda shape: Shape(shape, folder, options).measure(options.times), shapes)
 
 
 def main():
@@ -213,7 +232,8 @@ def main():
         return 2
     shapes = [shape for shape in SHAPES if not options.words or any(word in shape[0] for word in options.words)]
     unit, memory = ("per byte", "") if options.instructions else ("ns/byte", f" {'memory':>8}")
-    print(f"{'':38} {'MB':>6} {unit:>9} {'at twice':>9} {'lexed':>6} {'lines':>6}{memory}")
+    columns = "".join(f" {task.column:>6}" for task in TASKS)
+    print(f"{'':38} {'MB':>6} {unit:>9} {'at twice':>9}{columns}{memory}")
     wrong = 0
     with tempfile.TemporaryDirectory() as folder:
         for shape in measured(shapes, Path(folder), options):
