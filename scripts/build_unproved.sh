@@ -4,8 +4,9 @@
 #     scripts/build_unproved.sh CRATE OUTPUT
 #
 # `rt try` compiles a program, runs it, and keeps nothing. Here it runs as part of a copy of the
-# kit, made of links, whose clang compiles at -O2 and without the address sanitizer, and whose
-# linker keeps the program. What `rt try` checks while a program runs is checked by it too.
+# kit, made of links, whose clang compiles at -O2 and whose linker keeps the program, both without
+# the address sanitizer, so that valgrind and another allocator can run it. What `rt try` checks
+# while a program runs is checked by it too.
 # The sources are a copy, in which src/build.rt of the program says that it isn't proved.
 # Where the build fails, what `rt try` said is on standard error, and OUTPUT isn't touched.
 set -eu
