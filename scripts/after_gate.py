@@ -59,6 +59,7 @@ JOBS = [
     Job("editor_lines", "oracles/editor_lines.py"),
     Job("linear", "oracles/linear_time.py --instructions --divide 64 --most 2.1", may_lack_tools=True),
     Job("refused", "oracles/refused_memory.py", may_lack_tools=True),
+    Job("costs", "oracles/document_costs.py", may_lack_tools=True),
     Job("recovered", "oracles/recovered_texts.py --count 20000 --stored"),
     Job("documents", "oracles/document_edits.py --edits 20000"),
     Job("fuzz", "oracles/fuzz.py --count 20000 --seconds 60"),

@@ -23,8 +23,6 @@ Programs that aren't built are proved and built first.
 
 import argparse
 import os
-import re
-import shutil
 import subprocess
 import sys
 import tempfile
@@ -33,6 +31,7 @@ from pathlib import Path
 from typing import NamedTuple
 
 sys.path.append(f"{sys.path[0]}/..")  # where shared/ lies
+from shared.counting import Counted, has_valgrind
 from shared.programs import built
 
 ATTEMPTS = 3
@@ -113,32 +112,15 @@ def write_apart(make, count, source):
 
 
 class Ran:
-    """One run of a program over a text: its status, its processor time in seconds, and the most memory that it held."""
+    """One run of a command over a text: its status, its processor time in seconds, and the most memory that it held."""
 
-    def __init__(self, task, source):
+    def __init__(self, command, source):
         with source.open("rb") as text:
-            process = subprocess.Popen(
-                [built(task.crate), *task.arguments], stdin=text, stdout=subprocess.DEVNULL, stderr=subprocess.DEVNULL
-            )
+            process = subprocess.Popen(command, stdin=text, stdout=subprocess.DEVNULL, stderr=subprocess.DEVNULL)
             _, status, usage = os.wait4(process.pid, 0)
         process.returncode = self.status = os.waitstatus_to_exitcode(status)
         self.cost = usage.ru_utime + usage.ru_stime
         self.peak = usage.ru_maxrss * 1024
-
-
-class Counted:
-    """One run of a program over a text in valgrind: its status, and its instructions."""
-
-    peak = 0
-
-    def __init__(self, task, source):
-        program = [built(task.crate), *task.arguments]
-        command = ["valgrind", "--tool=cachegrind", "--cache-sim=no", "--cachegrind-out-file=/dev/null", *program]
-        with source.open("rb") as text:
-            ran = subprocess.run(command, stdin=text, stdout=subprocess.DEVNULL, stderr=subprocess.PIPE, text=True)
-        self.status = ran.returncode
-        refs = re.search(r"I +refs: +([0-9,]+)", ran.stderr)
-        self.cost = int(refs[1].replace(",", "")) if refs else float("inf")
 
 
 class Measured:
@@ -153,7 +135,7 @@ class Measured:
 
     def measure(self):
         for task in TASKS:
-            ran = self.run(task, self.source)
+            ran = self.run([built(task.crate), *task.arguments], self.source)
             self.costs[task] = min(self.costs[task], ran.cost)
             self.failed |= ran.status not in ((0,) if task is LEXED else (0, 1))
             if task is LINES:
@@ -227,7 +209,7 @@ def main():
     arguments.add_argument("--most", type=float, default=2.3, metavar="R")
     arguments.add_argument("words", nargs="*", metavar="WORD")
     options = arguments.parse_args()
-    if options.instructions and not shutil.which("valgrind"):
+    if options.instructions and not has_valgrind():
         print("linear time: not measured, since there is no valgrind")
         return 2
     shapes = [shape for shape in SHAPES if not options.words or any(word in shape[0] for word in options.words)]
