@@ -6,7 +6,7 @@ counts instructions, of starlark_bench for keystrokes at random places, and of s
 end: in runs of few and of many, so that making the document doesn't count. A line says the instructions of one in the text and in
 the longer one, and their ratio.
 
-    scripts/oracles/document_costs.py [--most R]    the longer text may take R times as many (1.5)
+    scripts/oracles/document_costs.py [--most R]    the longer text may take R times as many (1.2)
 
 The exit status is 1 where it took more or a program gave up, and 2 where there is no valgrind. Programs that aren't built are proved
 and built first.
@@ -64,7 +64,7 @@ def costs_of(make, folder):
 
 def main():
     arguments = argparse.ArgumentParser(description=__doc__.splitlines()[0])
-    arguments.add_argument("--most", type=float, default=1.5, metavar="R")
+    arguments.add_argument("--most", type=float, default=1.2, metavar="R")
     most = arguments.parse_args().most
     if not has_valgrind():
         print("document costs: not measured, since there is no valgrind")
