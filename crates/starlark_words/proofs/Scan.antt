@@ -2,6 +2,7 @@
 pub mod WordFronts
 pub mod Residuals
 pub mod Listed
+pub mod NameNumbers
 pub mod Marks
 pub mod ScannedNumbers
 pub mod ByFirst

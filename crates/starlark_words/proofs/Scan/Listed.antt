@@ -1,9 +1,8 @@
 -- Lists of words, and the class that a word has by them.
-use Rattle.std.proofs.Common.{◌≡◌, ◌<◌, Bool, true, false, cond, not, ◌||◌, ◌==◌, List, [], ◌∷◌, refl, sym, ap, ◌∙◌, Option, None, Some, ℕ}
+use Rattle.std.proofs.Common.{◌≡◌, ◌<◌, Bool, true, false, not, ◌||◌, ◌==◌, List, [], ◌∷◌, refl, sym, ap, ◌∙◌, Option, None, Some, ℕ}
 use Rattle.std.proofs.lemmas.Bool.{false_from_ne_true, agree_below, agree_below_at, and_parts, both_ways, eq-eqb}
 use Rattle.std.proofs.lemmas.Slice.Eq.{bytes_eq-Decides}
 use Rattle.std.specs.List.{list_all}
-use Rattle.std.specs.Prelude.{filter}
 use Rattle.std.specs.Map.{lookup}
 use Rattle.std.specs.Str.{bytes_eq}
 use Rattle.starlark_grammar.specs.Words.{Text, openers}
@@ -28,17 +27,6 @@ lookup_fails test word (row ∷ rows) h fails =
     let parts = and_parts (test row.0) (all_pass test rows) h in
     let other : bytes_eq word row.0 ≡ false = false_from_ne_true _ (λ e. both_ways _ fails (ap test ((bytes_eq-Decides word row.0).0 e) ∙ parts.0)) in
     rw other (lookup_fails test word rows parts.1 fails)
-
--- a word that passes a test has the class that it has by the rows whose words pass it
-pub lookup_passing : (test : Text → Bool) (word : Text) (rows : List (Text × Class)) → test word ≡ true → lookup (bytes_eq word) (filter (λ (row : Text × Class). test row.0) rows) ≡ lookup (bytes_eq word) rows
-lookup_passing test word [] passes = refl
-lookup_passing test word (row ∷ rows) passes = go _ (test row.0) refl (lookup_passing test word rows passes)
-  where
-    go : (rest : List (Text × Class)) (b : Bool) → test row.0 ≡ b → lookup (bytes_eq word) rest ≡ lookup (bytes_eq word) rows → lookup (bytes_eq word) (cond b (row ∷ rest) rest) ≡ lookup (bytes_eq word) (row ∷ rows)
-    go rest true is same = ap (cond (bytes_eq word row.0) (Some row.1)) same
-    go rest false is same =
-        let other : bytes_eq word row.0 ≡ false = false_from_ne_true _ (λ e. both_ways _ is (sym (ap test ((bytes_eq-Decides word row.0).0 e)) ∙ passes)) in
-        rw other same
 
 -- whether a word begins with another byte, or is empty
 abbrev pub begins_otherwise : ℕ → Text → Bool

@@ -1,16 +1,16 @@
 -- Words, and the tables and tests by which the scanner finds them.
-use Rattle.std.specs.Prelude.{ℕ, Bool, true, false, not, ◌&&◌, ◌||◌, ◌==◌, if◌then◌else◌, List, [], ◌∷◌, ◌++◌, Option, None, Some, codes, get_or, unwrap_or}
+use Rattle.std.specs.Prelude.{ℕ, ◌+◌, ◌*◌, Bool, true, false, not, ◌&&◌, ◌||◌, ◌==◌, if◌then◌else◌, List, [], ◌∷◌, ◌++◌, Option, None, Some, codes, drop, get_or, length, map, unwrap_or}
 use Rattle.std.specs.Map.{lookup}
 use Rattle.std.specs.Str.{bytes_eq}
 use Rattle.std.specs.Char.{is_ascii_digit}
 use Rattle.starlark_grammar.specs.Front.{longest_front}
 use Rattle.starlark_grammar.specs.Words as grammar
+use Rattle.starlark_grammar.specs.declared.class.TheConstants.{KINDS}
 use Rattle.starlark_grammar.specs.declared.class.Class.{Class}
-use Rattle.starlark_grammar.specs.declared.class.Class.TheVariants.{Binary, Comment, Decimal, Fixed, Float, Hexadecimal, Identifier, Octal, Opener, Reserved, Skipped, Tabs}
+use Rattle.starlark_grammar.specs.declared.class.Terminal.{Terminal}
+use Rattle.starlark_grammar.specs.declared.class.Class.TheVariants.{Binary, Comment, Decimal, Float, Hexadecimal, Identifier, Octal, Opener, Skipped, Tabs}
 use Rattle.starlark_grammar.specs.declared.class.LiteralKind.TheVariants.{Text as OfText}
 use Rattle.starlark_grammar.specs.declared.class.Quote.TheVariants.{Single as SingleQuote, Double as DoubleQuote}
-use Rattle.starlark_words.specs.declared.scanner.names.Listing.{Listing}
-use Rattle.starlark_words.specs.declared.scanner.names.Listing.TheVariants.{Keyword, Not, Reserved as OfReserved}
 use Rattle.starlark_words.specs.declared.scanner.word.Word.{Word}
 
 -- a word at the front of a text, by its class and its length
@@ -43,11 +43,14 @@ begins_fraction text = false
 abbrev pub mark_front : grammar.Text → Option (Class × ℕ)
 mark_front text = if begins_fraction text then None else longest_front mark_of text
 
--- the class of an entry in the table of keywords and reserved words
-abbrev pub listing_view : Listing → Class
-listing_view (Keyword terminal) = Fixed terminal
-listing_view OfReserved = Reserved
-listing_view Not = Identifier
+-- the number of a word: its bytes, the first one lowest
+unfoldable pub word_number : grammar.Text → ℕ
+word_number [] = 0
+word_number (b ∷ word) = b + 256 * word_number word
+
+-- the keywords by the numbers of their kinds
+abbrev pub keyword_kinds : List (ℕ × Terminal)
+keyword_kinds = map (λ row. (row.2, row.0)) (drop (length grammar.symbols) KINDS)
 
 -- the class of a name
 abbrev pub class_of_name : grammar.Text → Class

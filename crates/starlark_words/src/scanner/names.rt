@@ -1,131 +1,134 @@
 //! Words that begin with a letter or `_`: keywords, reserved words, identifiers, and openers with a
 //! prefix.
 
-ghost use Rattle.std.specs.Prelude.{◌≡◌, ◌<◌, ◌+◌, ◌-◌, ◌*◌, ◌^◌, ◌++◌, ◌∷◌, [], IfSome, None, Some, false, length, take, true, unwrap_or};
+ghost use Rattle.std.specs.Prelude.{◌≡◌, ◌<◌, ◌≤◌, ◌+◌, ◌-◌, ◌*◌, ◌^◌, ◌++◌, ◌∷◌, [], IfSome, Some, length, nat_eq, take, true};
 ghost use Rattle.std.specs.List.{prefix_len};
 ghost use Rattle.std.specs.Map.{lookup};
 ghost use Rattle.std.specs.Str.{bytes_eq};
 ghost use Rattle.starlark_grammar.specs.Front.{language_front};
 ghost use Rattle.starlark_words.specs.Inner.Reads.{AreReads};
-ghost use Rattle.starlark_words.specs.Inner.ScannedWords.{class_of_name, listing_view, word_view};
+ghost use Rattle.starlark_words.specs.Inner.ScannedWords.{class_of_name, keyword_kinds, word_number, word_view};
 ghost use Rattle.starlark_grammar.specs.Items.{quote_byte};
 ghost use Rattle.starlark_grammar.specs.Words as grammar;
 ghost use Rattle.starlark_grammar.specs.declared.class.Class.TheVariants as class;
-ghost use Rattle.starlark_words.specs.declared.scanner.names.Listing.TheVariants as listing;
 
 use super::{Class, LiteralKind, Quote, Terminal, Word};
 use crate::names::name_len;
 use crate::reads::{ReadCounter, byte_at};
 use starlark_grammar::terminals;
 
-/// Entry of a name in the table of keywords and reserved words.
-// Not a `Class`: of that the caller would compare all cases (2 % of a mix).
-#[derive(Clone, Copy)]
-enum Listing {
-    Keyword(Terminal),
-    Reserved,
-    Not,
-}
-
 /// The greatest length of a literal's prefix.
 const PREFIX_LEN: usize = 2;
 
-/// The greatest length of a keyword or a reserved word.
-const LISTED_LEN: usize = 8;
+/// The factor that gives each word a slot of its own among the eight of its length.
+const FACTOR: u64 = 0x3c1be0e2a8533663;
 
-/// The bits of the lengths of the words that begin with a letter, by its last five bits.
-macro_rules! lengths_by {
-    (($letter:literal) symbols $symbols:tt names { $($len:literal {
-        $($bytes:literal $text:literal $keyword:ident = $number:literal,)*;
+/// The number of a word of a known length: its bytes, the first one lowest.
+macro_rules! number {
+    ($word:literal $len:literal) => { number!($word, $len 0 1 2 3 4 5 6 7) };
+    ($word:literal, $len:literal $($at:literal)*) => {
+        (0 $(| ($word[$at % $len] as u64 * ($at < $len) as u64) << (8 * $at))*)
+    };
+}
+
+/// The value of the word of a length in each slot, 0 where there is none.
+macro_rules! slots {
+    (in $($words:tt { $($slot:literal)* })*) => { [$($(slots!(at $slot $words)),*),*] };
+    (at $slot:literal [$(($word:expr, $value:expr))*]) => {
+        0 $(| ((u64::wrapping_mul($word, FACTOR) >> 61 == $slot) as u64) * $value)*
+    };
+    ($($words:tt)*) => { slots!(in $($words { 0 1 2 3 4 5 6 7 })*) };
+}
+
+/// The numbers of the listed words, by length and slot; the numbers of the keywords' kinds, 0 for
+/// reserved words.
+macro_rules! listed {
+    (() symbols $symbols:tt names { $($len:tt {
+        $($bytes:literal $text:literal $keyword:ident = $kind:literal,)*;
         $($reserved:literal $word:literal),*
     })* }) => {
-        0 $(
-            $(| (($bytes[0] & 31 == $letter) as u8) << ($len - 1))*
-            $(| (($reserved[0] & 31 == $letter) as u8) << ($len - 1))*
-        )*
+        (
+            slots!([] [] $([
+                $((number!($bytes $len), number!($bytes $len)))*
+                $((number!($reserved $len), number!($reserved $len)))*
+            ])*),
+            slots!([] [] $([$((number!($bytes $len), $kind))*])*),
+        )
     };
 }
 
-/// Those bits for some letters.
-macro_rules! lengths {
-    ($($letter:literal)*) => { [$(terminals!(lengths_by!($letter))),*] };
+static LISTED: ([u64; 72], [u64; 72]) = terminals!(listed!());
+
+/// The bits of the first bytes of a number, by how many bytes they are.
+macro_rules! masks {
+    ($($len:literal)*) => { [0, $(!0 >> (64 - 8 * $len)),*] };
 }
 
-// Bit n is set if a keyword or a reserved word of n + 1 letters begins with the letter.
-static LENGTHS: [u8; 32] = lengths! {
-    0 1 2 3 4 5 6 7 8 9 10 11 12 13 14 15 16 17 18 19 20 21 22 23 24 25 26 27 28 29 30 31
-};
+static MASKS: [u64; 9] = masks!(1 2 3 4 5 6 7 8);
 
-/// Whether a keyword or a reserved word begins with the first letter of a name, and is as long.
-// By a table, without a jump by the letter, which the processor can't foresee (5 % of the time of a
-// mix).
-#[inline(always)]
-fn may_be_listed(name: &[u8]) -> bool
-    ensures { result ≡ false → lookup (bytes_eq name.now) grammar.names ≡ None }
-{
-    match name {
-        [first, ..] => {
-            name.len() <= LISTED_LEN
-                && (LENGTHS[(*first & 31) as usize] >> (name.len() - 1)) & 1 == 1
-        }
-        [] => false,
-    }
-}
-
-/// Entry of a word of `N` bytes in rows of such words.
-// The word is an array: two of a known length are compared without a call.
-#[inline(always)]
-fn entry_in<const N: usize>(rows: &[([u8; N], Listing)], word: &[u8]) -> Listing
-    requires { length word.now ≡ N }
-    ensures { result ≡ unwrap_or (lookup (bytes_eq word.now) rows.now) listing.Not }
-{
-    let Some(word) = word.as_array::<N>() else {
-        return Listing::Not;
-    };
-    for (listed, entry) in rows {
-        if word == listed {
-            return *entry;
-        }
-    }
-    Listing::Not
-}
-
-/// A search of a name in the rows of its length.
-macro_rules! listing_in {
-    (($name:ident) symbols $symbols:tt names { $($len:literal {
-        $($bytes:literal $text:literal $keyword:ident = $number:literal,)*;
-        $($reserved:literal $word:literal),*
+/// A `match` of a kind's number, with its keyword.
+macro_rules! keyword_by_kind {
+    (($kind:ident) symbols $symbols:tt names { $($len:tt {
+        $($bytes:literal $text:literal $keyword:ident = $number:literal,)*; $($reserved:tt)*
     })* }) => {
-        match $name.len() {
-            $($len => entry_in(&[
-                $((*$bytes, Listing::Keyword(Terminal::$keyword)),)*
-                $((*$reserved, Listing::Reserved),)*
-            ], $name),)*
-            _ => Listing::Not,
-        }
+        match $kind { $($($number => Some(Terminal::$keyword),)*)* _ => None }
     };
 }
 
-/// Entry of a name in the table of keywords and reserved words.
+/// The keyword of a kind's number; `None` if that is no keyword's.
+// As a call: inlined, the caller compares all kinds (0.7 % of a mix).
+#[tactic(auto, unfolding(starlark_grammar::specs::Words::symbols))]
 #[inline(never)]
-fn listing_of(name: &[u8]) -> Listing
-    ensures { listing_view result ≡ class_of_name name.now }
+fn keyword(kind: u64) -> Option<Terminal>
+    ensures { result ≡ lookup (nat_eq kind) keyword_kinds }
 {
-    terminals!(listing_in!(name))
+    terminals!(keyword_by_kind!(kind))
 }
 
-/// The class of a name. For most names the first letter and the length show that it is no keyword.
-#[inline(always)]
-fn name_class(name: &[u8]) -> Class
-    ensures { result ≡ class_of_name name.now }
+/// The number of a text of fewer than eight bytes.
+// Not the array: the caller would keep it in memory, and class by class with it (4 % of a mix).
+#[inline(never)]
+fn short_number(text: &[u8]) -> u64
+    requires { length text.now < 8 }
+    ensures { result ≡ word_number text.now }
 {
-    if !may_be_listed(name) {
+    let mut front = [0; 8];
+    front[..text.len()].copy_from_slice(text);
+    u64::from_le_bytes(front)
+}
+
+/// The number of the name of `len` bytes at the front of a text.
+#[inline(always)]
+fn name_number(text: &[u8], len: usize) -> u64
+    requires within { len ≤ length text.now }
+    requires short { len ≤ 8 }
+    ensures { result ≡ word_number (take len text.now) }
+{
+    let front = match text.first_chunk::<8>() {
+        Some(front) => u64::from_le_bytes(*front),
+        None => short_number(text),
+    };
+    front & MASKS[len]
+}
+
+/// The class of the name of `len` bytes at the front of a text.
+#[inline(always)]
+fn name_class(text: &[u8], len: usize) -> Class
+    requires some { 0 < len }
+    requires len { len ≡ prefix_len grammar.is_in_name text.now }
+    ensures { result ≡ class_of_name (take len text.now) }
+{
+    if len >= MASKS.len() {
         return Class::Identifier;
     }
-    match listing_of(name) {
-        Listing::Keyword(terminal) => Class::Fixed(terminal),
-        Listing::Reserved => Class::Reserved,
-        Listing::Not => Class::Identifier,
+    let number = name_number(text, len);
+    let slot = 8 * len + (number.wrapping_mul(FACTOR) >> 61) as usize;
+    if LISTED.0[slot] != number {
+        return Class::Identifier;
+    }
+    match keyword(LISTED.1[slot]) {
+        Some(terminal) => Class::Fixed(terminal),
+        None => Class::Reserved,
     }
 }
 
@@ -184,7 +187,7 @@ pub(crate) fn name_from(reads: &mut ReadCounter, passed: usize, text: &str) -> W
     let len = 1 + name_len(reads, passed, &bytes[1..]);
     let (class, len) = match prefixed_opener(bytes, len) {
         Some(class) => (class, len + 1),
-        None => (name_class(&bytes[..len]), len),
+        None => (name_class(bytes, len), len),
     };
     Word { class, len }
 }
