@@ -6,6 +6,7 @@ pub mod JsonStrings
 pub mod PythonLiterals
 pub mod ReportDocuments
 pub mod SarifResults
+pub mod SarifRules
 pub mod ShownNames
 pub mod SourceLines
 pub mod Values

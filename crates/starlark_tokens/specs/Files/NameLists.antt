@@ -1,6 +1,9 @@
 -- Lists of names.
 use Rattle.std.specs.Prelude.{ℕ, ◌==◌, if◌then◌else◌, List, [], ◌∷◌, ◌++◌}
+use Rattle.std.specs.Cmp.Lexicographic.{slice_cmp}
 use Rattle.std.specs.List.{list_any}
+use Rattle.std.specs.List.Sorted.{IsPermutation, IsSorted}
+use Rattle.std.specs.Ordering.{nat_cmp}
 use Rattle.starlark_base.specs.Places.{Text}
 
 -- the byte that ends each name of a list: zero if the list has one, else LF
@@ -25,3 +28,8 @@ names_between separator list = names_after separator [] list
 -- the names in a list of names
 abbrev pub listed_names : Text → List Text
 listed_names list = names_between (separator list) list
+
+-- The names in a list of a folder's names, each ended by a zero byte: all of them, in the order of their bytes.
+pub record AreFolderNames (list : Text) (names : List Text) : Type 0 where
+  pub all : IsPermutation (names_between 0 list) names
+  pub sorted : IsSorted (slice_cmp nat_cmp) names

@@ -1,19 +1,29 @@
 -- What a document begins and ends with, around the reports of its files.
 use Rattle.std.specs.Prelude.{ℕ, Bool, true, false, ◌==◌, if◌then◌else◌, [], ◌++◌, codes, drop}
 use Rattle.std.specs.Fmt.{decimal}
+use Rattle.std.specs.List.{join_with_byte}
 use Rattle.starlark_base.specs.Places.{Text}
 use Rattle.starlark_tokens.specs.declared.output_formats.form.Form.{Form}
 use Rattle.starlark_tokens.specs.declared.output_formats.form.Form.TheVariants.{Json, JsonFaults, Sarif}
-use Rattle.starlark_tokens.specs.declared.output_formats.rules.TheConstants.{RULES}
+use Rattle.starlark_tokens.specs.OutputFormats.SarifRules.{rules}
 use Rattle.starlark_tokens.specs.declared.reporting.totals.Totals.{Totals}
+use Rattle.starlark_tokens.specs.declared.TheConstants.{VERSION}
 
--- the first line of a document of JSON
+-- the first line of a document of JSON, of a proved program
 abbrev pub json_opening : Text
-json_opening = codes "{\"format\":\"starlark_lexemes\",\"version\":1,\"proved\":" ++ (codes "true" ++ codes "}\n")
+json_opening = codes "{\"format\":\"starlark_lexemes\",\"version\":1,\"proved\":true}\n"
 
--- a document of SARIF up to its results
-abbrev pub sarif_opening : Text
-sarif_opening = RULES.now ++ (codes "true" ++ codes "}}},\"columnKind\":\"unicodeCodePoints\",\"results\":[")
+-- a document of SARIF up to its rules
+abbrev pub sarif_driver : Text
+sarif_driver =
+    codes "{\"$schema\":\"https://docs.oasis-open.org/sarif/sarif/v2.1.0/errata01/os/schemas/sarif-schema-2.1.0.json\",\n"
+    ++ (codes "\"version\":\"2.1.0\",\"runs\":[{\"tool\":{\"driver\":{\"name\":\"starlark_tokens\",\"version\":\"" ++ (VERSION.now ++ codes "\",\"rules\":["))
+
+-- a document of SARIF up to its results, of a proved program
+unfoldable pub sarif_opening : Text
+sarif_opening =
+    sarif_driver ++ (join_with_byte 44 rules
+    ++ codes "\n],\"properties\":{\"proved\":true}}},\"columnKind\":\"unicodeCodePoints\",\"results\":[")
 
 -- what a document begins with
 unfoldable pub opening : Form → Text

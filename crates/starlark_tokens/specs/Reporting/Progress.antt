@@ -8,7 +8,6 @@ use Rattle.starlark_base.specs.Places.{Text}
 use Rattle.starlark_devices.specs.Calls.{WriterCalls, WritesText}
 use Rattle.starlark_tokens.specs.declared.reporting.screen.Progress.{Progress}
 use Rattle.starlark_tokens.specs.declared.reporting.screen.Screen.{Screen}
-use Rattle.starlark_tokens.specs.declared.reporting.screen.TheConstants.{NEXT_WAIT}
 
 -- the line that says how many of all files are done, from the start of the terminal's line
 abbrev pub progress_line : (done total : ℕ) → Text
@@ -33,10 +32,14 @@ abbrev pub is_due : Option Progress → (now : Instant) → Bool
 is_due None now = false
 is_due (Some progress) now = nat_le (progress.wait * 1000000) (instant_nanos now - instant_nanos progress.last)
 
--- progress whose line was written now
+-- progress over so many files that has begun: its line is first written after a second
+abbrev pub begun : (total : ℕ) → (now : Instant) → Progress
+begun total now = record { total = total; last = now; wait = 1000; is_shown = false }
+
+-- progress whose line was written now, and is written again after a tenth of a second
 abbrev pub shown_now : Option Progress → (now : Instant) → Option Progress
 shown_now None now = None
-shown_now (Some progress) now = Some (record progress { last = now; wait = NEXT_WAIT; is_shown = true })
+shown_now (Some progress) now = Some (record progress { last = now; wait = 100; is_shown = true })
 
 -- of how many files
 abbrev pub total_of : Option Progress → ℕ

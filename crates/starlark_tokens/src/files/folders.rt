@@ -1,7 +1,13 @@
 //! Finds the sources of a run: files by their names, and those in folders.
 
-ghost use Rattle.std.specs.Prelude.{◌≡◌, IfOk, string_bytes};
+ghost use Rattle.std.specs.Prelude.{◌≡◌, ◌==◌, IfOk, IsTrue, OnOk, map, not, string_bytes, true};
+ghost use Rattle.std.specs.List.{suffix_len};
+ghost use Rattle.starlark_base.specs.Places.{Text};
+ghost use Rattle.starlark_tokens.specs.Files.NameLists.{AreFolderNames};
+ghost use Rattle.starlark_tokens.specs.CommandLine.CommandWords.{is_same};
 ghost use Rattle.starlark_tokens.specs.Files.FolderPaths as spec;
+ghost use Rattle.starlark_tokens.specs.Files.UsedGlobs.{some_stands};
+ghost use Rattle.starlark_tokens.specs.declared.files.sources.TheConstants.{STDIN};
 ghost use Rattle.starlark_tokens.specs.Reporting.Totals.{with_lost};
 
 use crate::command_line::command_words::{is_any, is_same};
@@ -69,23 +75,34 @@ fn listing(rt: &HostRuntime, path: &str) -> io::Result<Vec<u8>> {
 }
 
 /// The names in a folder, in order. The slash makes the system follow a link to a folder.
-fn names_in(rt: &HostRuntime, folder: &str) -> io::Result<Vec<Vec<u8>>> {
+fn names_in(rt: &HostRuntime, folder: &str) -> io::Result<Vec<Vec<u8>>>
+    ensures { IfOk result (λ names. (list : Text) × AreFolderNames list (map (λ name. name.items) names.items)) }
+{
     let path = format!(in rt.alloc(); "{folder}/")?;
     let list = listing(rt, path.as_str())?;
     Ok(folder_names(rt.alloc(), list.as_slice())?)
 }
 
+/// Number of bytes of the name at the end of a path.
+fn last_name_len(path: &[u8]) -> usize
+    ensures { result ≡ suffix_len (λ byte. not (byte == 47)) path.now }
+{
+    let reversed = path.iter().rev();
+    reversed.take_while(|byte| **byte != b'/').count()
+}
+
 /// The name at the end of a path.
-fn last_name(path: &str) -> &str {
-    match path.rsplit_once('/') {
-        Some((_, name)) => name,
-        None => path,
-    }
+fn last_name(path: &[u8]) -> &[u8]
+    ensures { result.now ≡ spec.last_name path.now }
+{
+    &path[path.len().saturating_sub(last_name_len(path))..]
 }
 
 /// Whether a path is that of a file, or of a link to one. A link that leads nowhere counts as one,
 /// so that it is reported as a file that can't be read.
-fn is_file(rt: &HostRuntime, path: &str, metadata: &Metadata) -> bool {
+fn is_file(rt: &HostRuntime, path: &str, metadata: &Metadata) -> bool
+    ensures { spec.SaysFile metadata.now result }
+{
     if !metadata.is_symlink() {
         return metadata.is_file();
     }
@@ -113,7 +130,9 @@ impl Search<'_> {
     }
 
     /// Adds a path of a folder to those that are to be visited, unless it is left out.
-    fn add_path(&mut self, prefix: &str, name: &[u8]) -> Result<(), AllocError> {
+    fn add_path(&mut self, prefix: &str, name: &[u8]) -> Result<(), AllocError>
+        ensures { OnOk result (spec.TakesName prefix.now name.now self.old self.new) }
+    {
         if is_any(name, &[".", ".."]) {
             return Ok(());
         }
@@ -145,7 +164,9 @@ impl Search<'_> {
     }
 
     /// Adds the paths of a folder that is found in another one, unless it is left out.
-    fn add_found_folder(&mut self, path: &str) -> Result<(), AllocError> {
+    fn add_found_folder(&mut self, path: &str) -> Result<(), AllocError>
+        ensures { OnOk result (IsTrue (some_stands self.old.excluded.items true path.now) → self.new.pending ≡ self.old.pending) }
+    {
         let excluded = self.excluded.as_mut_slice();
         if some_stands(self.rt.alloc(), excluded, true, path.as_bytes())? {
             return Ok(());
@@ -154,9 +175,11 @@ impl Search<'_> {
     }
 
     /// Adds a file that is found in a folder, if it is read.
-    fn add_found_file(&mut self, path: String, metadata: &Metadata) -> Result<(), AllocError> {
+    fn add_found_file(&mut self, path: String, metadata: &Metadata) -> Result<(), AllocError>
+        ensures { OnOk result (spec.TakesFile path metadata.now self.old self.new) }
+    {
         let included = self.included.as_mut_slice();
-        let name = last_name(path.as_str()).as_bytes();
+        let name = last_name(path.as_bytes());
         if is_read(self.rt.alloc(), included, name, path.as_bytes())?
             && is_file(self.rt, path.as_str(), metadata)
         {
@@ -213,14 +236,18 @@ impl Search<'_> {
     }
 
     /// Adds standard input.
-    fn add_stdin(&mut self) -> Result<(), AllocError> {
+    fn add_stdin(&mut self) -> Result<(), AllocError>
+        ensures { OnOk result (spec.TakesStdin self.old self.new) }
+    {
         let name = self.stdin_name()?;
         self.sources.all.push(Source::Input(name))?;
         Ok(())
     }
 
     /// Adds a file, the files of a folder, or standard input, by a name that is given.
-    fn add_name(&mut self, name: &[u8]) -> Result<(), AllocError> {
+    fn add_name(&mut self, name: &[u8]) -> Result<(), AllocError>
+        ensures { OnOk result (IsTrue (is_same name.now STDIN.now) → spec.TakesStdin self.old self.new) }
+    {
         if is_same(name, STDIN) {
             return self.add_stdin();
         }

@@ -68,7 +68,9 @@ pub fn listed_names(alloc: Global, list: &[u8]) -> Result<Vec<Vec<u8>>, AllocErr
 }
 
 /// The names of a folder, each ended by a zero byte, in the order of their bytes.
-pub fn folder_names(alloc: Global, list: &[u8]) -> Result<Vec<Vec<u8>>, AllocError> {
+pub fn folder_names(alloc: Global, list: &[u8]) -> Result<Vec<Vec<u8>>, AllocError>
+    ensures { IfOk result (λ names. spec.AreFolderNames list.now (map (λ name. name.items) names.items)) }
+{
     let mut names = names_between(alloc, list, 0)?;
     names.sort()?;
     Ok(names)

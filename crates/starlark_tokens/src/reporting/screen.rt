@@ -1,6 +1,6 @@
 //! The output of a run, and the line of progress on a terminal.
 
-ghost use Rattle.std.specs.Prelude.{◌≡◌, ◌*◌, ◌-◌, IfOk, OnOk, OnErr, Some, nat_le, string_bytes};
+ghost use Rattle.std.specs.Prelude.{◌≡◌, ◌<◌, ◌*◌, ◌-◌, IfOk, IfSome, OnOk, OnErr, Some, nat_le, string_bytes};
 ghost use Rattle.std.specs.Time.{instant_nanos};
 ghost use Rattle.starlark_tokens.specs.Reporting.Progress as spec;
 
@@ -31,7 +31,9 @@ pub struct Progress {
 impl Progress {
     /// Progress over so many files that begins now. `None` for a single file, where standard error is
     /// no terminal, and where the clock can't be read.
-    pub fn begun(rt: &HostRuntime, total: usize) -> Option<Progress> {
+    pub fn begun(rt: &HostRuntime, total: usize) -> Option<Progress>
+        ensures { IfSome result (λ progress. (1 < total) × (progress ≡ spec.begun total progress.last)) }
+    {
         if total <= 1 || !rt.stderr().is_terminal() {
             return None;
         }
