@@ -232,7 +232,7 @@ by_mode_short table s AtTop text = in_code_short table s text
 by_mode_short table s Deeper text = in_code_short table s text
 
 by_before_short : (table : Table) (s : Situation) (before : Before) (text : Text) → StepShort text (by_before table s before text)
-by_before_short table s Nothing text = margin_step_short text 0 [] [] (margin_of text) refl (margin_size text)
+by_before_short table s Nothing text = margin_step_short text 0 [] s.levels (margin_of text) refl (margin_size text)
 by_before_short table s Layout text = by_mode_short table s s.mode text
 by_before_short table s Gap text = by_mode_short table s s.mode text
 by_before_short table s Other text = by_mode_short table s s.mode text
@@ -242,7 +242,7 @@ unfolding next_step step_at
 step_short table history text = by_before_short table (situation history) (situation history).before text
 
 first_silent : (table : Table) (text : Text) → IsSilent (next_step table nothing text)
-unfolding next_step step_at situation
+unfolding next_step step_at situation open_widths
 first_silent table text = margin_silent 0 [] [] (margin_of text)
 
 -- Readings

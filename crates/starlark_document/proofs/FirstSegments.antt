@@ -38,7 +38,7 @@ zero_of n e = eqb-true n 0 (sym e)
 
 -- an empty text is closed
 pub empty_closed : (text : Text) → length text ≡ 0 → IsClosed text
-empty_closed [] e = Empty
+empty_closed [] e = Empty []
 empty_closed (b ∷ bs) e = absurd (omega (arith, e))
 
 -- a text that ends with a newline of some bytes is closed

@@ -88,13 +88,6 @@ impl Linter {
         self.keep_width(&token, width)
     }
 
-    /// Stores a fault, and forgets the open blocks.
-    fn keep_fault(&mut self, fault: EvalException) -> Result<(), AllocError> {
-        self.widths.clear();
-        self.faults.push(fault)?;
-        Ok(())
-    }
-
     /// Checks all lexemes that a lexer yields, and stores its faults.
     fn look_at_all(&mut self, lexer: RecoveringLexer<'_>) -> Result<(), SourceError> {
         for lexeme in lexer {
@@ -102,7 +95,7 @@ impl Linter {
                 Ok((begin, token, end)) => {
                     self.look_at(token, end - begin, Pos::new(begin as u32))?;
                 }
-                Err(OrMemory::Error(fault)) => self.keep_fault(fault)?,
+                Err(OrMemory::Error(fault)) => self.faults.push(fault)?,
                 Err(OrMemory::Memory) => return Err(SourceError::Memory),
             }
         }

@@ -6,7 +6,7 @@ use Rattle.starlark_grammar.specs.AfterFaults.{restart}
 use Rattle.starlark_grammar.specs.Tokens.{Lexeme, Spanned, moved, Fault}
 use Rattle.starlark_grammar.specs.Joining.{is_decided, is_line_cut_after}
 use Rattle.starlark_grammar.specs.KeptLines.{keeps_line, passed_end}
-use Rattle.starlark_grammar.specs.Pieces.{Other}
+use Rattle.starlark_grammar.specs.Pieces.{Nothing, Other}
 use Rattle.starlark_grammar.specs.Reading.{History, history_after, nothing, outcome_after}
 use Rattle.starlark_grammar.specs.Recovery.{Recovered}
 
@@ -28,12 +28,17 @@ pub record Passed : Type 0 where
   pub len : ℕ
   pub history : History
 
--- A fault that keeps its line is passed with all that is open; after any other fault the next line begins a text.
+-- at the start of a line, with blocks open
+abbrev pub at_line : List ℕ → History
+at_line widths = record { tokens = []; widths = widths; before = Nothing }
+
+-- A fault that keeps its line is passed with all that is open; after any other fault the next line begins, with the blocks
+-- open.
 unfoldable pub passed : History → Text → Spanned Fault → Passed
 passed history text fault =
     if keeps_line history.before text (outcome_after history text).lexemes fault
     then record { len = passed_end text fault; history = record (history_after history text) { before = Other } }
-    else record { len = restart text fault; history = nothing }
+    else record { len = restart text fault; history = at_line (history_after history text).widths }
 
 -- the lexemes of a text, and then its fault if there is one, and what is found after that
 abbrev pub found_by : History → Text → Option (Spanned Fault) → (History → Text → List Item) → List Item
@@ -71,7 +76,7 @@ parted items = record { lexemes = lexemes_in items; faults = faults_in items }
 
 -- A closed text: all its faults are decided, and what is left of it after the last of them is empty or a cut between lines.
 pub data IsClosedAfter : History → Text → Type 0 where
-  Empty : IsClosedAfter nothing []
+  Empty : (widths : List ℕ) → IsClosedAfter (at_line widths) []
   Cut : (history : History) (text : Text) → is_line_cut_after history text ≡ true → IsClosedAfter history text
   Past : (history : History) (text : Text) (fault : Spanned Fault) → (outcome_after history text).fault ≡ Some fault → is_decided text fault ≡ true → IsClosedAfter (passed history text fault).history (drop (passed history text fault).len text) → IsClosedAfter history text
 

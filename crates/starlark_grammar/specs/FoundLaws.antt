@@ -1,5 +1,5 @@
 -- What the laws of all that is found in a text say.
-use Rattle.std.specs.Prelude.{◌≡◌, ◌<◌, ℕ, Bool, true, false, not, List, [], ◌∷◌, ◌++◌, length, map, drop, take, Some, None}
+use Rattle.std.specs.Prelude.{◌≡◌, ◌<◌, Bool, true, not, List, [], ◌∷◌, ◌++◌, length, map, drop, take, Some, None}
 use Rattle.std.specs.List.{list_all}
 use Rattle.starlark_grammar.specs.Words.{Text}
 use Rattle.starlark_grammar.specs.Found.{Given, IsClosed, Item, Refused, faults_in, found, found_after, given, lexemes_in, moved_item, parted, passed}

@@ -76,8 +76,9 @@ margin_step len line_end levels margin =
       sort = Layout;
     })
 
-abbrev pub first_margin : Text → Step
-first_margin text = margin_step 0 [] [] (margin_of text)
+-- the margin at the start of a text, or of a line where lexing begins again, by the open widths
+abbrev pub first_margin : List ℕ → Text → Step
+first_margin levels text = margin_step 0 [] levels (margin_of text)
 
 abbrev pub line_end : ℕ → List ℕ → Text → Step
 line_end len levels remainder = margin_step len (record { begin = 0; node = Newline; end = len } ∷ []) levels (margin_of remainder)
@@ -223,7 +224,7 @@ by_mode table s (InText opening) text = chunk opening text
 by_mode table s mode text = in_code table s text
 
 abbrev pub by_before : Table → Situation → Before → Text → Step
-by_before table s Nothing text = first_margin text
+by_before table s Nothing text = first_margin s.levels text
 by_before table s before text = by_mode table s s.mode text
 
 -- What stands at a place, by the situation there and the rest of the text.

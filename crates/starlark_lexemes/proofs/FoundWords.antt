@@ -5,13 +5,12 @@ use Rattle.std.proofs.lemmas.List.{length-map}
 use Rattle.std.proofs.lemmas.Result.{IfOk-weaker, on_err_weaker}
 use Rattle.std.specs.Prelude.{Err, IfOk, None, Ok, OnErr, OnOk, Option, Result}
 use Rattle.std.specs.Str.{IsCharBoundary}
-use Rattle.starlark_grammar.specs.Reading.{outcome}
 use Rattle.starlark_grammar.specs.Tokens.{Spanned}
 use Rattle.starlark_grammar.specs.Words.{Text, begins, is_name_start}
 use Rattle.starlark_grammar.specs.declared.class.Class.{Class}
 use Rattle.starlark_grammar.specs.declared.class.Class.TheVariants as class
 use Rattle.starlark_reader.specs.Inner.Pending.{pending_lexemes}
-use Rattle.starlark_reader.specs.Inner.Reader.{IsAhead, IsAheadAfter, IsAheadPast, IsAtCode, IsAtEnd, HasSomething, IsInCode, IsSomething, IsSound, IsText, IsWordHere, KeepsAhead, TakesNext, left_to_read, newline_if}
+use Rattle.starlark_reader.specs.Inner.Reader.{IsAhead, IsAheadAfter, IsAheadPast, IsAtCode, IsAtEnd, HasSomething, IsInCode, IsSomething, IsSound, IsWordHere, KeepsAhead, TakesNext, left_to_read, newline_if}
 use Rattle.starlark_reader.specs.Inner.ReadBounds.{HasRead, HasScanned, HasScannedHere, IsMarginRead, IsTaken}
 use Rattle.starlark_reader.specs.declared.reader.Reader.{Reader}
 use Rattle.starlark_reader.specs.declared.reader.Stage.TheVariants as stages

@@ -1,5 +1,5 @@
 -- The items of a text, one by one.
-use Rattle.std.proofs.Common.{◌≡◌, ℕ, zero, suc, ◌+◌, ◌*◌, ◌<◌, ◌≤◌, ◌^◌, List, [], ◌∷◌, ◌++◌, map, length, length-append, drop, refl, ap, sym, subst, ◌∙◌, arith, Ok, Err, None, Some, slice_get, IfSome, option_to_list}
+use Rattle.std.proofs.Common.{◌≡◌, ℕ, zero, suc, ◌+◌, ◌*◌, ◌≤◌, List, [], ◌∷◌, ◌++◌, map, length, length-append, drop, refl, ap, sym, subst, ◌∙◌, arith, Ok, Err, None, Some, slice_get, IfSome, option_to_list}
 use Rattle.std.proofs.lemmas.List.{length-map}
 use Rattle.std.specs.Prelude.{Option, Result}
 use Rattle.std.specs.Str.{IsCharBoundary, IsUtf8}

@@ -1,5 +1,5 @@
 -- The state of a lexer while it passes line ends, and what its answers are as items of the text.
-use Rattle.std.proofs.Common.{◌≡◌, ◌<◌, ◌≤◌, ◌+◌, ◌^◌, ◌||◌, arith, ℕ, IfSome, slice_get, subst, Option, None, Some, Result, Ok, Err, true, false, [], length, refl, ap, sym, ◌∙◌}
+use Rattle.std.proofs.Common.{◌≡◌, ◌≤◌, ◌+◌, ◌||◌, arith, ℕ, IfSome, slice_get, subst, Option, None, Some, Result, Ok, Err, true, false, [], length, refl, ap, sym, ◌∙◌}
 use Rattle.starlark_base.specs.Diagnostics.{Diagnosed}
 use Rattle.starlark_base.specs.Sources.{SourceFile}
 use Rattle.std.specs.Option.{is_some}

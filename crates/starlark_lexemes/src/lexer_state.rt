@@ -1,16 +1,17 @@
 //! Lexes a text lexeme by lexeme: the first bytes of a lexeme tell how it is passed.
 
-ghost use Rattle.std.specs.Prelude.{◌≡◌, ◌≢◌, ◌<◌, ◌≤◌, ◌+◌, ◌-◌, ◌*◌, ◌^◌, ◌||◌, Err, None, Ok, Some, length, string_bytes, true, false, IfErr, IfOk, IsSome, OnOk};
+ghost use Rattle.std.specs.Prelude.{◌≡◌, ◌≢◌, ◌<◌, ◌≤◌, ◌+◌, ◌-◌, ◌*◌, ◌^◌, ◌||◌, ℕ, List, Err, None, Ok, Some, length, string_bytes, true, false, IfErr, IfOk, IsSome, OnOk};
 ghost use Rattle.std.specs.Option.{is_some};
 ghost use Rattle.std.specs.Str.{IsCharBoundary};
+ghost use Rattle.starlark_grammar.specs.Margins.{open_widths};
 ghost use Rattle.starlark_grammar.specs.Tokens.{Fault, Spanned};
 ghost use Rattle.starlark_grammar.specs.Words.{Text};
 ghost use Rattle.starlark_grammar.specs.declared.class.LiteralKind.TheVariants as literal;
 ghost use Rattle.starlark_reader.specs.Inner.Lookaheads.{is_slow, most_peeked};
 ghost use Rattle.starlark_reader.specs.Inner.Pending.{IsIdle, IsPendingToken, IsPending};
 ghost use Rattle.starlark_reader.specs.Inner.ReadBounds.{HasRead};
-ghost use Rattle.starlark_reader.specs.Inner.Reader.{IsAtCode, IsAtEnd, IsInCode, IsTokenOf};
-ghost use Rattle.starlark_lexemes.specs.Inner.LexerStates.{Course, HasAdvanced, HasAnswered, HasFound, HasPassed, HasPassedNext, HasTakenLast, HasThrown, IsAtFault, IsAtLiteral, IsAtText, IsAtWord, IsAtWordless, IsBegun, IsCourse, IsItemOf, IsLexing, IsLexingIn, IsReadNext, IsTakenNext, IsTakenOf, IsUnnamed, KeepsOpen, course_past, has_fault, is_out_of_memory, passed_count, passed_of, taken_count, thrown_count, view_of, whole};
+ghost use Rattle.starlark_reader.specs.Inner.Reader.{IsAtCode, IsAtEnd, IsInCode, IsTokenOf, Line};
+ghost use Rattle.starlark_lexemes.specs.Inner.LexerStates.{Course, HasAdvanced, HasAnswered, HasFound, HasPassed, HasPassedNext, HasTakenLast, HasThrown, IsAtFault, IsAtLiteral, IsAtText, IsAtWord, IsAtWordless, IsBegun, IsCourse, IsItemOf, IsLexing, IsLexingIn, IsReadNext, IsTakenNext, IsTakenOf, IsUnnamed, KeepsOpen, course_of, course_past, has_fault, is_out_of_memory, passed_count, passed_of, taken_count, thrown_count, view_of, whole};
 ghost use Rattle.starlark_lexemes.specs.Lexer.{is_ended_by, most_reads, yielded_by};
 ghost use Rattle.starlark_lexemes.specs.Inner.RawItems.{OffsetsHold};
 ghost use Rattle.starlark_lexemes.specs.PlainLexemes.{IsPlainIn, is_plain, plain_value, token_of};
@@ -121,6 +122,18 @@ impl<'a> LexerState<'a> {
             value_end: 0,
             token: Token::Newline,
         }
+    }
+
+    /// Begins anew at the start of another text, which is a line's. Blocks stay open, and brackets and
+    /// f-strings are forgotten. Lexemes are counted anew.
+    pub fn begin_line(&mut self, text: &'a str)
+        ensures lexing { (widths : List ℕ) → self.old.reader.levels ≡ open_widths widths → IsCourse (course_of (Line widths) text.now) text.now → IsLexingIn (course_of (Line widths) text.now) text.now self.new }
+        ensures begun { view_of self.new ≡ record { text = text.now; yielded_count = 0; has_ended = false; reads = 0 } }
+    {
+        self.yielded_count = 0;
+        self.has_ended = false;
+        self.is_at_code = false;
+        self.reader.begin_line(text);
     }
 
     /// Ends lexing where memory runs out.

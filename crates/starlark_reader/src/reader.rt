@@ -10,7 +10,7 @@ ghost use Rattle.starlark_token.specs.Lexemes.{shown_lexeme};
 ghost use Rattle.starlark_words.specs.Inner.LiteralViews.{IsPlainBody, single_literal};
 ghost use Rattle.starlark_words.specs.Inner.PlainRuns.{IsRun};
 ghost use Rattle.starlark_words.specs.Inner.ScannedWords.{begins_mark, is_common, is_number, peeked_len, word_len};
-ghost use Rattle.starlark_grammar.specs.Margins.{margin_of};
+ghost use Rattle.starlark_grammar.specs.Margins.{margin_of, open_widths};
 ghost use Rattle.starlark_reader.specs.Inner.MarginViews.{IsMargin, spaces_margin};
 ghost use Rattle.starlark_grammar.specs.Pieces as grammar;
 ghost use Rattle.starlark_grammar.specs.declared.class.Class.TheVariants as class;
@@ -18,11 +18,12 @@ ghost use Rattle.starlark_grammar.specs.declared.class.LiteralKind.TheVariants a
 ghost use Rattle.starlark_reader.specs.Inner.Pending.{IsIdle, IsPendingToken, owed, pending_lexemes};
 ghost use Rattle.starlark_reader.specs.Inner.MarginCuts.{IsCutBefore};
 ghost use Rattle.starlark_reader.specs.Inner.ReadBounds.{HasStarted, HasScanned, HasScannedHere, HasRead, HasReadAt, HasReadLast, IsMarginRead, IsPassedBy, IsTaken};
-ghost use Rattle.starlark_reader.specs.Inner.Reader.{From, HasSomething, IsAhead, IsAtCode, IsAtEnd, IsAtLineEnd, IsAtStep, IsBangHere, IsInCode, IsLast, IsLineEndStep, IsPlainTextHere, IsReached, IsRead, IsReadPast, IsSound, IsStateAfter, IsTokenOf, IsWordHere, KeepsAhead, Origin, Start, Takes, TakesNext, chunk_lexemes, has_read_none, kept_history, left_here, left_to_read, newline_of, remaining_outcome, step_here};
+ghost use Rattle.starlark_reader.specs.Inner.Reader.{From, HasSomething, IsAhead, IsAtCode, IsAtEnd, IsAtLineEnd, IsAtStep, IsBangHere, IsInCode, IsLast, IsLineEndStep, IsPlainTextHere, IsReached, IsRead, IsReadPast, IsSound, IsStateAfter, IsTokenOf, IsWordHere, KeepsAhead, Line, Origin, Start, Takes, TakesNext, chunk_lexemes, has_read_none, kept_history, left_here, left_to_read, newline_of, remaining_outcome, step_here};
 ghost use Rattle.starlark_reader.specs.Inner.PieceViews.{IsLineEnd};
 ghost use Rattle.starlark_reader.specs.Inner.Lookaheads.{HasPeeked, IsLiteralHere, IsTextRun};
 ghost use Rattle.starlark_grammar.specs.Cuts.{is_settled};
-ghost use Rattle.starlark_grammar.specs.Reading.{History, outcome};
+ghost use Rattle.starlark_grammar.specs.Found.{at_line};
+ghost use Rattle.starlark_grammar.specs.Reading.{History, outcome, outcome_after};
 ghost use Rattle.starlark_token.specs.TokenViews.{TokenView, token_view};
 ghost use Rattle.starlark_grammar.specs.Tokens.{FStringStart, Fault, Spanned};
 ghost use Rattle.starlark_grammar.specs.Depths.{InText, mode_after};
@@ -123,6 +124,23 @@ impl<'a> Reader<'a> {
             stage: Stage::Begin,
             reads: ReadCounter::new(),
         }
+    }
+
+    /// Begins anew at the start of another text, which is a line's. Blocks stay open, and brackets and
+    /// f-strings are forgotten.
+    pub fn begin_line(&mut self, text: &'a str)
+        ensures text { self.new.text.now ≡ text.now }
+        ensures ahead { (widths : List ℕ) → self.old.levels ≡ open_widths widths → (any : Text) → IsAhead (Line widths) any self.new self.new.stage (map shown_lexeme (outcome_after (at_line widths) any).lexemes) (outcome_after (at_line widths) any).fault }
+        ensures reads { (any : Text) → HasRead any self.new }
+        ensures unread { self.new.reads ≡ 0 }
+    {
+        self.text = text;
+        self.at = 0;
+        self.nesting = Nesting::new(self.alloc);
+        self.before = Before::Other;
+        self.pending = Pending::nothing();
+        self.stage = Stage::Begin;
+        self.reads = ReadCounter::new();
     }
 
     /// Stops at a fault. `begin` and `end` are in bytes from the reader's offset on.

@@ -1,35 +1,37 @@
 -- What is left of a part: its outcome, by that of the rest after what was read before; its fault; where that is passed.
-use Rattle.std.proofs.Common.{◌≡◌, ◌≤◌, ◌<◌, ◌+◌, ◌-◌, ◌==◌, ℕ, suc, Bool, true, false, List, [], ◌∷◌, ◌++◌, cond, map, length, drop, refl, ap, sym, subst, ◌∙◌, arith, None, Some, IfSome}
-use Rattle.std.proofs.lemmas.Bool.{and_parts, eqb-true, false_from_ne_true}
+use Rattle.std.proofs.Common.{◌≡◌, ◌≤◌, ◌<◌, ◌+◌, ◌-◌, ◌==◌, ℕ, suc, Bool, true, false, List, [], ◌∷◌, ◌++◌, cond, map, length, drop, refl, ap, sym, subst, ◌∙◌, arith, None, Some, IfSome, inl, inr, ◌⊎◌}
+use Rattle.std.proofs.lemmas.Bool.{both_ways, eqb-true}
 use Rattle.std.proofs.lemmas.Bool.Decides.{nat_tests}
 use Rattle.std.proofs.lemmas.List.{length-drop, length-map}
 use Rattle.std.proofs.lemmas.Str.{IsCharBoundary-from_drop, IsCharBoundary-from_rest, IsUtf8-drop, IsUtf8-past_char, encode_ascii}
 use Rattle.std.specs.List.{AllByRecursion, prefix_len}
-use Rattle.std.specs.Prelude.{◌^◌, ◌&&◌, ◌||◌, Option, if◌then◌else◌, max, nat_eq, not}
+use Rattle.std.specs.Prelude.{◌^◌, ◌&&◌, ◌||◌, Option, if◌then◌else◌, max, nat_eq, not, ⊤}
 use Rattle.std.specs.Str.{IsCharBoundary, IsUtf8}
 use Rattle.starlark_grammar.specs.AfterFaults.{is_margin_tab, is_tab, line_end_len, margin_line, next_line, restart, stopped_at}
-use Rattle.starlark_grammar.specs.Inner.KeptFaults.{is_in_margin}
+use Rattle.starlark_grammar.specs.Inner.KeptFaults.{is_in_margin, may_keep}
 use Rattle.starlark_grammar.specs.KeptLines.{ends_by_comment, keeps_line, passed_end}
 use Rattle.starlark_grammar.specs.Laws.{AtBoundaries}
-use Rattle.starlark_grammar.specs.Margins.{begins_with_line_end, has_tab, is_content, margin_of, open_widths}
-use Rattle.starlark_grammar.specs.Pieces.{Before, Fails, Other, first_margin, margin_step}
-use Rattle.starlark_grammar.specs.Reading.{History, nothing, outcome_after}
+use Rattle.starlark_grammar.specs.Margins.{begins_with_line_end, fits, has_tab, is_content, margin_of, open_widths, width_of}
+use Rattle.starlark_grammar.specs.Pieces.{Before, Ends, Fails, Stands, Step, first_margin, margin_step}
+use Rattle.starlark_grammar.specs.Reading.{History, outcome_after}
 use Rattle.starlark_grammar.specs.Tokens.{Fault, InvalidInput, InvalidTab, Lexeme, Outcome, Spanned, moved}
 use Rattle.starlark_grammar.specs.Words.{Text}
+use Rattle.starlark_grammar.specs.Found.{at_line}
+use Rattle.starlark_grammar.proofs.Choices.{either}
 use Rattle.starlark_grammar.proofs.Found.FoundItems.{keeps}
 use Rattle.starlark_grammar.proofs.Joining.Joined.{unmoved}
 use Rattle.starlark_grammar.proofs.KeptLines.KeptFaultPlaces.{IsKept}
 use Rattle.starlark_grammar.proofs.Lists.{drop-sum}
 use Rattle.starlark_grammar.proofs.Order.Edges.{edges_shift}
 use Rattle.starlark_grammar.proofs.Order.Rests.{rest_edges, rest_fault_edges, rest_few, rest_within}
-use Rattle.starlark_grammar.proofs.Reading.Onward.{outcome_after_nothing, stops_at}
-use Rattle.starlark_grammar.proofs.Reading.Steps.{is_nothing}
+use Rattle.starlark_grammar.proofs.Reading.Onward.{stops_at}
+use Rattle.starlark_grammar.proofs.Reading.Steps.{Each, is_nothing}
 use Rattle.starlark_grammar.proofs.Recovery.MovedRestarts.{not_zero}
-use Rattle.starlark_lexemes.specs.Inner.LexerStates.{IsCourse, course_of}
+use Rattle.starlark_lexemes.specs.Inner.LexerStates.{Course, IsCourse, course_of}
 use Rattle.starlark_lexemes.proofs.MovedFaults.{unmoved as unmoved_fault}
-use Rattle.starlark_reader.specs.Inner.Reader.{From, Origin, Start, begin_of, begins_with_tab, history_before, moved_fault, moved_outcome, outcome_since, remaining_outcome}
+use Rattle.starlark_reader.specs.Inner.Reader.{From, Line, Origin, begin_of, begins_with_fault, history_before, is_refused, moved_fault, moved_outcome, outcome_since, remaining_outcome}
 use Rattle.starlark_reader.proofs.NextLines.{next_line_drop}
-use Rattle.starlark_reader.proofs.TakenPieces.LeftOutcomes.{first_fails}
+use Rattle.starlark_reader.proofs.TakenPieces.LeftOutcomes.{line_fails}
 use Rattle.starlark_recovery.specs.Inner.RecoveryStates.{IsBegun, rest_keeps}
 
 -- The outcome of what is left
@@ -43,7 +45,7 @@ moved_none found = ap (λ ls. record { lexemes = ls; fault = moved_fault 0 found
 
 pub since_is : (origin : Origin) (part : Text) → outcome_since origin part ≡ moved_outcome (begin_of origin) (outcome_after (history_before origin) (drop (begin_of origin) part))
 unfolding remaining_outcome
-since_is Start part = sym (moved_none (outcome_after nothing part) ∙ outcome_after_nothing part)
+since_is (Line widths) part = sym (moved_none (outcome_after (at_line widths) part))
 since_is (From history at) part = refl
 
 -- its fault, in the rest
@@ -66,12 +68,15 @@ all_moved : (at : ℕ) (text : Text) (lexemes : List Lexeme) → at ≤ length t
 all_moved at text [] inside all = tt
 all_moved at text (lexeme ∷ lexemes) inside all = ((omega (arith, all.0.0), omega (arith, all.0.1, inside, length-drop at text)), all_moved at text lexemes inside all.1)
 
-module _ (history : History) (at : ℕ) (part : Text) (other : history.before ≡ Other) (boundary : IsCharBoundary part at) (utf8 : IsUtf8 part) where
+module _ (origin : Origin) (part : Text) (boundary : IsCharBoundary part (begin_of origin)) (utf8 : IsUtf8 part) where
+  abbrev history : History
+  history = history_before origin
+
+  abbrev at : ℕ
+  at = begin_of origin
+
   abbrev rest : Text
   rest = drop at part
-
-  some : is_nothing history.before ≡ false
-  some = ap is_nothing other
 
   utf8_rest : IsUtf8 rest
   utf8_rest = IsUtf8-drop part at utf8 boundary
@@ -84,24 +89,26 @@ module _ (history : History) (at : ℕ) (part : Text) (other : history.before �
       by None e = tt
       by (Some fault) e = each fault e
 
-  pub is_course : length (open_widths history.widths) ≤ at → length part < 2 ^ 32 → IsCourse (course_of (From history at) part) part
-  unfolding remaining_outcome
+  abbrev course_by : Outcome → Course
+  course_by found = record { origin = origin; lexemes = found.lexemes; fault = found.fault }
+
+  pub is_course : length (open_widths history.widths) < 2 ^ 32 → length part < 2 ^ 32 → IsCourse (course_of origin part) part
   is_course levels fits =
-      let few = rest_few history rest some in
-      record {
+      let few = rest_few history rest in
+      subst (λ (found : Outcome). IsCourse (course_by found) part) (sym (since_is origin part)) (record {
         fits = fits;
         utf8 = utf8;
         few = omega (arith, few, levels, fits, boundary.0, length-drop at part, length-map (outcome_after history rest).lexemes (moved at));
-        within = all_moved at part (outcome_after history rest).lexemes boundary.0 (rest_within history rest some);
-        edges = edges_shift part at (outcome_after history rest).lexemes boundary (rest_edges history rest some utf8_rest);
+        within = all_moved at part (outcome_after history rest).lexemes boundary.0 (rest_within history rest);
+        edges = edges_shift part at (outcome_after history rest).lexemes boundary (rest_edges history rest utf8_rest);
         fault_within = its_fault (λ fault. (fault.begin ≤ fault.end) × (fault.end ≤ length part)) (λ fault e. let here = stops_at history rest fault e in (omega (arith, here.order), omega (arith, here.inside, length-drop at part, boundary.0)));
-        fault_edges = its_fault (AtBoundaries part) (λ fault e. let edges = subst (λ (f : Option (Spanned Fault)). IfSome f (AtBoundaries rest)) e (rest_fault_edges history rest some utf8_rest) in (IsCharBoundary-from_rest part at fault.begin boundary.0 edges.0, IsCharBoundary-from_rest part at fault.end boundary.0 edges.1));
-      }
+        fault_edges = its_fault (AtBoundaries part) (λ fault e. let edges = subst (λ (f : Option (Spanned Fault)). IfSome f (AtBoundaries rest)) e (rest_fault_edges history rest utf8_rest) in (IsCharBoundary-from_rest part at fault.begin boundary.0 edges.0, IsCharBoundary-from_rest part at fault.end boundary.0 edges.1));
+      })
 
 -- Whether its fault keeps its line
 
 start_is : (origin : Origin) → IsBegun origin → is_nothing (history_before origin).before ≡ (begin_of origin == 0)
-start_is Start begun = refl
+start_is (Line widths) begun = refl
 start_is (From history at) begun = ap is_nothing begun.1 ∙ sym (not_zero at begun.0)
 
 first_zero : (at n : ℕ) → (at == 0 && n == 0) ≡ (at + n == 0)
@@ -187,16 +194,36 @@ module _ (origin : Origin) (part : Text) (begun : IsBegun origin) where
       by false is = refl
       by true is = sym (in_margin fault.begin) ∙ is refl ∙ sym (either (is_nothing before) (fault.begin == 0) (begins_with_line_end (drop fault.begin (drop from part))) (is refl))
 
--- a text whose first margin fails by a tab keeps no line
-pub untabbed : (origin : Origin) (part : Text) (fault : Spanned Fault) → (course_of origin part).fault ≡ Some fault → is_margin_tab part fault ≡ false → origin ≡ Start → begins_with_tab part ≡ false
-unfolding margin_step
-untabbed (From history at) part fault has none start = cc
-untabbed Start part fault has none start = false_from_ne_true (begins_with_tab part) (λ e.
-    let parts = and_parts (is_content (margin_of part).remainder) (has_tab (margin_of part)) e in
-    let fails : first_margin part ≡ Fails (record { begin = 0; node = InvalidTab; end = 0 }) = rw (parts.0, parts.1) refl in
-    let both : Some (record { begin = 0; node = InvalidTab; end = 0 }) ≡ Some fault = sym (ap (λ (o : Outcome). o.fault) (first_fails part (record { begin = 0; node = InvalidTab; end = 0 }) fails)) ∙ has in
-    let same : record { begin = 0; node = InvalidTab; end = 0 } ≡ fault = cc in
-    let tab : is_margin_tab part fault ≡ true = subst (λ (f : Spanned Fault). is_margin_tab part f ≡ true) same refl in cc)
+-- A fault of a first margin is a tab at the start of the text, or may not keep its line.
+abbrev IsLost : Spanned Fault → Type 0
+IsLost fault = (may_keep fault.node ≡ false) ⊎ ((is_tab fault.node ≡ true) × (fault.begin ≡ 0))
+
+lost_first : (levels : List ℕ) (text : Text) → Each (λ piece. ⊤) IsLost (first_margin levels text)
+unfolding margin_step may_keep
+lost_first levels text =
+    either (Each (λ piece. ⊤) IsLost) (not (is_content (margin_of text).remainder)) _ _ tt
+    (either (Each (λ piece. ⊤) IsLost) (has_tab (margin_of text)) _ _ (inr (refl, refl))
+    (either (Each (λ piece. ⊤) IsLost) (fits (width_of (margin_of text)) levels) _ _ tt (inl refl)))
+
+-- where a fault keeps its line, the first margin stands
+pub stands_first : (origin : Origin) (part : Text) (fault : Spanned Fault) → (course_of origin part).fault ≡ Some fault → may_keep fault.node ≡ true → is_margin_tab part fault ≡ false → begins_with_fault origin part ≡ false
+stands_first (From history at) part fault has may inside = refl
+stands_first (Line widths) part fault has may inside = by (first_margin (open_widths widths) part) refl
+  where
+    lost : (first : Spanned Fault) → moved 0 first ≡ fault → IsLost first → ⊥
+    lost first same (inl none) = both_ways _ (sym (ap (λ (f : Spanned Fault). may_keep f.node) same) ∙ none) may
+    lost first same (inr tab) =
+        let begins : fault.begin ≡ 0 = omega (arith, ap (λ (f : Spanned Fault). f.begin) same, tab.1) in
+        let is : is_tab fault.node ≡ true = sym (ap (λ (f : Spanned Fault). is_tab f.node) same) ∙ tab.0 in
+        both_ways _ inside (rw (is, begins) refl)
+
+    by : (step : Step) → first_margin (open_widths widths) part ≡ step → is_refused step ≡ false
+    by (Fails first) e =
+        let both : Some (moved 0 first) ≡ Some fault = sym (ap (λ (o : Outcome). o.fault) (line_fails widths part first e)) ∙ has in
+        let same : moved 0 first ≡ fault = cc in
+        absurd (lost first same (subst (Each (λ piece. ⊤) IsLost) e (lost_first (open_widths widths) part)))
+    by (Stands piece) e = refl
+    by Ends e = refl
 
 -- Where it is passed
 

@@ -1,42 +1,43 @@
 -- A lexer that goes on after faults: what is left to it after each fault.
-use Rattle.std.proofs.Common.{◌≡◌, ◌≤◌, ◌<◌, ◌+◌, ◌-◌, ◌*◌, ℕ, true, false, [], ◌∷◌, map, length, drop, take, refl, ap, sym, subst, ◌∙◌, arith, None, Some, IfSome, rules, inl, inr, ◌⊎◌}
+use Rattle.std.proofs.Common.{◌≡◌, ◌≤◌, ◌<◌, ◌+◌, ◌-◌, ◌*◌, ℕ, true, false, List, [], ◌∷◌, map, length, drop, take, refl, ap, sym, subst, ◌∙◌, arith, None, Some, IfSome, rules, inl, inr, ◌⊎◌}
 use Rattle.std.proofs.lemmas.Bool.{cases_lt}
 use Rattle.std.proofs.lemmas.List.{drop_all, length-drop}
-use Rattle.std.proofs.lemmas.Str.{IsUtf8-drop}
+use Rattle.std.proofs.lemmas.Str.{IsCharBoundary-start, IsUtf8-drop}
 use Rattle.std.specs.Prelude.{◌^◌, Option}
 use Rattle.std.specs.Str.{IsCharBoundary, IsUtf8}
 use Rattle.starlark_base.specs.Diagnostics.{Diagnosed}
 use Rattle.starlark_grammar.specs.AfterFaults.{is_margin_tab, restart}
-use Rattle.starlark_grammar.specs.Found.{Passed as PassedOver, found, moved_item, passed as passed_by}
+use Rattle.starlark_grammar.specs.Found.{Item, Passed as PassedOver, at_line, found, found_after, moved_item, passed as passed_by}
 use Rattle.starlark_grammar.specs.Inner.KeptFaults.{may_keep}
 use Rattle.starlark_grammar.specs.KeptLineLaws.{KeepsLine}
 use Rattle.starlark_grammar.specs.KeptLines.{ends_by_comment, passed_end}
 use Rattle.starlark_grammar.specs.Margins.{open_widths}
-use Rattle.starlark_grammar.specs.Reading.{History, outcome, outcome_after}
-use Rattle.starlark_grammar.specs.Tokens.{Fault, Spanned, moved}
+use Rattle.starlark_grammar.specs.Depths.{mode_after}
+use Rattle.starlark_grammar.specs.Reading.{History, history_after, outcome_after}
+use Rattle.starlark_grammar.specs.Tokens.{Fault, Outcome, Spanned, moved}
 use Rattle.starlark_grammar.specs.Words.{Text}
 use Rattle.starlark_grammar.proofs.Found.FoundItems.{keeps, passed_kept, passed_lost}
-use Rattle.starlark_grammar.proofs.Indentation.Balance.{StartsSo}
-use Rattle.starlark_grammar.proofs.KeptLines.KeptFaultPlaces.{IsKept, kept, kept_faults_have_bytes, kept_in_code}
+use Rattle.starlark_grammar.proofs.KeptLines.Faults.{is_in_text}
+use Rattle.starlark_grammar.proofs.KeptLines.KeptFaultPlaces.{IsKept, kept, kept_faults_have_bytes, place}
 use Rattle.starlark_grammar.proofs.Lists.{drop-sum}
-use Rattle.starlark_grammar.proofs.Order.Rests.{begun_so, rest_ends, rest_levels}
-use Rattle.starlark_grammar.proofs.Reading.Onward.{stops_at}
-use Rattle.starlark_grammar.proofs.Reading.Steps.{is_nothing}
-use Rattle.starlark_grammar.proofs.Recovery.RestartBounds.{empty_faultless}
+use Rattle.starlark_grammar.proofs.Order.Rests.{rest_ends, rest_levels}
+use Rattle.starlark_grammar.proofs.Reading.Onward.{outcome_after_nothing, stops_at}
+use Rattle.starlark_grammar.proofs.Recovery.LineCuts.{AtLine, before_faultless}
+use Rattle.starlark_grammar.proofs.Recovery.RestartBounds.{restart_bounds}
 use Rattle.starlark_errors.specs.Exceptions.{IsException}
 use Rattle.starlark_errors.specs.declared.error.kinds.ErrorKind.{ErrorKind}
 use Rattle.starlark_lexemes.specs.Inner.LexerStates.{IsCourse, IsLexing, IsLexingIn, KeepsOpen, course_of, whole}
 use Rattle.starlark_lexemes.specs.declared.lexer_state.LexerState.{LexerState}
 use Rattle.starlark_lexemes.proofs.LexerStates.{lexing_read_in}
-use Rattle.starlark_reader.specs.Inner.Reader.{From, Origin, Start, begin_of, history_before, history_since, kept_history, moved_fault, remaining_outcome}
+use Rattle.starlark_reader.specs.Inner.Reader.{From, Line, Origin, Start, begin_of, history_before, history_since, kept_history, moved_fault, remaining_outcome}
 use Rattle.starlark_reader.proofs.NextLines.{next_line_least, next_line_later, restart_inside, restart_line}
 use Rattle.starlark_reader.proofs.TakenPieces.KeptReads.{moved_passed}
 use Rattle.starlark_recovery.specs.Inner.Passed.{HasPassed}
-use Rattle.starlark_recovery.specs.Inner.RecoveryStates.{HasPassedOn, HasReadBefore, IsBegun, IsLeftOf, IsOnward, IsPart, IsRest, IsStopped, after_faults, items_since, part_of, rest_keeps}
+use Rattle.starlark_recovery.specs.Inner.RecoveryStates.{HasPassedOn, HasReadBefore, IsLeftOf, IsOnward, IsPart, IsRest, IsStopped, after_faults, items_since, part_of, rest_keeps}
 use Rattle.starlark_recovery.specs.RecoveringLexer.{AreReadsOn}
 use Rattle.starlark_recovery.specs.declared.passed_faults.Passed.{Passed}
 use Rattle.starlark_recovery.specs.declared.recovery_state.RecoveryState.{RecoveryState}
-use Rattle.starlark_recovery.proofs.PartRests.{RestFault, is_course, keeps_rest, kept_no_margin, lost_tab, passed_boundary, rest_fault, restart_rest, untabbed}
+use Rattle.starlark_recovery.proofs.PartRests.{RestFault, is_course, keeps_rest, kept_no_margin, lost_tab, passed_boundary, rest_fault, restart_rest, stands_first}
 use Rattle.starlark_recovery.proofs.RecoveredItems.{after_fault, all_moved_by_none, all_moved_twice, items_past}
 use Rattle.starlark_text.specs.declared.or_memory.OrMemory.TheVariants.{Error}
 use Rattle.starlark_words.specs.Inner.Reads.{more_reads}
@@ -60,33 +61,44 @@ module _ (state : RecoveryState) (is : IsPart state) where
 pub on_reads : (text : Text) (begin to n earlier reads : ℕ) → begin + to ≤ length text → length text < 2 ^ 32 → HasReadBefore begin to n earlier → reads ≤ 16 * (length text - begin + 1) → AreReadsOn text n (more_reads earlier reads)
 on_reads text begin to n earlier reads inside fits before few = search rules
 
+-- a fault that keeps its line is in code
+kept_in_code : (history : History) (text : Text) (fault : Spanned Fault) → KeepsLine history text fault → is_in_text (mode_after (history_after history text).tokens) ≡ false
+kept_in_code history text fault keeps =
+    let is = place history text fault keeps in
+    ap (λ (h : History). is_in_text (mode_after h.tokens)) is.here.past ∙ is.code.in_code
+
 -- What is left of the part
 
-starts_so : (origin : Origin) → IsBegun origin → StartsSo (history_before origin).before (history_before origin).widths
-starts_so Start begun = refl
-starts_so (From history at) begun = begun_so history.before history.widths (ap is_nothing begun.1)
-
--- a fault of a whole text is in one that has bytes
-some_bytes : (text : Text) → IfSome (outcome text).fault (λ fault. 0 < length text)
-some_bytes text = by text (outcome text).fault refl
+-- a fault of a line is in one that has bytes
+some_bytes : (widths : List ℕ) (text : Text) → IfSome (outcome_after (at_line widths) text).fault (λ fault. 0 < length text)
+some_bytes widths text = by text (outcome_after (at_line widths) text).fault refl
   where
-    by : (text : Text) (found : Option (Spanned Fault)) → (outcome text).fault ≡ found → IfSome found (λ fault. 0 < length text)
+    by : (text : Text) (found : Option (Spanned Fault)) → (outcome_after (at_line widths) text).fault ≡ found → IfSome found (λ fault. 0 < length text)
     by text None e = tt
-    by [] (Some fault) e = let none = empty_faultless in cc
+    by [] (Some fault) e = let none = before_faultless (at_line widths) [] (AtLine widths) in cc
     by (b ∷ bs) (Some fault) e = omega arith
 
-pub is_start : (text : Text) → IsRest text Start
+pub is_line : (begin : ℕ) (widths : List ℕ) (text : Text) → length (open_widths widths) ≤ begin → IsRest begin text (Line widths)
+is_line begin widths text few = record { begun = tt; inside = omega arith; widths = omega (arith, few); fault = some_bytes widths text }
+
+pub is_start : (begin : ℕ) (text : Text) → IsRest begin text Start
 unfolding open_widths
-is_start text = record { begun = tt; inside = omega arith; widths = omega arith; fault = some_bytes text }
+is_start begin text = is_line begin [] text (omega arith)
 
 -- a state that lexes a whole text
 pub start_lexing : (text : Text) (state : LexerState) → state.reader.text.now ≡ text → IsLexing (whole state.reader.text.now) state → IsLexingIn (course_of Start text) text state
-start_lexing text state same lexing = subst (λ (t : Text). IsLexingIn (whole t) t state) same lexing
+start_lexing text state same lexing =
+    subst (λ (found : Outcome). IsLexingIn (record { origin = Start; lexemes = found.lexemes; fault = found.fault }) text state) (sym (outcome_after_nothing text))
+    (subst (λ (t : Text). IsLexingIn (whole t) t state) same lexing)
+
+-- the items of a line
+pub line_items : (widths : List ℕ) (text : Text) → items_since (Line widths) text ≡ found_after (at_line widths) text
+line_items widths text = all_moved_by_none (found_after (at_line widths) text)
 
 -- the items of a whole text
 pub start_items : (text : Text) → items_since Start text ≡ found text
 unfolding found
-start_items text = all_moved_by_none (found text)
+start_items text = line_items [] text
 
 -- a fault of what is left, by the part that was read before it
 module _ (old : RecoveryState) (fault : Spanned Fault) (stopped : IsStopped old fault) where
@@ -113,6 +125,17 @@ module _ (old : RecoveryState) (fault : Spanned Fault) (stopped : IsStopped old 
 
   pub later : (at ≤ fault.begin) × (at < length part)
   later = (omega (arith, begins), subst (λ (f : Option (Spanned Fault)). IfSome f (λ fault. at < length part)) stopped.here.has stopped.rest.fault)
+
+  -- what is open at it
+  abbrev pub open_now : List ℕ
+  open_now = (history_since origin part).widths
+
+  widths_before : length (open_widths open_now) ≤ old.begin + fault.begin
+  widths_before =
+      let here = stops_at history rest in_rest.inner in_rest.has in
+      let levels = rest_levels history rest here.pieces here.longest.reads in
+      let same = ap (λ (h : History). length (open_widths h.widths)) here.past in
+      omega (arith, levels, same, here.begin, begins, stopped.rest.widths)
 
   -- what is left after it, by what is passed with it
   left_past : after_faults (old.fault_count + 1) (found old.text.now) ≡ map (moved_item old.begin) (items_past origin part (passed_by history rest in_rest.inner))
@@ -147,13 +170,16 @@ module _ (old : RecoveryState) (fault : Spanned Fault) (stopped : IsStopped old 
     part_end : IsCharBoundary part last
     part_end = passed_boundary part fault has_bytes.1 (part_utf8 old stopped.is_part) stopped.begins stopped.ends
 
+    may : may_keep fault.node ≡ true
+    may = ap (λ (f : Spanned Fault). may_keep f.node) (sym in_rest.same) ∙ is_kept.may
+
     pub keeps_open : KeepsOpen (course_of origin part) part fault fault.begin last
     keeps_open = record {
       begins = refl;
       ends = refl;
-      may = ap (λ (f : Spanned Fault). may_keep f.node) (sym in_rest.same) ∙ is_kept.may;
+      may = may;
       inside = no_margin;
-      untabbed = untabbed origin part fault stopped.here.has no_margin;
+      standing = stands_first origin part fault stopped.here.has may no_margin;
       boundary = part_end;
     }
 
@@ -164,12 +190,8 @@ module _ (old : RecoveryState) (fault : Spanned Fault) (stopped : IsStopped old 
     abbrev again : Origin
     again = From opened last
 
-    opened_widths : length (open_widths opened.widths) ≤ last
-    opened_widths =
-        let here = stops_at history rest in_rest.inner in_rest.has in
-        let levels = rest_levels history rest here.pieces (starts_so origin stopped.rest.begun) here.longest.reads in
-        let same = ap (λ (h : History). length (open_widths h.widths)) here.past in
-        omega (arith, levels, same, here.begin, begins, has_bytes.0, stopped.rest.widths)
+    opened_widths : length (open_widths opened.widths) ≤ old.begin + last
+    opened_widths = omega (arith, widths_before, has_bytes.0)
 
     more_bytes : IfSome (course_of again part).fault (λ later. last < length part)
     unfolding remaining_outcome
@@ -185,11 +207,13 @@ module _ (old : RecoveryState) (fault : Spanned Fault) (stopped : IsStopped old 
             let none : (outcome_after opened (drop last part)).fault ≡ None = ap (λ (t : Text). (outcome_after opened t).fault) (drop_all last part whole) ∙ rest_ends opened refl (kept_in_code history rest in_rest.inner keeps_line) in
             rw none tt
 
-    pub is_again : IsRest part again
+    pub is_again : IsRest old.begin part again
     is_again = record { begun = (omega (arith, has_bytes.0), refl); inside = has_bytes.1; widths = opened_widths; fault = more_bytes }
 
     pub course_again : IsCourse (course_of again part) part
-    course_again = is_course opened last part refl part_end (part_utf8 old stopped.is_part) opened_widths (part_fits old stopped.is_part)
+    course_again =
+        let bytes = has_bytes in
+        is_course again part part_end (part_utf8 old stopped.is_part) (omega (arith, opened_widths, bytes.1, part_len old stopped.is_part, part_begins old stopped.is_part, stopped.is_part.fits)) (part_fits old stopped.is_part)
 
     left_kept : after_faults (old.fault_count + 1) (found old.text.now) ≡ map (moved_item old.begin) (items_since again part)
     left_kept =
@@ -253,19 +277,34 @@ module _ (old : RecoveryState) (fault : Spanned Fault) (stopped : IsStopped old 
       restart_inside part fault,
     )
 
-    module _ (loses : rest_keeps origin part fault ≡ false) (state : LexerState) (earlier : ℕ) (own : state.reader.text.now ≡ drop passed.begin old.text.now) (lexing : IsLexing (whole state.reader.text.now) state)
+    abbrev next : Text
+    next = drop passed.begin old.text.now
+
+    -- the blocks that are open at the fault began before the line
+    open_before : length (open_widths open_now) ≤ passed.begin
+    open_before =
+        let bounds = restart_bounds part fault stopped.within.1 in
+        let order = stopped.within in
+        omega (arith, widths_before, bounds.0, order.0, begins_at)
+
+    passed_inside : passed.begin ≤ length old.text.now
+    passed_inside = let boundary = has.boundary in boundary.0
+
+    next_utf8 : IsUtf8 next
+    next_utf8 = IsUtf8-drop old.text.now passed.begin stopped.is_part.utf8 has.boundary
+
+    pub course_line : IsCourse (course_of (Line open_now) next) next
+    course_line =
+        is_course (Line open_now) next (IsCharBoundary-start next next_utf8) next_utf8 (omega (arith, open_before, passed_inside, stopped.is_part.fits))
+        (omega (arith, length-drop passed.begin old.text.now, stopped.is_part.fits))
+
+    module _ (loses : rest_keeps origin part fault ≡ false) (state : LexerState) (earlier : ℕ) (own : state.reader.text.now ≡ next) (lexing : IsLexingIn (course_of (Line open_now) next) next state)
         (count : state.yielded_count ≡ 0) (going : state.has_ended ≡ false) (unread : state.reader.reads ≡ 0) (reads : earlier ≡ more_reads old.earlier_reads (more_reads old.state.reader.reads passed.reads)) where
       abbrev restarted : RecoveryState
       restarted = record old { begin = passed.begin; state = state; comment = None; fault_count = old.fault_count + 1; earlier_reads = earlier }
 
-      abbrev next : Text
-      next = drop passed.begin old.text.now
-
       is_part_again : IsPart restarted
       is_part_again = let is = stopped.is_part in record { fits = is.fits; utf8 = is.utf8; boundary = has.boundary; own = own }
-
-      lexing_again : IsLexingIn (course_of Start next) next state
-      lexing_again = start_lexing next state own lexing
 
       reads_again : HasReadBefore passed.begin 0 (old.fault_count + 1) earlier
       reads_again =
@@ -286,30 +325,32 @@ module _ (old : RecoveryState) (fault : Spanned Fault) (stopped : IsStopped old 
       next_is : drop (restart part fault) part ≡ next
       next_is = sym (drop-sum old.begin (restart part fault) old.text.now) ∙ ap (λ n. drop n old.text.now) (sym begins_at)
 
-      left_again : IsLeftOf restarted Start
-      unfolding found
+      abbrev found_next : Text → List Item
+      found_next = found_after (at_line open_now)
+
+      left_again : IsLeftOf restarted (Line open_now)
       left_again =
           left_past
           ∙ ap (λ (p : PassedOver). map (moved_item old.begin) (items_past origin part p)) (passed_lost history rest in_rest.inner lost_so)
-          ∙ ap (λ n. map (moved_item old.begin) (map (moved_item n) (found (drop n part)))) (sym from_is)
-          ∙ ap (λ (t : Text). map (moved_item old.begin) (map (moved_item (restart part fault)) (found t))) next_is
-          ∙ all_moved_twice old.begin (restart part fault) (found next) ∙ ap (λ n. map (moved_item n) (found next)) (sym begins_at)
-          ∙ ap (map (moved_item passed.begin)) (sym (start_items next))
+          ∙ ap (λ n. map (moved_item old.begin) (map (moved_item n) (found_next (drop n part)))) (sym from_is)
+          ∙ ap (λ (t : Text). map (moved_item old.begin) (map (moved_item (restart part fault)) (found_next t))) next_is
+          ∙ all_moved_twice old.begin (restart part fault) (found_next next) ∙ ap (λ n. map (moved_item n) (found_next next)) (sym begins_at)
+          ∙ ap (map (moved_item passed.begin)) (sym (line_items open_now next))
 
       onward_again : IsOnward restarted
       onward_again = record {
-        origin = Start;
-        rest = is_start next;
-        lexing = lexing_again;
+        origin = Line open_now;
+        rest = is_line passed.begin open_now next open_before;
+        lexing = lexing;
         left = left_again;
-        comment = λ at. ap (λ n. ends_by_comment at (take n (outcome next).lexemes)) count;
+        comment = λ at. ap (λ n. ends_by_comment at (take n (course_of (Line open_now) next).lexemes)) count;
         earlier = tt;
         reads = reads_again;
       }
 
       pub lost_on : HasPassedOn old fault (Error passed.fault) restarted
       lost_on = (
-        record { is_part = is_part_again; lexing = (course_of Start next, lexing_again); onward = λ goes. onward_again },
+        record { is_part = is_part_again; lexing = (course_of (Line open_now) next, lexing); onward = λ goes. onward_again },
         going,
         has.exception,
         count,

@@ -70,7 +70,7 @@ module _ (new : RecoveryState) (utf8 : IsUtf8 new.text.now) (fits : length new.t
     lexing = (course_of Start (part_of new), goes_on);
     onward = λ goes. record {
       origin = Start;
-      rest = is_start (part_of new);
+      rest = is_start new.begin (part_of new);
       lexing = goes_on;
       left = told;
       comment = λ at. ap (λ n. ends_by_comment at (take n (course_of Start (part_of new)).lexemes)) yielded ∙ sym (ap (λ n. is_end None n at) yielded) ∙ sym (ap (λ last. is_end last new.state.yielded_count at) comment);

@@ -101,7 +101,7 @@ impl<'a> RecoveryState<'a> {
         self.earlier_reads = self.earlier_reads.saturating_add(reads);
         self.fault_count += 1;
         self.begin = passed.begin;
-        self.state = LexerState::new(self.alloc, &self.text[passed.begin..]);
+        self.state.begin_line(&self.text[passed.begin..]);
         self.comment = None;
         OrMemory::Error(passed.fault)
     }

@@ -2,28 +2,27 @@
 use Rattle.std.proofs.Common.{◌≡◌, ℕ, zero, suc, ◌+◌, ◌≤◌, ◌<◌, Bool, true, false, not, List, [], ◌∷◌, ◌++◌, map, length, take, drop, refl, ap, sym, subst, ◌∙◌, arith, append-nil, one-add, ◌-◌, cond, Option, Some, None, ◌⊎◌, inl, inr}
 use Rattle.std.specs.List.{AllByRecursion, prefix_len}
 use Rattle.std.specs.Prelude.{◌&&◌, ◌==◌, if◌then◌else◌, count_by, replicate, sum_by, take_while, nat_lt}
-use Rattle.std.proofs.lemmas.Bool.{both_ways}
 use Rattle.std.proofs.lemmas.Bool.Decides.{nat_tests}
 use Rattle.std.proofs.lemmas.List.{length-drop}
 use Rattle.std.proofs.lemmas.List.Sums.{sum_by-cons}
 use Rattle.starlark_grammar.specs.Cuts.{is_layout}
+use Rattle.starlark_grammar.specs.Found.{at_line}
 use Rattle.starlark_grammar.specs.Joining.{without_last_newline}
 use Rattle.starlark_grammar.specs.Longest.{IsReading}
-use Rattle.starlark_grammar.specs.Margins.{Margin, comment_of, comment_part, comments_from, fits, has_tab, indentation, is_comment_only, is_content, is_lf, is_widest, lines, margin_len, margin_of, width_of, without_return}
+use Rattle.starlark_grammar.specs.Margins.{Margin, open_widths, comment_of, comment_part, comments_from, fits, has_tab, indentation, is_comment_only, is_content, is_lf, is_widest, lines, margin_len, margin_of, width_of, without_return}
 use Rattle.starlark_grammar.specs.Pieces.{Fails, Layout, Piece, Stands, margin_step}
-use Rattle.starlark_grammar.specs.Reading.{History, after, after_all, lexemes_along, next_step, nothing, outcome_after, pieces_len}
+use Rattle.starlark_grammar.specs.Reading.{History, after, after_all, lexemes_along, next_step, outcome_after, pieces_len}
 use Rattle.starlark_grammar.specs.KeptLines.{ends_by_comment, is_comment_to}
 use Rattle.starlark_grammar.specs.Tokens.{Dedent, Indent, Indentation, InvalidTab, Lexeme, Newline, moved}
 use Rattle.starlark_grammar.specs.Words.{Text, language}
 use Rattle.starlark_grammar.proofs.Joining.Followed.{ends_line, ends_line_drop, ends_line_made}
-use Rattle.starlark_grammar.proofs.Joining.Tabs.{first_step}
 use Rattle.starlark_grammar.proofs.Order.OrderedLexemes.{Split, first_line}
-use Rattle.starlark_grammar.proofs.Reading.Onward.{Starts}
+use Rattle.starlark_grammar.proofs.Reading.Onward.{first_step_after, pieces_after}
 use Rattle.starlark_grammar.proofs.Reading.Readings.{one_least, piece_fits, started}
 use Rattle.starlark_grammar.proofs.Reading.Steps.{is_nothing}
 use Rattle.starlark_grammar.proofs.Recovery.ClosedBlocks.{dedents, open_count}
 use Rattle.starlark_grammar.proofs.Recovery.EarlierLexemes.{EndBy, end_moved, piece_ends}
-use Rattle.starlark_grammar.proofs.Recovery.LineCuts.{LineCut, line_cut_lexemes}
+use Rattle.starlark_grammar.proofs.Recovery.LineCuts.{AfterCut, AtLine, BeforeLine, LineCut, line_closes, line_cut, line_cut_lexemes}
 use Rattle.starlark_grammar.proofs.Recovery.NewlinePieces.{line_piece}
 
 -- Lexemes that are no comment that ends at an offset or later
@@ -195,28 +194,26 @@ drop_whole (suc n) (b ∷ []) h = by n
 drop_whole (suc n) (b ∷ c ∷ bs) h = drop_whole n (c ∷ bs) h
 
 -- the last piece of a cut between lines
-last_short : (history : History) (text : Text) (piece : Piece) → ends_line text ≡ true → next_step language history text ≡ Stands piece → is_layout piece.sort ≡ true → Starts history → AreShort piece.len piece.lexemes
-last_short history text piece ends e laid fresh = by (is_nothing history.before) refl
+last_short : (history : History) (text : Text) (piece : Piece) → ends_line text ≡ true → next_step language history text ≡ Stands piece → is_layout piece.sort ≡ true → AreShort piece.len piece.lexemes
+last_short history text piece ends e laid = by (is_nothing history.before) refl
   where
     by : (none : Bool) → is_nothing history.before ≡ none → AreShort piece.len piece.lexemes
-    by true is =
-        let first : next_step language nothing text ≡ Stands piece = subst (λ (h : History). next_step language h text ≡ Stands piece) (fresh is) e in
-        step_short 0 [] [] (margin_of text) piece (λ n. tt) (margin_short text (inr ends)) (sym (first_step text) ∙ first)
+    by true is = step_short 0 [] (open_widths history.widths) (margin_of text) piece (λ n. tt) (margin_short text (inr ends)) (sym (first_step_after history text is) ∙ e)
     by false is =
         let line = line_piece history text piece is e laid in
         step_short line.n (record { begin = 0; node = Newline; end = line.n } ∷ []) _ (margin_of (drop line.n text)) piece (λ n. (λ more. refl, tt)) (margin_short (drop line.n text) (drop_whole line.n text ends)) line.stands
 
 along_short : (at : ℕ) (history : History) (text : Text) (pieces : List Piece) → ends_line text ≡ true → IsReading language history text pieces → pieces_len pieces ≡ length text → is_layout (after_all history pieces).before ≡ true
-    → Starts history → AreShort (at + length text) (lexemes_along at pieces)
+    → AreShort (at + length text) (lexemes_along at pieces)
 unfolding after
-along_short at history text [] ends reads reach laid fresh = tt
-along_short at history text (piece ∷ []) ends reads reach laid fresh =
+along_short at history text [] ends reads reach laid = tt
+along_short at history text (piece ∷ []) ends reads reach laid =
     let len : piece.len ≡ length text = omega (arith, reach, sum_by-cons (λ (piece : Piece). piece.len) piece []) in
-    subst (λ n. AreShort (at + n) (map (moved at) piece.lexemes ++ [])) len (short_append (at + piece.len) (map (moved at) piece.lexemes) [] (short_moved at piece.len piece.lexemes (last_short history text piece ends reads.0 (sort laid) fresh)) tt)
+    subst (λ n. AreShort (at + n) (map (moved at) piece.lexemes ++ [])) len (short_append (at + piece.len) (map (moved at) piece.lexemes) [] (short_moved at piece.len piece.lexemes (last_short history text piece ends reads.0 (sort laid))) tt)
   where
     sort : is_layout (after history piece).before ≡ true → is_layout piece.sort ≡ true
     sort h = h
-along_short at history text (piece ∷ next ∷ pieces) ends reads reach laid fresh =
+along_short at history text (piece ∷ next ∷ pieces) ends reads reach laid =
     let total = sum_by-cons (λ (piece : Piece). piece.len) piece (next ∷ pieces) in
     let begun = started history piece (piece_fits language history text piece reads.0).sort in
     let fits = piece_fits language (after history piece) (drop piece.len text) next reads.1.0 in
@@ -225,10 +222,10 @@ along_short at history text (piece ∷ next ∷ pieces) ends reads reach laid fr
     short_append (at + length text) (map (moved at) piece.lexemes) (lexemes_along (at + piece.len) (next ∷ pieces))
     (short_by_ends (at + length text) (at + piece.len) (map (moved at) piece.lexemes) (omega (arith, less)) (end_moved at piece.len piece.lexemes (piece_ends history text piece reads.0)))
     (subst (λ n. AreShort n (lexemes_along (at + piece.len) (next ∷ pieces))) whole
-    (along_short (at + piece.len) (after history piece) (drop piece.len text) (next ∷ pieces) (ends_line_drop piece.len text less ends) reads.1 (omega (arith, reach, total, length-drop piece.len text)) laid (λ e. absurd (both_ways _ begun e))))
+    (along_short (at + piece.len) (after history piece) (drop piece.len text) (next ∷ pieces) (ends_line_drop piece.len text less ends) reads.1 (omega (arith, reach, total, length-drop piece.len text)) laid))
 
-pub no_comment_after : (history : History) (text : Text) (pieces : List Piece) (more : ℕ) → Starts history → LineCut history text pieces → ends_by_comment (length text + more) (without_last_newline (outcome_after history text).lexemes) ≡ false
-no_comment_after history text pieces more starts cut =
+cut_comments : (history : History) (text : Text) (pieces : List Piece) (more : ℕ) → LineCut history text pieces → ends_by_comment (length text + more) (without_last_newline (outcome_after history text).lexemes) ≡ false
+cut_comments history text pieces more cut =
     let count = open_count (after_all history pieces) in
     ap (ends_by_comment (length text + more)) (line_cut_lexemes history text pieces cut)
     ∙ short_none (length text) more (lexemes_along 0 pieces ++ dedents count (length text))
@@ -238,4 +235,12 @@ no_comment_after history text pieces more starts cut =
     none = omega arith
 
     along : AreShort (length text) (lexemes_along 0 pieces)
-    along = subst (λ n. AreShort n (lexemes_along 0 pieces)) none (along_short 0 history text pieces cut.ends cut.reads cut.reach cut.layout starts)
+    along = subst (λ n. AreShort n (lexemes_along 0 pieces)) none (along_short 0 history text pieces cut.ends cut.reads cut.reach cut.layout)
+
+-- before a line no comment ends in that line
+pub no_comment_after : (history : History) (text : Text) (more : ℕ) → BeforeLine history text → ends_by_comment (length text + more) (without_last_newline (outcome_after history text).lexemes) ≡ false
+no_comment_after _ _ more (AfterCut history text cut) = cut_comments history text (pieces_after history text) more (line_cut history text cut)
+no_comment_after _ _ more (AtLine widths) =
+    let here = line_closes widths in
+    let count = open_count (at_line widths) in
+    ap (ends_by_comment (0 + more)) here.kept ∙ short_none 0 more (dedents count 0) (short_dedents 0 0 count)

@@ -14,10 +14,9 @@ use Rattle.starlark_grammar.specs.Words.{Text}
 use Rattle.starlark_grammar.proofs.Found.Cuts.{Inside, Later, LineAt, RestLine, after_fault, closes_within, front_found, line_at, none_later, rest_line}
 use Rattle.starlark_grammar.proofs.Found.FoundItems.{faultless_found}
 use Rattle.starlark_grammar.proofs.Found.JoinedTexts.{given_moved}
-use Rattle.starlark_grammar.proofs.Found.Order.{passed_starts}
 use Rattle.starlark_grammar.proofs.Lists.{drop-sum}
-use Rattle.starlark_grammar.proofs.Reading.Onward.{Starts, pieces_after}
-use Rattle.starlark_grammar.proofs.Recovery.LineCuts.{has_newline_later, has_newline_moved, left_out_later, left_out_moved, line_cut, line_cut_faultless, newline_left_out, none_left_out, starts_nothing}
+use Rattle.starlark_grammar.proofs.Reading.Onward.{pieces_after}
+use Rattle.starlark_grammar.proofs.Recovery.LineCuts.{has_newline_later, has_newline_moved, left_out_later, left_out_moved, line_cut, line_cut_faultless, newline_left_out, none_left_out}
 use Rattle.starlark_grammar.proofs.Recovery.NewlineCuts.{newlines_cut_after}
 
 -- Lexemes without their last newline
@@ -115,11 +114,11 @@ FoundTo history text front line dedents =
     (closing : List Lexeme) × (found_after history (take line.end text) ≡ front ++ (Given line ∷ given closing)) × (has_newline closing ≡ true) × (without_last_newline closing ≡ dedents)
 
 -- a newline among the text's own lexemes
-own_items : (history : History) (text : Text) (before : List Lexeme) (line : Lexeme) (dedents second : List Lexeme) → Starts history → (outcome_after history text).lexemes ≡ before ++ (line ∷ (dedents ++ second)) → is_newline line.node ≡ true → line.begin < line.end
+own_items : (history : History) (text : Text) (before : List Lexeme) (line : Lexeme) (dedents second : List Lexeme) → (outcome_after history text).lexemes ≡ before ++ (line ∷ (dedents ++ second)) → is_newline line.node ≡ true → line.begin < line.end
     → AreDedents dedents → begins_undented second ≡ true → begins_plainly (drop line.end text) ≡ true → FoundTo history text (given before) line dedents
-own_items history text before line dedents second starts e is some all undented plain =
+own_items history text before line dedents second e is some all undented plain =
     let so_far : Text = take line.end text in
-    let cut = newlines_cut_after history text before line dedents second starts e is some all undented plain in
+    let cut = newlines_cut_after history text before line dedents second e is some all undented plain in
     let closing = closing_after (outcome_after history so_far).lexemes before line dedents is cut.1 in (
       closing.0,
       faultless_found history so_far (line_cut_faultless history so_far (pieces_after history so_far) (line_cut history so_far cut.0)) ∙ ap given closing.1 ∙ map-append (λ (lexeme : Lexeme). Given lexeme) before (line ∷ closing.0),
@@ -129,10 +128,10 @@ own_items history text before line dedents second starts e is some all undented 
 
 -- the newlines that are found with so many faults at most
 abbrev pub CutsWithin : ℕ → Type 0
-CutsWithin n = (history : History) (text : Text) (front : List Item) (line : Lexeme) (dedents : List Lexeme) (more : List Item) → Starts history → found_within n history text ≡ front ++ (Given line ∷ (given dedents ++ more))
+CutsWithin n = (history : History) (text : Text) (front : List Item) (line : Lexeme) (dedents : List Lexeme) (more : List Item) → found_within n history text ≡ front ++ (Given line ∷ (given dedents ++ more))
     → is_newline line.node ≡ true → line.begin < line.end → AreDedents dedents → begin_undented more ≡ true → begins_plainly (drop line.end text) ≡ true → FoundTo history text front line dedents
 
-module _ (n : ℕ) (history : History) (text : Text) (front : List Item) (line : Lexeme) (dedents : List Lexeme) (more : List Item) (starts : Starts history) (is : is_newline line.node ≡ true) (some : line.begin < line.end) (all : AreDedents dedents)
+module _ (n : ℕ) (history : History) (text : Text) (front : List Item) (line : Lexeme) (dedents : List Lexeme) (more : List Item) (is : is_newline line.node ≡ true) (some : line.begin < line.end) (all : AreDedents dedents)
     (undented : begin_undented more ≡ true) (plain : begins_plainly (drop line.end text) ≡ true) where
   own_line : (others : List Item) → IsAfter others → LineAt (outcome_after history text).lexemes others front line (given dedents ++ more) → ((later : List Item) → given (outcome_after history text).lexemes ++ later ≡ front → others ≡ later ++ (Given line ∷ (given dedents ++ more)) → FoundTo history text front line dedents)
       → FoundTo history text front line dedents
@@ -140,7 +139,7 @@ module _ (n : ℕ) (history : History) (text : Text) (front : List Item) (line :
       let parts = dedents_in rest dedents others more after more_is undented in
       let rest_is = parts.1 in
       subst (λ (front : List Item). FoundTo history text front line dedents) front_is
-      (own_items history text before line dedents parts.0 starts (whole ∙ ap (λ (l : List Lexeme). before ++ (line ∷ l)) rest_is) is some all parts.2 plain)
+      (own_items history text before line dedents parts.0 (whole ∙ ap (λ (l : List Lexeme). before ++ (line ∷ l)) rest_is) is some all parts.2 plain)
   own_line others after (Later later front_is items) on = on later front_is items
 
   -- in a text without fault
@@ -172,8 +171,8 @@ module _ (n : ℕ) (history : History) (text : Text) (front : List Item) (line :
         let own_all : AreDedents parts.own = sym (dedents_back at parts.own) ∙ ap (λ (l : List Lexeme). list_all (λ (lexeme : Lexeme). is_dedent lexeme.node) l) dedents_are ∙ all in
         let own_undented : begin_undented parts.rest ≡ true = sym (undented_back at parts.rest) ∙ ap begin_undented rest_are ∙ undented in
         let whole : found_within n past rest ≡ own.before ++ (Given own.own ∷ (given parts.own ++ parts.rest)) = own_whole ∙ ap (λ (l : List Item). own.before ++ (Given own.own ∷ l)) parts_whole in
-        let closed = closes_within n past rest own.before own.own (given parts.own ++ parts.rest) (passed_starts history text fault) whole here.is less (inl own_plain) in
-        let inner = again past rest own.before own.own parts.own parts.rest (passed_starts history text fault) whole here.is less own_all own_undented own_plain in
+        let closed = closes_within n past rest own.before own.own (given parts.own ++ parts.rest) whole here.is less (inl own_plain) in
+        let inner = again past rest own.before own.own parts.own parts.rest whole here.is less own_all own_undented own_plain in
         let found_is = inner.1 in
         let left_out = inner.3 in (
           map (moved at) inner.0,
@@ -191,7 +190,7 @@ module _ (n : ℕ) (history : History) (text : Text) (front : List Item) (line :
             ∙ ap (λ (l : List Item). l ++ (Given (moved at own) ∷ map (moved_item at) (given closing))) before_is
             ∙ ap (λ (l : Lexeme). later ++ (Given l ∷ map (moved_item at) (given closing))) line_is
             ∙ ap (λ (l : List Item). later ++ (Given line ∷ l)) (sym (given_moved at closing)) in
-            ap (λ m. found_after history (take m text)) (sym last) ∙ front_found history text fault starts has end some inside closed
+            ap (λ m. found_after history (take m text)) (sym last) ∙ front_found history text fault has end some inside closed
             ∙ ap (λ (l : List Item). left ++ (Refused fault ∷ l)) items
             ∙ sym (append_assoc left (Refused fault ∷ later) (Given line ∷ given (map (moved at) closing)))
             ∙ ap (λ (l : List Item). l ++ (Given line ∷ given (map (moved at) closing))) front_is
@@ -211,9 +210,9 @@ module _ (n : ℕ) (history : History) (text : Text) (front : List Item) (line :
 
 cuts_within : (n : ℕ) → CutsWithin n
 unfolding found_within
-cuts_within zero history text front line dedents more starts e is some all undented plain = alone zero history text front line dedents more starts is some all undented plain e
-cuts_within (suc n) history text front line dedents more starts e is some all undented plain = by_fault n history text front line dedents more starts is some all undented plain (cuts_within n) (outcome_after history text).fault refl e
+cuts_within zero history text front line dedents more e is some all undented plain = alone zero history text front line dedents more is some all undented plain e
+cuts_within (suc n) history text front line dedents more e is some all undented plain = by_fault n history text front line dedents more is some all undented plain (cuts_within n) (outcome_after history text).fault refl e
 
 pub newlines_cut_found : NewlinesCutFound
 unfolding found found_after
-newlines_cut_found text front newline dedents more e is some all undented plain = cuts_within (suc (length text)) nothing text front newline dedents more starts_nothing e is some all undented plain
+newlines_cut_found text front newline dedents more e is some all undented plain = cuts_within (suc (length text)) nothing text front newline dedents more e is some all undented plain

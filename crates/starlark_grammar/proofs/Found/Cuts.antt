@@ -14,18 +14,16 @@ use Rattle.starlark_grammar.specs.Tokens.{Fault, Lexeme, Outcome, Spanned, moved
 use Rattle.starlark_grammar.specs.Words.{Text}
 use Rattle.starlark_grammar.proofs.Found.ClosedTexts.{closed_ends}
 use Rattle.starlark_grammar.proofs.Found.FoundItems.{found_after_faults, passed_bounds}
-use Rattle.starlark_grammar.proofs.Found.Order.{good_within, passed_starts}
+use Rattle.starlark_grammar.proofs.Found.Order.{good_within}
 use Rattle.starlark_grammar.proofs.Found.PassedFaults.{passed_stays}
 use Rattle.starlark_grammar.proofs.Joining.Laws.{ends_after}
 use Rattle.starlark_grammar.proofs.Lists.{drop-sum}
-use Rattle.starlark_grammar.proofs.Reading.Onward.{Starts}
-use Rattle.starlark_grammar.proofs.Recovery.LineCuts.{starts_nothing}
 use Rattle.starlark_grammar.proofs.Recovery.NewlineCuts.{last_newline_cuts_after, newlines_cut_after}
 use Rattle.starlark_grammar.proofs.Recovery.Order.{order_reach}
 use Rattle.starlark_grammar.proofs.Recovery.ShortenedFaults.{fault_shortened}
 
 -- The front of a text with a fault that is left in it, up to so many bytes after what is passed with the fault
-module _ (history : History) (text : Text) (fault : Spanned Fault) (starts : Starts history) (has : (outcome_after history text).fault ≡ Some fault) (n : ℕ) (some : 0 < n) (inside : (passed history text fault).len + n ≤ length text)
+module _ (history : History) (text : Text) (fault : Spanned Fault) (has : (outcome_after history text).fault ≡ Some fault) (n : ℕ) (some : 0 < n) (inside : (passed history text fault).len + n ≤ length text)
     (closed : IsClosedAfter (passed history text fault).history (take n (drop (passed history text fault).len text))) where
   abbrev at : ℕ
   at = (passed history text fault).len
@@ -58,7 +56,7 @@ module _ (history : History) (text : Text) (fault : Spanned Fault) (starts : Sta
 
   front_outcome : outcome_after history so_far ≡ outcome_after history text
   front_outcome =
-      (fault_shortened history so_far later fault starts (ap (λ (t : Text). (outcome_after history t).fault) whole ∙ has) front_decided
+      (fault_shortened history so_far later fault (ap (λ (t : Text). (outcome_after history t).fault) whole ∙ has) front_decided
       (omega (arith, ap (λ (t : Text). (passed history t fault).len) whole, len))).0
       ∙ ap (outcome_after history) whole
 
@@ -66,7 +64,7 @@ module _ (history : History) (text : Text) (fault : Spanned Fault) (starts : Sta
   front_has = ap (λ (o : Outcome). o.fault) front_outcome ∙ has
 
   front_passed : passed history so_far fault ≡ passed history text fault
-  front_passed = sym (passed_stays history so_far later fault starts front_has front_decided) ∙ ap (λ (t : Text). passed history t fault) whole
+  front_passed = sym (passed_stays history so_far later fault front_has front_decided) ∙ ap (λ (t : Text). passed history t fault) whole
 
   pub front_closed : IsClosedAfter history so_far
   front_closed =
@@ -174,19 +172,19 @@ abbrev pub EndsPlainly : Text → Lexeme → Type 0
 EndsPlainly text line = (begins_plainly (drop line.end text) ≡ true) ⊎ (line.end ≡ length text)
 
 -- it is a lexeme of the text's own outcome
-own_line : (history : History) (text : Text) (before : List Lexeme) (line : Lexeme) (rest : List Lexeme) → Starts history → (outcome_after history text).lexemes ≡ before ++ (line ∷ rest) → is_newline line.node ≡ true → line.begin < line.end → EndsPlainly text line → IsClosedAfter history (take line.end text)
-own_line history text before line rest starts e is some (inl plain) =
+own_line : (history : History) (text : Text) (before : List Lexeme) (line : Lexeme) (rest : List Lexeme) → (outcome_after history text).lexemes ≡ before ++ (line ∷ rest) → is_newline line.node ≡ true → line.begin < line.end → EndsPlainly text line → IsClosedAfter history (take line.end text)
+own_line history text before line rest e is some (inl plain) =
     let parts = undent rest in
     let whole = parts.whole in
-    let cut = newlines_cut_after history text before line parts.dedents parts.more starts (e ∙ ap (λ (l : List Lexeme). before ++ (line ∷ l)) whole) is some parts.are parts.undented plain in
+    let cut = newlines_cut_after history text before line parts.dedents parts.more (e ∙ ap (λ (l : List Lexeme). before ++ (line ∷ l)) whole) is some parts.are parts.undented plain in
     Cut history (take line.end text) cut.0
-own_line history text before line rest starts e is some (inr last) =
-    let cut = last_newline_cuts_after history text before line rest starts e is some last in
+own_line history text before line rest e is some (inr last) =
+    let cut = last_newline_cuts_after history text before line rest e is some last in
     subst (IsClosedAfter history) (sym (take_all line.end text (omega (arith, last)))) (Cut history text cut.0)
 
 -- the newlines that are found with so many faults at most
 abbrev pub ClosesWithin : ℕ → Type 0
-ClosesWithin n = (history : History) (text : Text) (front : List Item) (line : Lexeme) (more : List Item) → Starts history → found_within n history text ≡ front ++ (Given line ∷ more) → is_newline line.node ≡ true → line.begin < line.end → EndsPlainly text line
+ClosesWithin n = (history : History) (text : Text) (front : List Item) (line : Lexeme) (more : List Item) → found_within n history text ≡ front ++ (Given line ∷ more) → is_newline line.node ≡ true → line.begin < line.end → EndsPlainly text line
     → IsClosedAfter history (take line.end text)
 
 -- A newline after a fault is one of the rest of the text.
@@ -226,7 +224,7 @@ rest_line n history text fault later line more has items is some =
     place : (0 ≤ own.own.begin) × (own.own.begin ≤ own.own.end) × (own.own.end ≤ length rest)
     place =
         let whole = own.whole in
-        in_order 0 own.before own.own own.rest (length rest) (subst (λ (l : List Item). AreInOrder 0 (lexemes_in l) (length rest)) whole (good_within n past rest (passed_starts history text fault)).0)
+        in_order 0 own.before own.own own.rest (length rest) (subst (λ (l : List Item). AreInOrder 0 (lexemes_in l) (length rest)) whole (good_within n past rest).0)
 
 rest_ends : (text : Text) (at end to : ℕ) → at + end ≡ to → at ≤ length text → (begins_plainly (drop to text) ≡ true) ⊎ (to ≡ length text) → (begins_plainly (drop end (drop at text)) ≡ true) ⊎ (end ≡ length (drop at text))
 rest_ends text at end to last within (inl plain) = inl (ap begins_plainly (sym (drop-sum at end text) ∙ ap (λ m. drop m text) last) ∙ plain)
@@ -234,18 +232,18 @@ rest_ends text at end to last within (inr whole) = inr (omega (arith, last, whol
 
 pub closes_within : (n : ℕ) → ClosesWithin n
 unfolding found_within
-closes_within zero history text front line more starts e is some ends = go (line_at (outcome_after history text).lexemes [] front line more (append-nil (given (outcome_after history text).lexemes) ∙ e))
+closes_within zero history text front line more e is some ends = go (line_at (outcome_after history text).lexemes [] front line more (append-nil (given (outcome_after history text).lexemes) ∙ e))
   where
     go : LineAt (outcome_after history text).lexemes [] front line more → IsClosedAfter history (take line.end text)
-    go (Inside before rest whole front_is more_is) = own_line history text before line rest starts whole is some ends
+    go (Inside before rest whole front_is more_is) = own_line history text before line rest whole is some ends
     go (Later later front_is wrong) = absurd (none_later later line more wrong)
-closes_within (suc n) history text front line more starts e is some ends = by (outcome_after history text).fault refl (closes_within n) e
+closes_within (suc n) history text front line more e is some ends = by (outcome_after history text).fault refl (closes_within n) e
   where
     lexemes : List Lexeme
     lexemes = (outcome_after history text).lexemes
 
     alone : LineAt lexemes [] front line more → IsClosedAfter history (take line.end text)
-    alone (Inside before rest whole front_is more_is) = own_line history text before line rest starts whole is some ends
+    alone (Inside before rest whole front_is more_is) = own_line history text before line rest whole is some ends
     alone (Later later front_is wrong) = absurd (none_later later line more wrong)
 
     later_line : (fault : Spanned Fault) → (outcome_after history text).fault ≡ Some fault → ClosesWithin n → (later : List Item) → RestLine n history text fault later line more → IsClosedAfter history (take line.end text)
@@ -253,16 +251,16 @@ closes_within (suc n) history text front line more starts e is some ends = by (o
         let own = rest.own in
         let last = rest.end in
         let bounds = passed_bounds history text fault has in
-        let left = again (passed history text fault).history (drop (passed history text fault).len text) own.before own.own own.rest (passed_starts history text fault) own.whole rest.is rest.some
+        let left = again (passed history text fault).history (drop (passed history text fault).len text) own.before own.own own.rest own.whole rest.is rest.some
         (rest_ends text (passed history text fault).len own.own.end line.end last bounds.1 ends) in
         let less = rest.some in
-        subst (λ m. IsClosedAfter history (take m text)) last (front_closed history text fault starts has own.own.end (omega (arith, less)) rest.inside left)
+        subst (λ m. IsClosedAfter history (take m text)) last (front_closed history text fault has own.own.end (omega (arith, less)) rest.inside left)
 
     after : (fault : Spanned Fault) → List Item
     after fault = map (moved_item (passed history text fault).len) (found_within n (passed history text fault).history (drop (passed history text fault).len text))
 
     found_line : (fault : Spanned Fault) → (outcome_after history text).fault ≡ Some fault → ClosesWithin n → LineAt lexemes (Refused fault ∷ after fault) front line more → IsClosedAfter history (take line.end text)
-    found_line fault has again (Inside before rest whole front_is more_is) = own_line history text before line rest starts whole is some ends
+    found_line fault has again (Inside before rest whole front_is more_is) = own_line history text before line rest whole is some ends
     found_line fault has again (Later later front_is items) =
         let past = after_fault fault (after fault) later line more items in
         later_line fault has again past.0 (rest_line n history text fault past.0 line more has past.2 is some)
@@ -273,9 +271,9 @@ closes_within (suc n) history text front line more starts e is some ends = by (o
 
 pub newlines_close : NewlinesClose
 unfolding found found_after
-newlines_close text front newline more e is some plain = closes_within (suc (length text)) nothing text front newline more starts_nothing e is some (inl plain)
+newlines_close text front newline more e is some plain = closes_within (suc (length text)) nothing text front newline more e is some (inl plain)
 
 pub last_newlines_close : LastNewlinesClose
 unfolding found found_after
 last_newlines_close text front newline more e is some last =
-    subst (IsClosedAfter nothing) (take_all newline.end text (omega (arith, last))) (closes_within (suc (length text)) nothing text front newline more starts_nothing e is some (inr last))
+    subst (IsClosedAfter nothing) (take_all newline.end text (omega (arith, last))) (closes_within (suc (length text)) nothing text front newline more e is some (inr last))

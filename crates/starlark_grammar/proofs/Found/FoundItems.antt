@@ -3,16 +3,17 @@ use Rattle.std.proofs.Common.{◌≡◌, ℕ, zero, suc, ◌+◌, ◌-◌, ◌�
 use Rattle.std.proofs.lemmas.List.{length-drop}
 use Rattle.std.specs.Prelude.{if◌then◌else◌, max}
 use Rattle.starlark_grammar.specs.AfterFaults.{is_margin_tab, line_end_len, margin_line, next_line, restart, stopped_at}
-use Rattle.starlark_grammar.specs.Found.{Item, Passed, Refused, found_after, found_by, found_within, given, moved_item, passed}
+use Rattle.starlark_grammar.specs.Found.{Passed, at_line, Refused, found_after, found_by, found_within, given, moved_item, passed}
 use Rattle.starlark_grammar.specs.FoundLaws.{FaultlessFound, FoundAfterFaults}
 use Rattle.starlark_grammar.specs.KeptLines.{keeps_line, passed_end}
 use Rattle.starlark_grammar.specs.Pieces.{Other}
-use Rattle.starlark_grammar.specs.Reading.{History, history_after, nothing, outcome_after}
-use Rattle.starlark_grammar.specs.Tokens.{Fault, Outcome, Spanned}
+use Rattle.starlark_grammar.specs.Reading.{History, history_after, outcome_after}
+use Rattle.starlark_grammar.specs.Tokens.{Fault, Spanned}
 use Rattle.starlark_grammar.specs.Words.{Text}
 use Rattle.starlark_grammar.proofs.KeptLines.KeptFaultPlaces.{kept_end, kept_faults_have_bytes}
-use Rattle.starlark_grammar.proofs.Reading.Onward.{outcome_after_nothing, stops_at}
-use Rattle.starlark_grammar.proofs.Recovery.RestartBounds.{empty_faultless, restart_bounds}
+use Rattle.starlark_grammar.proofs.Reading.Onward.{stops_at}
+use Rattle.starlark_grammar.proofs.Recovery.LineCuts.{AtLine, before_faultless}
+use Rattle.starlark_grammar.proofs.Recovery.RestartBounds.{restart_bounds}
 
 -- whether a fault keeps its line
 abbrev pub keeps : History → Text → Spanned Fault → Bool
@@ -35,10 +36,10 @@ unfolding passed
 passed_kept history text fault is = rw is refl
 
 -- … and with any other
-abbrev pub lost_past : Text → Spanned Fault → Passed
-lost_past text fault = record { len = restart text fault; history = nothing }
+abbrev pub lost_past : History → Text → Spanned Fault → Passed
+lost_past history text fault = record { len = restart text fault; history = at_line (history_after history text).widths }
 
-pub passed_lost : (history : History) (text : Text) (fault : Spanned Fault) → keeps history text fault ≡ false → passed history text fault ≡ lost_past text fault
+pub passed_lost : (history : History) (text : Text) (fault : Spanned Fault) → keeps history text fault ≡ false → passed history text fault ≡ lost_past history text fault
 unfolding passed
 passed_lost history text fault is = rw is refl
 
@@ -55,10 +56,9 @@ restart_past : (text : Text) (fault : Spanned Fault) → fault.begin < length te
 unfolding restart next_line
 restart_past text fault less = let past = stopped_past text fault in omega (arith, less, past)
 
--- the text without bytes has no fault
-pub none_at_end : (fault : Spanned Fault) → (outcome_after nothing []).fault ≡ Some fault → ⊥
-none_at_end fault has =
-    let none : None ≡ Some fault = sym (ap (λ (o : Outcome). o.fault) (outcome_after_nothing []) ∙ empty_faultless) ∙ has in cc
+-- the text without bytes has no fault at the start of a line
+none_at_end : (widths : List ℕ) (fault : Spanned Fault) → (outcome_after (at_line widths) []).fault ≡ Some fault → ⊥
+none_at_end widths fault has = let none : None ≡ Some fault = sym (before_faultless (at_line widths) [] (AtLine widths)) ∙ has in cc
 
 -- the rest after a fault is in the text
 pub passed_bounds : (history : History) (text : Text) (fault : Spanned Fault) → (outcome_after history text).fault ≡ Some fault → (fault.end ≤ (passed history text fault).len) × ((passed history text fault).len ≤ length text)
@@ -91,7 +91,7 @@ enough_rest n history text fault has enough = by_keeps history text fault
         let bytes = kept_faults_have_bytes history text fault (has, is) in
         omega (arith, bytes.0, less, length-drop (passed_end text fault) text)
 
-    lost : keeps history text fault ≡ false → Enough n nothing (drop (restart text fault) text)
+    lost : keeps history text fault ≡ false → Enough n (lost_past history text fault).history (drop (restart text fault) text)
     lost is = λ later there.
         let here = stops_at history text fault has in
         let order = here.order in
@@ -100,8 +100,8 @@ enough_rest n history text fault has enough = by_keeps history text fault
         let past = restart_past text fault in
         omega (arith, order, bounds.0, bounds.1, some, past, less, length-drop (restart text fault) text)
       where
-        some_rest : (rest : Text) (later : Spanned Fault) → (outcome_after nothing rest).fault ≡ Some later → 0 < length rest
-        some_rest [] later there = absurd (none_at_end later there)
+        some_rest : (rest : Text) (later : Spanned Fault) → (outcome_after (lost_past history text fault).history rest).fault ≡ Some later → 0 < length rest
+        some_rest [] later there = absurd (none_at_end (history_after history text).widths later there)
         some_rest (b ∷ bs) later there = omega arith
 
 pub enough_bytes : (n : ℕ) (history : History) (text : Text) → suc (length text) ≤ n → Enough n history text

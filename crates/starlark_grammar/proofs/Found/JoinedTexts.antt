@@ -1,29 +1,24 @@
 -- What is found in a closed text and one after it.
-use Rattle.std.proofs.Common.{◌≡◌, ℕ, zero, suc, ◌+◌, ◌≤◌, ◌<◌, Bool, true, false, List, [], ◌∷◌, ◌++◌, map, length, drop, refl, ap, ◌∙◌, sym, subst, Option, Some, None, arith, append_assoc, append-nil, ◌⊎◌, inl, inr}
+use Rattle.std.proofs.Common.{◌≡◌, ℕ, zero, suc, ◌+◌, ◌≤◌, ◌<◌, Bool, true, false, List, [], ◌∷◌, ◌++◌, map, length, drop, refl, ap, ◌∙◌, sym, Option, Some, None, arith, append_assoc, append-nil}
 use Rattle.std.specs.Prelude.{◌&&◌, ◌==◌, option_map}
 use Rattle.std.proofs.lemmas.Bool.Decides.{nat_tests}
 use Rattle.std.proofs.lemmas.List.{drop-append-le, length-drop, map-append}
 use Rattle.std.proofs.Math.Seq.{drop-append-add}
 use Rattle.starlark_grammar.specs.AfterFaults.{is_tab}
-use Rattle.starlark_grammar.specs.Found.{Cut, Empty, Given, IsClosedAfter, Item, Passed, Past, Refused, faults_in, found, found_after, found_by, found_within, given, lexemes_in, moved_item, parted, passed}
+use Rattle.starlark_grammar.specs.Found.{Cut, Empty, at_line, Given, IsClosedAfter, Item, Passed, Past, Refused, found, found_after, found_by, found_within, given, lexemes_in, moved_item, parted, passed}
 use Rattle.starlark_grammar.specs.FoundLaws.{FoundJoins}
-use Rattle.starlark_grammar.specs.Joining.{begins_plainly, has_newline, is_decided, is_line_cut_after, recovered_joined, without_last_newline}
-use Rattle.starlark_grammar.specs.KeptLines.{ends_by_comment, is_comment_to, keeps_line, passed_end}
-use Rattle.starlark_grammar.specs.Pieces.{Other}
+use Rattle.starlark_grammar.specs.Joining.{begins_plainly, has_newline, is_decided, recovered_joined, without_last_newline}
+use Rattle.starlark_grammar.specs.KeptLines.{ends_by_comment, is_comment_to, keeps_line}
 use Rattle.starlark_grammar.specs.Reading.{History, history_after, nothing, outcome_after}
 use Rattle.starlark_grammar.specs.Recovery.{Recovered}
-use Rattle.starlark_grammar.specs.Tokens.{Fault, Lexeme, Newline, Outcome, Spanned, moved}
+use Rattle.starlark_grammar.specs.Tokens.{Fault, Lexeme, Outcome, Spanned, moved}
 use Rattle.starlark_grammar.specs.Words.{Text}
 use Rattle.starlark_grammar.proofs.Found.CommentEnds.{no_comment_after}
-use Rattle.starlark_grammar.proofs.Found.FoundItems.{by_keeps, faultless_found, found_after_faults, keeps, kept_past, lost_past, passed_bounds, passed_kept, passed_lost}
-use Rattle.starlark_grammar.proofs.Found.Order.{passed_starts}
+use Rattle.starlark_grammar.proofs.Found.FoundItems.{by_keeps, faultless_found, found_after_faults, keeps, passed_bounds, passed_kept, passed_lost}
 use Rattle.starlark_grammar.proofs.Found.PassedFaults.{end_moved, has_both, keeps_moved, passed_stays, same_outcome}
-use Rattle.starlark_grammar.proofs.Joining.Joined.{moved_both, twice, unmoved}
-use Rattle.starlark_grammar.proofs.Reading.Onward.{Starts, outcome_after_nothing, pieces_after}
-use Rattle.starlark_grammar.proofs.Reading.Steps.{is_nothing}
-use Rattle.starlark_grammar.proofs.Recovery.LineCuts.{Alike, alike_before, alike_after, alike_joined, alike_other, alike_outcome, cut_joins, has_newline_later, has_newline_moved, left_out_later, left_out_moved, line_cut, line_cut_faultless, line_cut_some, outcome_newline}
+use Rattle.starlark_grammar.proofs.Joining.Joined.{moved_both, twice}
+use Rattle.starlark_grammar.proofs.Recovery.LineCuts.{AfterCut, Alike, AtLine, BeforeLine, before_faultless, alike_before, alike_after, alike_joined, alike_line, alike_other, alike_outcome, cut_joins, has_newline_later, has_newline_moved, left_out_later, left_out_moved, outcome_newline}
 use Rattle.starlark_grammar.proofs.Recovery.MovedRestarts.{plain_tab, restart_moved}
-use Rattle.starlark_grammar.proofs.Recovery.RestartBounds.{empty_faultless, empty_lexemes}
 
 -- Items
 
@@ -115,13 +110,10 @@ comments_after n at front (lexeme ∷ lexemes) none = ends_later (n + at) front 
 
 -- Histories after which the same is found
 
-abbrev pub Same : History → History → Type 0
-Same one other = (one ≡ other) ⊎ (Alike one other × (is_nothing other.before ≡ false))
-
-pub passed_alike : (one other : History) (text : Text) (fault : Spanned Fault) → Alike one other → ((passed one text fault).len ≡ (passed other text fault).len) × Same (passed one text fault).history (passed other text fault).history
+pub passed_alike : (one other : History) (text : Text) (fault : Spanned Fault) → Alike one other → ((passed one text fault).len ≡ (passed other text fault).len) × Alike (passed one text fault).history (passed other text fault).history
 passed_alike one other text fault alike = by_keeps other text fault
-    (λ is. rw (passed_kept one text fault (keeps_alike ∙ is), passed_kept other text fault is) (refl, inr (alike_other (history_after one text) (history_after other text) (alike_after one other text alike), refl)))
-    (λ is. rw (passed_lost one text fault (keeps_alike ∙ is), passed_lost other text fault is) (refl, inl refl))
+    (λ is. rw (passed_kept one text fault (keeps_alike ∙ is), passed_kept other text fault is) (refl, alike_other (history_after one text) (history_after other text) (alike_after one other text alike)))
+    (λ is. rw (passed_lost one text fault (keeps_alike ∙ is), passed_lost other text fault is) (refl, alike_line (history_after one text) (history_after other text) (alike_after one other text alike)))
   where
     keeps_alike : keeps one text fault ≡ keeps other text fault
     keeps_alike =
@@ -145,21 +137,15 @@ alike_within (suc n) one other text alike =
         let next = passed_alike one other text fault alike in
         ap (λ (o : Outcome). given o.lexemes ++ (Refused fault ∷ map (moved_item (passed one text fault).len) (found_within n (passed one text fault).history (drop (passed one text fault).len text)))) same
         ∙ ap (λ len. given (outcome_after other text).lexemes ++ (Refused fault ∷ map (moved_item len) (found_within n (passed one text fault).history (drop len text)))) next.0
-        ∙ ap (λ items. given (outcome_after other text).lexemes ++ (Refused fault ∷ map (moved_item (passed other text fault).len) items)) (rest next.1)
-      where
-        rest : Same (passed one text fault).history (passed other text fault).history
-            → found_within n (passed one text fault).history (drop (passed other text fault).len text) ≡ found_within n (passed other text fault).history (drop (passed other text fault).len text)
-        rest (inl is) = ap (λ (h : History). found_within n h (drop (passed other text fault).len text)) is
-        rest (inr is) = again (passed one text fault).history (passed other text fault).history (drop (passed other text fault).len text) is.0
+        ∙ ap (λ items. given (outcome_after other text).lexemes ++ (Refused fault ∷ map (moved_item (passed other text fault).len) items)) (again (passed one text fault).history (passed other text fault).history (drop (passed other text fault).len text) next.1)
 
-same_found : (one other : History) (text : Text) → Same one other → found_after one text ≡ found_after other text
+alike_found : (one other : History) (text : Text) → Alike one other → found_after one text ≡ found_after other text
 unfolding found_after
-same_found one other text (inl is) = ap (λ (h : History). found_after h text) is
-same_found one other text (inr is) = alike_within (suc (length text)) one other text is.0
+alike_found one other text alike = alike_within (suc (length text)) one other text alike
 
--- A cut between lines, and a text after it
+-- A text that a line follows, and that line
 
-module _ (history : History) (first second : Text) (starts : Starts history) (cut : is_line_cut_after history first ≡ true) (plain : begins_plainly second ≡ true) where
+module _ (history : History) (first second : Text) (line : BeforeLine history first) (plain : begins_plainly second ≡ true) where
   abbrev both : Text
   both = first ++ second
 
@@ -170,7 +156,7 @@ module _ (history : History) (first second : Text) (starts : Starts history) (cu
   own = without_last_newline (outcome_after history first).lexemes
 
   join : outcome_after history both ≡ record { lexemes = own ++ map (moved n) (outcome_after nothing second).lexemes; fault = option_map (moved n) (outcome_after nothing second).fault }
-  join = cut_joins history first second starts cut plain
+  join = cut_joins history first second line plain
 
   lexemes_are : (outcome_after history both).lexemes ≡ own ++ map (moved n) (outcome_after nothing second).lexemes
   lexemes_are = ap (λ (o : Outcome). o.lexemes) join
@@ -183,25 +169,25 @@ module _ (history : History) (first second : Text) (starts : Starts history) (cu
 
   -- what is passed with a fault of the second text
   pub passed_moved : (fault : Spanned Fault) → (outcome_after nothing second).fault ≡ Some fault
-      → ((passed history both (moved n fault)).len ≡ n + (passed nothing second fault).len) × Same (passed history both (moved n fault)).history (passed nothing second fault).history
+      → ((passed history both (moved n fault)).len ≡ n + (passed nothing second fault).len) × Alike (passed history both (moved n fault)).history (passed nothing second fault).history
   passed_moved fault has = by_keeps nothing second fault
       (λ is. rw (passed_kept history both (moved n fault) (keeps_as ∙ is), passed_kept nothing second fault is) (
-        end_moved history.before first second fault some later,
-        inr (alike_other (history_after history both) (history_after nothing second) (alike_joined history first second starts cut plain), refl),
+        end_moved history.before first second fault later,
+        alike_other (history_after history both) (history_after nothing second) alike,
       ))
-      (λ is. rw (passed_lost history both (moved n fault) (keeps_as ∙ is), passed_lost nothing second fault is) (restart_moved first second fault some later, inl refl))
+      (λ is. rw (passed_lost history both (moved n fault) (keeps_as ∙ is), passed_lost nothing second fault is) (restart_moved first second fault later, alike_line (history_after history both) (history_after nothing second) alike))
     where
-      some : 0 < n
-      some = line_cut_some history first cut
+      alike : Alike (history_after history both) (history_after nothing second)
+      alike = alike_joined history first second line plain
 
       later : is_tab fault.node ≡ true → 0 < fault.begin
       later = plain_tab second fault plain has
 
       keeps_as : keeps history both (moved n fault) ≡ keeps nothing second fault
       keeps_as =
-          keeps_moved history.before first second fault some later (outcome_after history both).lexemes (outcome_after nothing second).lexemes
+          keeps_moved history.before first second fault later (outcome_after history both).lexemes (outcome_after nothing second).lexemes
           (ap (ends_by_comment (n + fault.begin)) lexemes_are
-          ∙ comments_after n fault.begin own (outcome_after nothing second).lexemes (no_comment_after history first (pieces_after history first) fault.begin starts (line_cut history first cut)))
+          ∙ comments_after n fault.begin own (outcome_after nothing second).lexemes (no_comment_after history first fault.begin line))
 
   -- what is found in both
   pub cut_found : found_after history both ≡ given own ++ map (moved_item n) (found_after nothing second)
@@ -220,7 +206,7 @@ module _ (history : History) (first second : Text) (starts : Starts history) (cu
           ∙ ap (λ k. (given own ++ map (moved_item n) (given (outcome_after nothing second).lexemes)) ++ (Refused (moved n fault) ∷ map (moved_item k) (found_after (passed history both (moved n fault)).history (drop k both)))) next.0
           ∙ ap (λ items. (given own ++ map (moved_item n) (given (outcome_after nothing second).lexemes)) ++ (Refused (moved n fault) ∷ items))
           (ap (λ (t : Text). map (moved_item (n + len)) (found_after (passed history both (moved n fault)).history t)) (drop-append-add first second len)
-          ∙ ap (map (moved_item (n + len))) (same_found (passed history both (moved n fault)).history (passed nothing second fault).history (drop len second) next.1)
+          ∙ ap (map (moved_item (n + len))) (alike_found (passed history both (moved n fault)).history (passed nothing second fault).history (drop len second) next.1)
           ∙ sym (items_twice n len rest))
           ∙ append_assoc (given own) (map (moved_item n) (given (outcome_after nothing second).lexemes)) (Refused (moved n fault) ∷ map (moved_item n) (map (moved_item len) rest))
           ∙ ap (λ items. given own ++ items) (sym (map-append (moved_item n) (given (outcome_after nothing second).lexemes) (Refused fault ∷ map (moved_item len) rest)))
@@ -234,41 +220,27 @@ record Joined (history : History) (first second : Text) : Type 0 where
   same : parted (found_after history (first ++ second)) ≡ recovered_joined (length first) (parted (found_after history first)) (parted (found_after nothing second))
 
 module _ (second : Text) (plain : begins_plainly second ≡ true) where
-  empty_joined : Joined nothing [] second
-  empty_joined = record {
-    newline = ap (λ (r : Recovered). has_newline r.lexemes) alone;
-    same = sym (ap (λ (r : Recovered). recovered_joined 0 r (parted (found_after nothing second))) alone ∙ same_recovered (unmoved (lexemes_in (found_after nothing second))) (unmoved (faults_in (found_after nothing second))));
-  }
-    where
-      none : (outcome_after nothing []).fault ≡ None
-      none = ap (λ (o : Outcome). o.fault) (outcome_after_nothing []) ∙ empty_faultless
-
-      alone : parted (found_after nothing []) ≡ record { lexemes = record { begin = 0; node = Newline; end = 0 } ∷ []; faults = [] }
-      alone =
-          ap parted (faultless_found nothing [] none) ∙ parted_given (outcome_after nothing []).lexemes
-          ∙ ap (λ ls. let r : Recovered = record { lexemes = ls; faults = [] } in r) (ap (λ (o : Outcome). o.lexemes) (outcome_after_nothing []) ∙ empty_lexemes)
-
-  cut_joined : (history : History) (first : Text) → Starts history → is_line_cut_after history first ≡ true → Joined history first second
+  line_joined : (history : History) (first : Text) → BeforeLine history first → Joined history first second
   unfolding in_front moved_recovered
-  cut_joined history first starts cut = record {
+  line_joined history first line = record {
     newline = ap (λ (r : Recovered). has_newline r.lexemes) alone ∙ outcome_newline history first none;
     same =
-        ap parted (cut_found history first second starts cut plain)
+        ap parted (cut_found history first second line plain)
         ∙ parted_front (without_last_newline (outcome_after history first).lexemes) (map (moved_item (length first)) (found_after nothing second))
         ∙ ap (in_front (without_last_newline (outcome_after history first).lexemes)) (parted_moved (length first) (found_after nothing second))
         ∙ sym (ap (λ (r : Recovered). recovered_joined (length first) r (parted (found_after nothing second))) alone);
   }
     where
       none : (outcome_after history first).fault ≡ None
-      none = line_cut_faultless history first (pieces_after history first) (line_cut history first cut)
+      none = before_faultless history first line
 
       alone : parted (found_after history first) ≡ record { lexemes = (outcome_after history first).lexemes; faults = [] }
       alone = ap parted (faultless_found history first none) ∙ parted_given (outcome_after history first).lexemes
 
-  past_joined : (history : History) (first : Text) (fault : Spanned Fault) → Starts history → (outcome_after history first).fault ≡ Some fault → is_decided first fault ≡ true
+  past_joined : (history : History) (first : Text) (fault : Spanned Fault) → (outcome_after history first).fault ≡ Some fault → is_decided first fault ≡ true
       → Joined (passed history first fault).history (drop (passed history first fault).len first) second → Joined history first second
   unfolding with_fault moved_recovered
-  past_joined history first fault starts has is after = record {
+  past_joined history first fault has is after = record {
     newline = ap (λ (r : Recovered). has_newline r.lexemes) alone ∙ has_newline_later left (map (moved at) (lexemes_in one)) (has_newline_moved at (lexemes_in one) ∙ newline);
     same =
         ap parted whole ∙ parted_fault left fault (map (moved_item at) two)
@@ -310,18 +282,18 @@ module _ (second : Text) (plain : begins_plainly second ≡ true) where
 
       whole : found_after history (first ++ second) ≡ given left ++ (Refused fault ∷ map (moved_item at) two)
       whole =
-          let stays = passed_stays history first second fault starts has is in
-          found_after_faults history (first ++ second) fault (has_both history first second fault starts has is)
+          let stays = passed_stays history first second fault has is in
+          found_after_faults history (first ++ second) fault (has_both history first second fault has is)
           ∙ ap (λ (p : Passed). given (outcome_after history (first ++ second)).lexemes ++ (Refused fault ∷ map (moved_item p.len) (found_after p.history (drop p.len (first ++ second))))) stays
-          ∙ ap (λ (o : Outcome). given o.lexemes ++ (Refused fault ∷ map (moved_item at) (found_after (passed history first fault).history (drop at (first ++ second))))) (same_outcome history first second fault starts has is).0
+          ∙ ap (λ (o : Outcome). given o.lexemes ++ (Refused fault ∷ map (moved_item at) (found_after (passed history first fault).history (drop at (first ++ second))))) (same_outcome history first second fault has is).0
           ∙ ap (λ (t : Text). given left ++ (Refused fault ∷ map (moved_item at) (found_after (passed history first fault).history t))) (drop-append-le at first second inside)
 
-  closed_joined : (history : History) (first : Text) → Starts history → IsClosedAfter history first → Joined history first second
-  closed_joined _ _ starts Empty = empty_joined
-  closed_joined _ _ starts (Cut history first cut) = cut_joined history first starts cut
-  closed_joined _ _ starts (Past history first fault has is rest) =
-      past_joined history first fault starts has is (closed_joined (passed history first fault).history (drop (passed history first fault).len first) (passed_starts history first fault) rest)
+  closed_joined : (history : History) (first : Text) → IsClosedAfter history first → Joined history first second
+  closed_joined _ _ (Empty widths) = line_joined (at_line widths) [] (AtLine widths)
+  closed_joined _ _ (Cut history first cut) = line_joined history first (AfterCut history first cut)
+  closed_joined _ _ (Past history first fault has is rest) =
+      past_joined history first fault has is (closed_joined (passed history first fault).history (drop (passed history first fault).len first) rest)
 
 pub found_joins : FoundJoins
 unfolding found
-found_joins first second closed plain = (closed_joined second plain nothing first (λ none. refl) closed).same
+found_joins first second closed plain = (closed_joined second plain nothing first closed).same

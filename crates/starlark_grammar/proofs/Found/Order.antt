@@ -4,15 +4,15 @@ use Rattle.std.proofs.lemmas.List.{length-drop}
 use Rattle.starlark_grammar.specs.Found.{Given, Item, Passed, Refused, faults_in, found, found_after, found_by, found_within, given, lexemes_in, moved_item, passed}
 use Rattle.starlark_grammar.specs.FoundLaws.{FoundFaultsInOrder, FoundLexemesInOrder}
 use Rattle.starlark_grammar.specs.KeptLines.{passed_end}
-use Rattle.starlark_grammar.specs.Pieces.{Before, Fails, Gap, Layout, Nothing, Other, Piece}
+use Rattle.starlark_grammar.specs.Pieces.{Before, Gap, Layout, Nothing, Other, Piece}
 use Rattle.starlark_grammar.specs.Reading.{History, after_all, lexemes_along, lexemes_before, nothing, outcome_after, pieces_len}
 use Rattle.starlark_grammar.specs.RecoveryLaws.{AreInOrder}
 use Rattle.starlark_grammar.specs.Tokens.{Fault, Lexeme, Outcome, Spanned, moved}
 use Rattle.starlark_grammar.specs.Words.{Text}
-use Rattle.starlark_grammar.proofs.Found.FoundItems.{by_keeps, keeps, kept_past, lost_past, passed_bounds, passed_kept, passed_lost}
+use Rattle.starlark_grammar.proofs.Found.FoundItems.{by_keeps, keeps, passed_bounds, passed_kept, passed_lost}
 use Rattle.starlark_grammar.proofs.KeptLines.KeptFaultPlaces.{Place, kept_faults_have_bytes, place}
 use Rattle.starlark_grammar.proofs.Order.OrderedLexemes.{after_order, some_lexemes_before}
-use Rattle.starlark_grammar.proofs.Reading.Onward.{Starts, StopsAt, stops_at}
+use Rattle.starlark_grammar.proofs.Reading.Onward.{StopsAt, stops_at}
 use Rattle.starlark_grammar.proofs.Reading.Steps.{is_nothing}
 use Rattle.starlark_grammar.proofs.Recovery.EarlierLexemes.{EndBy, along_ends, end_later, lexemes_before_restart}
 use Rattle.starlark_grammar.proofs.Recovery.Order.{order_append, order_later, order_sooner, whole_order}
@@ -63,17 +63,11 @@ whole_lexemes history text =
 
 -- What is passed with a fault
 
--- after it nothing or no start of a text was read
-pub passed_starts : (history : History) (text : Text) (fault : Spanned Fault) → Starts (passed history text fault).history
-passed_starts history text fault = by_keeps history text fault
-    (λ is. subst (λ (p : Passed). Starts p.history) (sym (passed_kept history text fault is)) (λ none. cc))
-    (λ is. subst (λ (p : Passed). Starts p.history) (sym (passed_lost history text fault is)) (λ none. refl))
-
 -- the lexemes before the fault end in it
-pub ends_before_rest : (history : History) (text : Text) (fault : Spanned Fault) → Starts history → (outcome_after history text).fault ≡ Some fault → EndBy (passed history text fault).len (outcome_after history text).lexemes
-ends_before_rest history text fault starts has = by_keeps history text fault
+pub ends_before_rest : (history : History) (text : Text) (fault : Spanned Fault) → (outcome_after history text).fault ≡ Some fault → EndBy (passed history text fault).len (outcome_after history text).lexemes
+ends_before_rest history text fault has = by_keeps history text fault
     (λ is. subst (λ (p : Passed). EndBy p.len (outcome_after history text).lexemes) (sym (passed_kept history text fault is)) (kept is))
-    (λ is. subst (λ (p : Passed). EndBy p.len (outcome_after history text).lexemes) (sym (passed_lost history text fault is)) (lexemes_before_restart history text fault starts (stops_at history text fault has)))
+    (λ is. subst (λ (p : Passed). EndBy p.len (outcome_after history text).lexemes) (sym (passed_lost history text fault is)) (lexemes_before_restart history text fault (stops_at history text fault has)))
   where
     kept : keeps history text fault ≡ true → EndBy (passed_end text fault) (outcome_after history text).lexemes
     kept is = subst (λ (o : Outcome). EndBy (passed_end text fault) o.lexemes) (sym there.here.is) (by there.here.pieces refl)
@@ -111,11 +105,11 @@ good_alone history text = (
 )
 
 -- with what is found after a fault
-good_after : (history : History) (text : Text) (fault : Spanned Fault) → Starts history → (outcome_after history text).fault ≡ Some fault → (items : List Item) → IsGood (drop (passed history text fault).len text) items
+good_after : (history : History) (text : Text) (fault : Spanned Fault) → (outcome_after history text).fault ≡ Some fault → (items : List Item) → IsGood (drop (passed history text fault).len text) items
     → IsGood text (given (outcome_after history text).lexemes ++ (Refused fault ∷ map (moved_item (passed history text fault).len) items))
-good_after history text fault starts has items good = (
+good_after history text fault has items good = (
   subst (λ (l : List Lexeme). AreInOrder 0 l (length text)) (sym (lexemes_append left (Refused fault ∷ rest) ∙ ap (λ ls. left ++ ls) (lexemes_moved at items)))
-      (order_append 0 at (length text) left (map (moved at) (lexemes_in items)) (order_to 0 left (length text) at (whole_lexemes history text) (omega arith) (ends_before_rest history text fault starts has)) (order_later at text (drop at text) (lexemes_in items) total good.0)),
+      (order_append 0 at (length text) left (map (moved at) (lexemes_in items)) (order_to 0 left (length text) at (whole_lexemes history text) (omega arith) (ends_before_rest history text fault has)) (order_later at text (drop at text) (lexemes_in items) total good.0)),
   subst (λ (l : List (Spanned Fault)). AreInOrder 0 l (length text)) (sym (faults_append left (Refused fault ∷ rest) ∙ ap (λ fs. fault ∷ fs) (faults_moved at items)))
       (omega arith, here.order, order_sooner fault.end at (length text) (map (moved at) (faults_in items)) bounds.0 (order_later at text (drop at text) (faults_in items) total good.1)),
 )
@@ -138,25 +132,25 @@ good_after history text fault starts has items good = (
     total : at + length (drop at text) ≡ length text
     total = omega (arith, bounds.1, length-drop at text)
 
-pub good_within : (n : ℕ) (history : History) (text : Text) → Starts history → IsGood text (found_within n history text)
+pub good_within : (n : ℕ) (history : History) (text : Text) → IsGood text (found_within n history text)
 unfolding found_within
-good_within zero history text starts = good_alone history text
-good_within (suc n) history text starts = by (outcome_after history text).fault refl (good_within n)
+good_within zero history text = good_alone history text
+good_within (suc n) history text = by (outcome_after history text).fault refl (good_within n)
   where
-    by : (has : Option (Spanned Fault)) → (outcome_after history text).fault ≡ has → ((history : History) (text : Text) → Starts history → IsGood text (found_within n history text)) → IsGood text (found_by history text has (found_within n))
+    by : (has : Option (Spanned Fault)) → (outcome_after history text).fault ≡ has → ((history : History) (text : Text) → IsGood text (found_within n history text)) → IsGood text (found_by history text has (found_within n))
     by None e again = good_alone history text
     by (Some fault) e again =
-        good_after history text fault starts e (found_within n (passed history text fault).history (drop (passed history text fault).len text))
-        (again (passed history text fault).history (drop (passed history text fault).len text) (passed_starts history text fault))
+        good_after history text fault e (found_within n (passed history text fault).history (drop (passed history text fault).len text))
+        (again (passed history text fault).history (drop (passed history text fault).len text))
 
-pub good_found : (history : History) (text : Text) → Starts history → IsGood text (found_after history text)
+pub good_found : (history : History) (text : Text) → IsGood text (found_after history text)
 unfolding found_after
-good_found history text starts = good_within (suc (length text)) history text starts
+good_found history text = good_within (suc (length text)) history text
 
 pub found_lexemes_in_order : FoundLexemesInOrder
 unfolding found
-found_lexemes_in_order text = (good_found nothing text (λ none. refl)).0
+found_lexemes_in_order text = (good_found nothing text).0
 
 pub found_faults_in_order : FoundFaultsInOrder
 unfolding found
-found_faults_in_order text = (good_found nothing text (λ none. refl)).1
+found_faults_in_order text = (good_found nothing text).1

@@ -1,5 +1,5 @@
 -- What is passed with a fault of a text that another follows, or that is after another.
-use Rattle.std.proofs.Common.{◌≡◌, ℕ, ◌+◌, ◌≤◌, ◌<◌, Bool, true, false, cond, not, List, [], ◌∷◌, ◌++◌, length, drop, refl, ap, ◌∙◌, sym, subst, Some, arith, ◌||◌}
+use Rattle.std.proofs.Common.{◌≡◌, ℕ, ◌+◌, ◌<◌, Bool, true, false, cond, not, List, [], ◌∷◌, ◌++◌, length, drop, refl, ap, ◌∙◌, sym, Some, arith, ◌||◌}
 use Rattle.std.specs.Prelude.{◌&&◌, ◌==◌, if◌then◌else◌, nat_eq, codes}
 use Rattle.std.specs.List.{prefix_len}
 use Rattle.std.specs.Str.{bytes_eq}
@@ -7,8 +7,8 @@ use Rattle.std.proofs.lemmas.Bool.{and_parts, eqb-true}
 use Rattle.std.proofs.lemmas.List.{drop-append-le}
 use Rattle.std.proofs.Math.Seq.{drop-append-add}
 use Rattle.starlark_grammar.specs.Inner.KeptFaults.{is_in_margin}
-use Rattle.starlark_grammar.specs.AfterFaults.{is_margin_tab, is_tab, restart}
-use Rattle.starlark_grammar.specs.Found.{Passed, passed}
+use Rattle.starlark_grammar.specs.AfterFaults.{is_tab, restart}
+use Rattle.starlark_grammar.specs.Found.{Passed, at_line, passed}
 use Rattle.starlark_grammar.specs.Joining.{is_decided}
 use Rattle.starlark_grammar.specs.KeptLines.{ends_by_comment, keeps_line, passed_end}
 use Rattle.starlark_grammar.specs.Margins.{begins_with_line_end}
@@ -16,9 +16,9 @@ use Rattle.starlark_grammar.specs.Pieces.{Before, Other}
 use Rattle.starlark_grammar.specs.Reading.{History, history_after, nothing, outcome_after}
 use Rattle.starlark_grammar.specs.Tokens.{EmptyEscapeSequence, Fault, Indentation, InvalidEscapeSequence, InvalidInput, InvalidTab, Lexeme, Outcome, ReservedKeyword, Spanned, StartsZero, UnfinishedFStringExpression, UnfinishedStringLiteral, moved}
 use Rattle.starlark_grammar.specs.Words.{Text}
-use Rattle.starlark_grammar.proofs.Found.FoundItems.{by_keeps, keeps, kept_past, lost_past, passed_kept, passed_lost}
+use Rattle.starlark_grammar.proofs.Found.FoundItems.{by_keeps, keeps, passed_kept, passed_lost}
 use Rattle.starlark_grammar.proofs.Joining.Followed.{ends_line, ends_line_drop}
-use Rattle.starlark_grammar.proofs.Reading.Onward.{Starts, StopsAt, stops_at}
+use Rattle.starlark_grammar.proofs.Reading.Onward.{StopsAt, stops_at}
 use Rattle.starlark_grammar.proofs.Reading.Steps.{is_nothing}
 use Rattle.starlark_grammar.proofs.Recovery.DecidedFaults.{InMargin, begins_stays, decided, outcome_stays, restart_stays}
 use Rattle.starlark_grammar.proofs.Recovery.MovedRestarts.{not_zero}
@@ -69,7 +69,7 @@ tabs_stay (b ∷ c ∷ bs) more h = go (nat_eq 9 b) (tabs_stay (c ∷ bs) more h
     go true e = ap (λ n. 1 + n) e
     go false e = refl
 
-module _ (history : History) (first second : Text) (fault : Spanned Fault) (starts : Starts history) (has : (outcome_after history first).fault ≡ Some fault) (is : is_decided first fault ≡ true) where
+module _ (history : History) (first second : Text) (fault : Spanned Fault) (has : (outcome_after history first).fault ≡ Some fault) (is : is_decided first fault ≡ true) where
   here : StopsAt history first fault
   here = stops_at history first fault has
 
@@ -83,7 +83,7 @@ module _ (history : History) (first second : Text) (fault : Spanned Fault) (star
   left = drop-append-le fault.begin first second (omega (arith, begins_inside))
 
   pub same_outcome : (outcome_after history (first ++ second) ≡ outcome_after history first) × (history_after history (first ++ second) ≡ history_after history first)
-  same_outcome = let parts = decided first fault is in outcome_stays history first second fault starts parts.1 here parts.0
+  same_outcome = let parts = decided first fault is in outcome_stays history first second fault parts.1 here parts.0
 
   pub has_both : (outcome_after history (first ++ second)).fault ≡ Some fault
   has_both = ap (λ (o : Outcome). o.fault) same_outcome.0 ∙ has
@@ -111,12 +111,13 @@ module _ (history : History) (first second : Text) (fault : Spanned Fault) (star
       ∙ sym (passed_kept history first fault it))
       (λ it.
       passed_lost history (first ++ second) fault (keeps_both ∙ it)
-      ∙ ap (λ n. let p : Passed = record { len = n; history = nothing } in p) (restart_stays history first second fault starts (lost_in_margin history first fault it) here is)
+      ∙ ap (λ n. let p : Passed = record { len = n; history = at_line (history_after history (first ++ second)).widths } in p) (restart_stays history first second fault (lost_in_margin history first fault it) here is)
+      ∙ ap (λ (h : History). let p : Passed = record { len = restart first fault; history = at_line h.widths } in p) same_outcome.1
       ∙ sym (passed_lost history first fault it))
 
 -- A text that is after another
 
-module _ (before : Before) (first second : Text) (fault : Spanned Fault) (some : 0 < length first) (later : is_tab fault.node ≡ true → 0 < fault.begin) where
+module _ (before : Before) (first second : Text) (fault : Spanned Fault) (later : is_tab fault.node ≡ true → 0 < fault.begin) where
   pub keeps_moved : (lexemes own : List Lexeme) → ends_by_comment (length first + fault.begin) lexemes ≡ ends_by_comment fault.begin own → keeps_line before (first ++ second) lexemes (moved (length first) fault) ≡ keeps_line nothing.before second own fault
   unfolding keeps_by
   keeps_moved lexemes own same =
@@ -131,7 +132,8 @@ module _ (before : Before) (first second : Text) (fault : Spanned Fault) (some :
       by : (node : Fault) → (is_tab node ≡ true → 0 < fault.begin) → keeps_by (is_in_margin before (first ++ second) (length first + fault.begin)) comment node ≡ keeps_by (is_in_margin nothing.before second fault.begin) comment node
       by InvalidTab h =
           let left : drop (length first + fault.begin) (first ++ second) ≡ drop fault.begin second = drop-append-add first second fault.begin in
-          rw (not_zero fault.begin (h refl), not_zero (length first + fault.begin) (omega (arith, some)), left) (none (is_nothing before))
+          let late = h refl in
+          rw (not_zero fault.begin late, not_zero (length first + fault.begin) (omega (arith, late)), left) (none (is_nothing before))
         where
           none : (begun : Bool) → not (begun && false || begins_with_line_end (drop fault.begin second)) ≡ not (begins_with_line_end (drop fault.begin second))
           none true = refl

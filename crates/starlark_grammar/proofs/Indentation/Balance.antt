@@ -292,19 +292,13 @@ by_mode_balances widths table s (InText opening) text e = chunk_balances widths 
 by_mode_balances widths table s AtTop text e = in_code_balances widths table s text e
 by_mode_balances widths table s Deeper text e = in_code_balances widths table s text e
 
--- before the first margin no width is open
-abbrev pub StartsSo : Before → List ℕ → Type 0
-StartsSo Nothing widths = widths ≡ []
-StartsSo before widths = ⊤
+by_before_balances : (widths : List ℕ) (table : Table) (s : Situation) (before : Before) (text : Text) → s.levels ≡ open_widths widths → StepBalances widths (by_before table s before text)
+by_before_balances widths table s Nothing text e =
+    subst (λ (levels : List ℕ). StepBalances widths (first_margin levels text)) (sym e) (margin_step_balances widths 0 [] (margin_of text) (record { none = refl; neither = refl; inside = omega arith }) (margin_quiet text))
+by_before_balances widths table s Layout text e = by_mode_balances widths table s s.mode text e
+by_before_balances widths table s Gap text e = by_mode_balances widths table s s.mode text e
+by_before_balances widths table s Other text e = by_mode_balances widths table s s.mode text e
 
-by_before_balances : (widths : List ℕ) (table : Table) (s : Situation) (before : Before) (text : Text) → s.levels ≡ open_widths widths → StartsSo before widths → StepBalances widths (by_before table s before text)
-unfolding open_widths
-by_before_balances widths table s Nothing text e none =
-    subst (λ (ws : List ℕ). StepBalances ws (first_margin text)) (sym none) (margin_step_balances [] 0 [] (margin_of text) (record { none = refl; neither = refl; inside = omega arith }) (margin_quiet text))
-by_before_balances widths table s Layout text e none = by_mode_balances widths table s s.mode text e
-by_before_balances widths table s Gap text e none = by_mode_balances widths table s s.mode text e
-by_before_balances widths table s Other text e none = by_mode_balances widths table s s.mode text e
-
-pub piece_balances : (table : Table) (history : History) (text : Text) (piece : Piece) → StartsSo history.before history.widths → next_step table history text ≡ Stands piece → Balances history.widths piece
+pub piece_balances : (table : Table) (history : History) (text : Text) (piece : Piece) → next_step table history text ≡ Stands piece → Balances history.widths piece
 unfolding next_step situation step_at
-piece_balances table history text piece start e = subst (StepBalances history.widths) e (by_before_balances history.widths table (situation history) history.before text refl start)
+piece_balances table history text piece e = subst (StepBalances history.widths) e (by_before_balances history.widths table (situation history) history.before text refl)

@@ -1,5 +1,5 @@
 -- Indents, dedents and lexemes of whole texts.
-use Rattle.std.proofs.Common.{◌≡◌, ℕ, zero, suc, ◌+◌, ◌-◌, ◌*◌, ◌≤◌, ◌<◌, false, cond, List, [], ◌∷◌, ◌++◌, length, take, drop, refl, ap, ◌∙◌, sym, subst, Some, None, arith, ◌⊎◌, inl, inr, append-nil, append_assoc}
+use Rattle.std.proofs.Common.{◌≡◌, ℕ, zero, suc, ◌+◌, ◌-◌, ◌*◌, ◌≤◌, ◌<◌, cond, List, [], ◌∷◌, ◌++◌, length, take, drop, refl, ap, ◌∙◌, sym, subst, Some, None, arith, ◌⊎◌, inl, inr, append-nil, append_assoc}
 use Rattle.std.specs.Prelude.{map, replicate, option_to_list}
 use Rattle.std.proofs.lemmas.Bool.{cases_lt}
 use Rattle.std.proofs.lemmas.List.{length-append, length-map, length-replicate, take-append-le}
@@ -9,13 +9,13 @@ use Rattle.std.proofs.lemmas.List.Sums.{sum_by-cons, sum_by-append, sum_by-take-
 use Rattle.starlark_grammar.specs.Words.{Text, Table}
 use Rattle.starlark_grammar.specs.Tokens.{Lexeme, moved, Dedent, Newline, Fault, Spanned, Outcome}
 use Rattle.starlark_grammar.specs.Margins.{margin_of, open_widths}
-use Rattle.starlark_grammar.specs.Pieces.{Before, Nothing, Layout, Gap, Other, Piece, Step, Stands, Fails, Ends}
+use Rattle.starlark_grammar.specs.Pieces.{Piece, Step, Stands, Fails, Ends}
 use Rattle.starlark_grammar.specs.Reading.{History, nothing, after, after_all, pieces_len, lexemes_along, closing, outcome_of, outcome_in, read}
 use Rattle.starlark_grammar.specs.Longest.{IsReading}
 use Rattle.starlark_grammar.specs.Laws.{is_indent, is_dedent, indents, dedents}
-use Rattle.starlark_grammar.proofs.Reading.Steps.{is_nothing, margin_fits}
-use Rattle.starlark_grammar.proofs.Reading.Readings.{piece_fits, reading_fits, read_is}
-use Rattle.starlark_grammar.proofs.Indentation.Balance.{levels_len, StartsSo, count-moved, margin_quiet, piece_balances}
+use Rattle.starlark_grammar.proofs.Reading.Steps.{margin_fits}
+use Rattle.starlark_grammar.proofs.Reading.Readings.{reading_fits, read_is}
+use Rattle.starlark_grammar.proofs.Indentation.Balance.{levels_len, count-moved, margin_quiet, piece_balances}
 
 dedents-append : (xs ys : List Lexeme) → dedents (xs ++ ys) ≡ dedents xs + dedents ys
 dedents-append xs ys = sum_by-append (λ (lexeme : Lexeme). cond (is_dedent lexeme.node) 1 0) xs ys
@@ -43,26 +43,15 @@ follows_after levels more xs ys few total h n = go (cases_lt n (length xs))
         let all_indents = indents-append xs (take m ys) in
         subst (λ (ls : List Lexeme). dedents ls ≤ indents ls + levels) (sym same) (omega (arith, remainder, all_dedents, all_indents, few, total))
 
-starts_after : (history : History) (piece : Piece) → is_nothing piece.sort ≡ false → StartsSo (after history piece).before (after history piece).widths
-unfolding after
-starts_after history piece h = go piece.sort h
-  where
-    go : (sort : Before) → is_nothing sort ≡ false → StartsSo sort (history.widths ++ option_to_list piece.width)
-    go Nothing h = cc
-    go Layout h = tt
-    go Gap h = tt
-    go Other h = tt
-
 after_widths : (history : History) (piece : Piece) → (after history piece).widths ≡ history.widths ++ option_to_list piece.width
 unfolding after
 after_widths history piece = refl
 
-along_follows : (table : Table) (history : History) (text : Text) (pieces : List Piece) (at : ℕ) (tail : List Lexeme) → StartsSo history.before history.widths → IsReading table history text pieces → Follows (levels_len (after_all history pieces).widths) tail → Follows (levels_len history.widths) (lexemes_along at pieces ++ tail)
-along_follows table history text [] at tail start reads h = h
-along_follows table history text (piece ∷ pieces) at tail start reads h =
-    let balances = piece_balances table history text piece start reads.0 in
-    let fits = piece_fits table history text piece reads.0 in
-    let more = along_follows table (after history piece) (drop piece.len text) pieces (at + piece.len) tail (starts_after history piece fits.sort) reads.1 h in
+along_follows : (table : Table) (history : History) (text : Text) (pieces : List Piece) (at : ℕ) (tail : List Lexeme) → IsReading table history text pieces → Follows (levels_len (after_all history pieces).widths) tail → Follows (levels_len history.widths) (lexemes_along at pieces ++ tail)
+along_follows table history text [] at tail reads h = h
+along_follows table history text (piece ∷ pieces) at tail reads h =
+    let balances = piece_balances table history text piece reads.0 in
+    let more = along_follows table (after history piece) (drop piece.len text) pieces (at + piece.len) tail reads.1 h in
     let few = balances.few in
     let total = balances.total in
     let dedents_same = count-moved is_dedent at piece.lexemes in
@@ -77,12 +66,11 @@ pub record AlongBalances (history : History) (pieces : List Piece) (lexemes : Li
   pub bytes : length lexemes ≤ pieces_len pieces + dedents lexemes
   pub wide : indents lexemes ≤ pieces_len pieces
 
-pub along_balances : (table : Table) (history : History) (text : Text) (pieces : List Piece) (at : ℕ) → StartsSo history.before history.widths → IsReading table history text pieces → AlongBalances history pieces (lexemes_along at pieces)
-along_balances table history text [] at start reads = record { total = refl; bytes = omega arith; wide = omega arith }
-along_balances table history text (piece ∷ pieces) at start reads =
-    let balances = piece_balances table history text piece start reads.0 in
-    let fits = piece_fits table history text piece reads.0 in
-    let more = along_balances table (after history piece) (drop piece.len text) pieces (at + piece.len) (starts_after history piece fits.sort) reads.1 in
+pub along_balances : (table : Table) (history : History) (text : Text) (pieces : List Piece) (at : ℕ) → IsReading table history text pieces → AlongBalances history pieces (lexemes_along at pieces)
+along_balances table history text [] at reads = record { total = refl; bytes = omega arith; wide = omega arith }
+along_balances table history text (piece ∷ pieces) at reads =
+    let balances = piece_balances table history text piece reads.0 in
+    let more = along_balances table (after history piece) (drop piece.len text) pieces (at + piece.len) reads.1 in
     let rest : List Lexeme = lexemes_along (at + piece.len) pieces in
     let here : List Lexeme = map (moved at) piece.lexemes in
     let widths : levels_len (after history piece).widths ≡ levels_len (history.widths ++ option_to_list piece.width) = ap (λ ws. levels_len ws) (after_widths history piece) in
@@ -139,12 +127,12 @@ comments_balance text fault =
 
 pieces_balance : (table : Table) (text : Text) (pieces : List Piece) (fault : Spanned Fault) → IsReading table nothing text pieces → OutcomeBalances text (record { lexemes = lexemes_along 0 pieces; fault = Some fault })
 pieces_balance table text pieces fault reads =
-    let balances = along_balances table nothing text pieces 0 refl reads in
+    let balances = along_balances table nothing text pieces 0 reads in
     let total = balances.total in
     let bytes = balances.bytes in
     let wide = balances.wide in
     let fits = reading_fits table nothing text pieces reads in
-    let follows = along_follows table nothing text pieces 0 [] refl reads (λ n. let none = take_none n in rw none (omega arith)) in
+    let follows = along_follows table nothing text pieces 0 [] reads (λ n. let none = take_none n in rw none (omega arith)) in
     ((λ n. let here = subst (Follows (levels_len [])) (append-nil (lexemes_along 0 pieces)) follows n in omega (arith, here, none_open)), (λ e. cc), omega (arith, total, bytes, wide, fits, none_open))
   where
     take_none : (n : ℕ) → ◌≡◌ {A = List Lexeme} (take n []) []
@@ -153,7 +141,7 @@ pieces_balance table text pieces fault reads =
 
 whole_balances : (table : Table) (text : Text) (pieces : List Piece) → IsReading table nothing text pieces → OutcomeBalances text (record { lexemes = lexemes_along 0 pieces ++ closing (pieces_len pieces) (after_all nothing pieces); fault = None })
 whole_balances table text pieces reads =
-    let balances = along_balances table nothing text pieces 0 refl reads in
+    let balances = along_balances table nothing text pieces 0 reads in
     let total = balances.total in
     let bytes = balances.bytes in
     let wide = balances.wide in
@@ -163,7 +151,7 @@ whole_balances table text pieces reads =
     let first = closes.0 in
     let second = closes.1 in
     let third = closes.2 in
-    let follows = along_follows table nothing text pieces 0 last refl reads (closing_follows (pieces_len pieces) (after_all nothing pieces)) in
+    let follows = along_follows table nothing text pieces 0 last reads (closing_follows (pieces_len pieces) (after_all nothing pieces)) in
     let dedents_all = dedents-append (lexemes_along 0 pieces) last in
     let indents_all = indents-append (lexemes_along 0 pieces) last in
     let len_all = length-append (lexemes_along 0 pieces) last in

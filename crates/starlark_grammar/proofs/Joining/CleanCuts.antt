@@ -146,8 +146,8 @@ begun text first stands =
       is = sym (outcome_only language text _ (record { pieces = first ∷ (read_from language (after nothing first) first.len text).pieces; last = (read_from language (after nothing first) first.len text).last; longest = longest_onward language nothing text first _ _ stands rest; same = refl }));
     }
 
-margin_of_first : (text : Text) (first : Piece) → next_step language nothing text ≡ Stands first → first_margin text ≡ Stands first
-unfolding next_step situation step_at
+margin_of_first : (text : Text) (first : Piece) → next_step language nothing text ≡ Stands first → first_margin [] text ≡ Stands first
+unfolding next_step situation step_at open_widths
 margin_of_first text first stands = stands
 
 pub some_before : (before : Before) (text : Text) (pieces : List Piece) → ¬ (pieces ≡ []) → lexemes_before before text pieces ≡ lexemes_along 0 pieces

@@ -283,7 +283,7 @@ unfolding margin_step
 blank_step len lexemes levels comments at = refl
 
 -- The last margin of a text of whole lines, with a text after it whose first margin stands.
-joined_margin : (len : ℕ) (lexemes : List Lexeme) (text more : Text) (piece first : Piece) → has_whole_lines text ≡ true → margin_step len lexemes [] (margin_of text) ≡ Stands piece → piece.len ≡ len + length text → first_margin more ≡ Stands first
+joined_margin : (len : ℕ) (lexemes : List Lexeme) (text more : Text) (piece first : Piece) → has_whole_lines text ≡ true → margin_step len lexemes [] (margin_of text) ≡ Stands piece → piece.len ≡ len + length text → first_margin [] more ≡ Stands first
     → (margin_step len lexemes [] (margin_of (text ++ more)) ≡ Stands (joined_piece (len + length text) piece.lexemes first)) × (piece.width ≡ None)
 joined_margin len lexemes text more piece first whole stands reach begins = go (followed text more whole)
   where
@@ -305,7 +305,7 @@ joined_margin len lexemes text more piece first whole stands reach begins = go (
     go (Within some less f) = absurd (omega (arith, less, reach, margin_step_len len lexemes [] (margin_of text) piece stands))
 
 -- a situation that is read for the first time, or not
-pub last_append : (s : Situation) (text more : Text) (piece first : Piece) → ends_line text ≡ true → s.levels ≡ [] → is_layout piece.sort ≡ true → piece.len ≡ length text → step_at language s text ≡ Stands piece → first_margin more ≡ Stands first
+pub last_append : (s : Situation) (text more : Text) (piece first : Piece) → ends_line text ≡ true → s.levels ≡ [] → is_layout piece.sort ≡ true → piece.len ≡ length text → step_at language s text ≡ Stands piece → first_margin [] more ≡ Stands first
     → (step_at language s (text ++ more) ≡ Stands (joined_piece (length text) piece.lexemes first)) × (piece.width ≡ None)
 unfolding step_at
 last_append s text more piece first ends levels laid reach stands begins = go s.before refl stands
@@ -324,8 +324,9 @@ last_append s text more piece first ends levels laid reach stands begins = go s.
     go : (before : Before) → s.before ≡ before → by_before language s before text ≡ Stands piece → Claim before
     go Nothing same e =
         let zero_len : 0 + length text ≡ length text = omega arith in
-        let found = joined_margin 0 [] text more piece first (whole_from_ends text ends) e (omega (arith, reach)) begins in
-        (found.0 ∙ ap (λ n. Stands (joined_piece n piece.lexemes first)) zero_len, found.1)
+        let flat : first_margin [] text ≡ Stands piece = subst (λ (ls : List ℕ). first_margin ls text ≡ Stands piece) levels e in
+        let found = joined_margin 0 [] text more piece first (whole_from_ends text ends) flat (omega (arith, reach)) begins in
+        (ap (λ (ls : List ℕ). first_margin ls (text ++ more)) levels ∙ found.0 ∙ ap (λ n. Stands (joined_piece n piece.lexemes first)) zero_len, found.1)
     go Layout same e = subst Claim same (later (ap is_nothing same))
     go Gap same e = subst Claim same (later (ap is_nothing same))
     go Other same e = subst Claim same (later (ap is_nothing same))
@@ -353,7 +354,7 @@ stands_append s text more piece ends less stands = go s.before refl stands
             end.followed ∙ margin_stays end.len (record { begin = 0; node = Newline; end = end.len } ∷ []) s.levels (drop end.len text) more piece (whole_after end.len text (whole_from_ends text ends)) (sym end.here ∙ stands) (omega (arith, less, length-drop end.len text, end.inside))
 
     go : (before : Before) → s.before ≡ before → by_before language s before text ≡ Stands piece → by_before language s before (text ++ more) ≡ Stands piece
-    go Nothing same e = margin_stays 0 [] [] text more piece (whole_from_ends text ends) e (omega (arith, less))
+    go Nothing same e = margin_stays 0 [] s.levels text more piece (whole_from_ends text ends) e (omega (arith, less))
     go Layout same e = subst (λ (before : Before). by_before language s before (text ++ more) ≡ Stands piece) same (later (ap is_nothing same))
     go Gap same e = subst (λ (before : Before). by_before language s before (text ++ more) ≡ Stands piece) same (later (ap is_nothing same))
     go Other same e = subst (λ (before : Before). by_before language s before (text ++ more) ≡ Stands piece) same (later (ap is_nothing same))
@@ -405,13 +406,13 @@ last_width s text piece ends laid reach stands = go s.before refl stands
             margin_width (length (take end.len text)) (record { begin = 0; node = Newline; end = length (take end.len text) } ∷ []) s.levels (drop end.len text) piece (whole_after end.len text (whole_from_ends text ends)) end.stands (omega (arith, reach, length-take end.len text, length-drop end.len text, inside))
 
     go : (before : Before) → s.before ≡ before → by_before language s before text ≡ Stands piece → piece.width ≡ None
-    go Nothing same e = margin_width 0 [] [] text piece (whole_from_ends text ends) e (omega (arith, reach))
+    go Nothing same e = margin_width 0 [] s.levels text piece (whole_from_ends text ends) e (omega (arith, reach))
     go Layout same e = later (ap is_nothing same)
     go Gap same e = later (ap is_nothing same)
     go Other same e = later (ap is_nothing same)
 
 -- the last piece alone
-join_last : (history : History) (text more : Text) (piece first : Piece) → ends_line text ≡ true → next_step language history text ≡ Stands piece → piece.len ≡ length text → Settled (after history piece) → first_margin more ≡ Stands first
+join_last : (history : History) (text more : Text) (piece first : Piece) → ends_line text ≡ true → next_step language history text ≡ Stands piece → piece.len ≡ length text → Settled (after history piece) → first_margin [] more ≡ Stands first
     → Joined history (after history piece) text more (piece ∷ []) first
 unfolding next_step situation after
 join_last history text more piece first ends stands reach settled begins =
@@ -457,7 +458,7 @@ total_at : (at n : ℕ) (text : Text) → n < length text → at + n + length (d
 total_at at n text less = omega (arith, length-drop n text)
 
 -- Of a settled text all pieces but the last stay, and the last goes on with the first margin of the text after.
-pub join_reading : (history : History) (text more : Text) (pieces : List Piece) (first : Piece) → ends_line text ≡ true → ¬ (pieces ≡ []) → IsReading language history text pieces → pieces_len pieces ≡ length text → Settled (after_all history pieces) → first_margin more ≡ Stands first
+pub join_reading : (history : History) (text more : Text) (pieces : List Piece) (first : Piece) → ends_line text ≡ true → ¬ (pieces ≡ []) → IsReading language history text pieces → pieces_len pieces ≡ length text → Settled (after_all history pieces) → first_margin [] more ≡ Stands first
     → Joined history (after_all history pieces) text more pieces first
 join_reading history text more [] first ends some reads reach settled begins = absurd (some refl)
 join_reading history text more (piece ∷ []) first ends some reads reach settled begins =

@@ -146,7 +146,7 @@ step_shortened s text more piece h e inside = before s.before e
     at Deeper e = code_shortened s text more piece h e inside
 
     before : (before : Before) → by_before language s before (text ++ more) ≡ Stands piece → by_before language s before text ≡ Stands piece
-    before Nothing e = margin_shortened 0 [] [] text more piece (whole_from_ends text h) e (omega (arith, inside))
+    before Nothing e = margin_shortened 0 [] s.levels text more piece (whole_from_ends text h) e (omega (arith, inside))
     before Layout e = at s.mode e
     before Gap e = at s.mode e
     before Other e = at s.mode e

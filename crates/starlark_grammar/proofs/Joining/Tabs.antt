@@ -7,7 +7,7 @@ use Rattle.std.proofs.lemmas.List.Sums.{sum_by-cons}
 use Rattle.std.proofs.lemmas.List.{drop-append-le, length-drop}
 use Rattle.starlark_grammar.specs.Words.{Text, language}
 use Rattle.starlark_grammar.specs.Tokens.{Newline, InvalidTab, Lexeme, Spanned, Fault, moved, Outcome}
-use Rattle.starlark_grammar.specs.Margins.{Margin, margin_of, is_content, has_tab, width_of, fits}
+use Rattle.starlark_grammar.specs.Margins.{Margin, margin_of, is_content, has_tab, open_widths, width_of, fits}
 use Rattle.starlark_grammar.specs.Pieces.{Layout, Piece, Step, Stands, Fails, Ends, Situation, margin_step, step_at}
 use Rattle.starlark_grammar.specs.Reading.{History, nothing, after, after_all, situation, next_step, pieces_len, lexemes_along, outcome_of, outcome}
 use Rattle.starlark_grammar.specs.Longest.{IsReading, IsLongestReading}
@@ -70,7 +70,7 @@ never_ends margin e = go (not (is_content margin.remainder)) (has_tab margin) (f
     go false false false one other wrong misfit e = cc
 
 pub first_step : (text : Text) → next_step language nothing text ≡ margin_step 0 [] [] (margin_of text)
-unfolding next_step situation step_at
+unfolding next_step situation step_at open_widths
 first_step text = refl
 
 -- A text's first margin stands, or it has a tab.

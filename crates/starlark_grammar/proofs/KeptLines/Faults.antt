@@ -1,15 +1,13 @@
 -- The place of a fault that keeps its line: it is in code, and has a byte.
 use Rattle.std.proofs.Common.{◌≡◌, ℕ, zero, suc, ◌+◌, ◌≤◌, Bool, true, false, not, List, [], ◌∷◌, length, take, drop, refl, ap, ◌∙◌, sym, subst, Option, Some, None, arith, ◌||◌}
-use Rattle.std.specs.Prelude.{◌&&◌, ◌==◌, if◌then◌else◌, nat_eq, codes}
-use Rattle.std.specs.Char.{is_ascii_digit}
+use Rattle.std.specs.Prelude.{◌&&◌, if◌then◌else◌, nat_eq, codes}
 use Rattle.std.specs.List.{list_all, starts_with}
 use Rattle.std.proofs.lemmas.Bool.{and_parts, eqb-true}
-use Rattle.std.proofs.lemmas.Bool.Decides.{nat_tests}
 use Rattle.std.proofs.lemmas.List.{length-take-le}
 use Rattle.starlark_grammar.specs.declared.class.Class.{Class}
 use Rattle.starlark_grammar.specs.declared.class.LiteralKind.{LiteralKind as Kind}
 use Rattle.starlark_grammar.specs.declared.class.LiteralKind.TheVariants.{Text as OfText, Bytes as OfBytes, FString as OfFString}
-use Rattle.starlark_grammar.specs.Words.{Text, Skipped, Comment, Tabs, LineEnd, Opener, Reserved, Identifier, Decimal, Hexadecimal, Octal, Binary, Float, Fixed, begins, class_in, is_in_line, openers, line_ends, symbols, names, patterns, language, is_run}
+use Rattle.starlark_grammar.specs.Words.{Text, Skipped, Comment, Tabs, LineEnd, Opener, Reserved, Identifier, Decimal, Hexadecimal, Octal, Binary, Float, Fixed, begins, class_in, openers, line_ends, symbols, names, patterns, language, is_run}
 use Rattle.starlark_grammar.specs.FrontCharacter.{first_character}
 use Rattle.starlark_grammar.specs.Front.{longest_front}
 use Rattle.starlark_grammar.specs.AfterFaults.{is_tab}
@@ -17,12 +15,12 @@ use Rattle.starlark_grammar.specs.Inner.KeptFaults.{may_keep}
 use Rattle.starlark_grammar.specs.Tokens.{Fault, Indentation, InvalidInput, InvalidTab, ReservedKeyword, StartsZero, UnfinishedFStringExpression, UnfinishedStringLiteral, FStringBang, Int, Newline, Lexeme, Opening, Spanned}
 use Rattle.starlark_grammar.specs.Items.{Stop, Closing, OpeningBrace, BadEscape, Body, body_at}
 use Rattle.starlark_grammar.specs.Depths.{Mode, Outside, InText, AtTop, Deeper, mode_after}
-use Rattle.starlark_grammar.specs.Margins.{Margin, begins_with_line_end, fits, has_tab, is_content, is_lf, margin_len, margin_of, width_of}
+use Rattle.starlark_grammar.specs.Margins.{Margin, begins_with_line_end, fits, has_tab, is_content, margin_len, margin_of, width_of}
 use Rattle.starlark_grammar.specs.Numbers.{integer_of}
 use Rattle.starlark_grammar.specs.Pieces.{Before, Nothing, Layout, Gap, Other, Piece, Step, Stands, Fails, Situation, fault, token, margin_step, line_end, opening_of, more_quotes, is_plain, unfinished, literal_by, opener, chunk_by, chunk, counts, starts_zero, word_step, front_step, takes_bang, is_bang, in_code, by_mode, by_before, step_at}
 use Rattle.starlark_grammar.specs.Reading.{History, situation, next_step}
 use Rattle.starlark_grammar.proofs.Words.Classes.{language_all_fit, patterns_all_fit, RowsFit}
-use Rattle.starlark_grammar.proofs.Words.Fronts.{front_absent, front_sound}
+use Rattle.starlark_grammar.proofs.Words.Fronts.{front_sound}
 use Rattle.starlark_grammar.proofs.Reading.Steps.{is_nothing}
 use Rattle.starlark_grammar.proofs.Literals.LiteralSteps.{escape_holds}
 
@@ -262,8 +260,8 @@ first_fault history text fault none e = by history.before none e
   where
     by : (before : Before) → is_nothing before ≡ true → by_before language (situation history) before text ≡ Fails fault → (fault.begin ≡ 0) × (may_keep fault.node ≡ true → is_tab fault.node ≡ true)
     by Nothing none e =
-        let begin : 0 ≡ fault.begin = sym (margin_begin 0 [] [] (margin_of text)) ∙ ap step_begin e in
-        (sym begin, λ keeps. sym (ap step_tab e) ∙ margin_lost 0 [] [] (margin_of text) (keeps_of _ fault e keeps))
+        let begin : 0 ≡ fault.begin = sym (margin_begin 0 [] (situation history).levels (margin_of text)) ∙ ap step_begin e in
+        (sym begin, λ keeps. sym (ap step_tab e) ∙ margin_lost 0 [] (situation history).levels (margin_of text) (keeps_of _ fault e keeps))
     by Layout none e = cc
     by Gap none e = cc
     by Other none e = cc

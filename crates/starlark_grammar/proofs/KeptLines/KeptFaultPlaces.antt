@@ -1,5 +1,5 @@
 -- Faults that keep their lines: where they are, and what is after them.
-use Rattle.std.proofs.Common.{◌≡◌, ℕ, ◌+◌, ◌-◌, ◌≤◌, ◌<◌, Bool, true, false, not, List, [], ◌∷◌, length, drop, refl, ap, ◌∙◌, sym, subst, Some, arith, ◌||◌}
+use Rattle.std.proofs.Common.{◌≡◌, ℕ, ◌+◌, ◌-◌, ◌≤◌, ◌<◌, Bool, true, false, not, List, [], ◌∷◌, length, drop, refl, ap, ◌∙◌, sym, subst, arith, ◌||◌}
 use Rattle.std.specs.Prelude.{◌&&◌, ◌==◌, if◌then◌else◌, nat_eq, codes}
 use Rattle.std.specs.List.{prefix_len}
 use Rattle.std.specs.Str.{bytes_eq}
@@ -7,17 +7,16 @@ use Rattle.std.proofs.lemmas.Bool.{and_parts}
 use Rattle.std.proofs.lemmas.List.{length-drop}
 use Rattle.std.proofs.lemmas.List.Sums.{prefix_len-le-length}
 use Rattle.starlark_grammar.specs.AfterFaults.{is_tab}
-use Rattle.starlark_grammar.specs.Depths.{mode_after}
 use Rattle.starlark_grammar.specs.Inner.KeptFaults.{is_in_margin, may_keep}
 use Rattle.starlark_grammar.specs.KeptLineLaws.{KeepsLine, KeptFaultsHaveBytes, WordsKeepLines}
 use Rattle.starlark_grammar.specs.KeptLines.{ends_by_comment, keeps_line, passed_end}
 use Rattle.starlark_grammar.specs.Margins.{begins_with_line_end}
 use Rattle.starlark_grammar.specs.Longest.{IsReading}
-use Rattle.starlark_grammar.specs.Pieces.{Before, Fails, Nothing, Piece}
-use Rattle.starlark_grammar.specs.Reading.{History, after, after_all, history_after, next_step, outcome_after, pieces_len}
-use Rattle.starlark_grammar.specs.Tokens.{EmptyEscapeSequence, Fault, Indentation, InvalidEscapeSequence, InvalidInput, InvalidTab, Lexeme, ReservedKeyword, Spanned, StartsZero, UnfinishedFStringExpression, UnfinishedStringLiteral, moved}
+use Rattle.starlark_grammar.specs.Pieces.{Before, Fails, Piece}
+use Rattle.starlark_grammar.specs.Reading.{History, after, after_all, next_step, outcome_after, pieces_len}
+use Rattle.starlark_grammar.specs.Tokens.{EmptyEscapeSequence, Fault, Indentation, InvalidEscapeSequence, InvalidInput, InvalidTab, Lexeme, ReservedKeyword, Spanned, StartsZero, UnfinishedFStringExpression, UnfinishedStringLiteral}
 use Rattle.starlark_grammar.specs.Words.{Text, language}
-use Rattle.starlark_grammar.proofs.KeptLines.Faults.{CodeFault, code_fault, first_fault, is_in_text}
+use Rattle.starlark_grammar.proofs.KeptLines.Faults.{CodeFault, code_fault, first_fault}
 use Rattle.starlark_grammar.proofs.Reading.Onward.{StopsAt, later_some, stops_at}
 use Rattle.starlark_grammar.proofs.Reading.Readings.{piece_fits, started}
 use Rattle.starlark_grammar.proofs.Reading.Steps.{is_nothing}
@@ -145,9 +144,3 @@ kept_end history text fault keeps = go (is_tab fault.node) refl
     go : (tab : Bool) → is_tab fault.node ≡ tab → fault.end ≤ (if tab then fault.begin + prefix_len (nat_eq 9) (drop fault.begin text) else fault.end)
     go false e = omega arith
     go true e = omega (arith, (is.code.word.tab (ap (λ (f : Spanned Fault). is_tab f.node) is.here.same ∙ e)).1, is.here.end, is.start)
-
--- and it is in code
-pub kept_in_code : (history : History) (text : Text) (fault : Spanned Fault) → KeepsLine history text fault → is_in_text (mode_after (history_after history text).tokens) ≡ false
-kept_in_code history text fault keeps =
-    let is = place history text fault keeps in
-    ap (λ (h : History). is_in_text (mode_after h.tokens)) is.here.past ∙ is.code.in_code

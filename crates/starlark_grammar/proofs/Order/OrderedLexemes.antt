@@ -364,7 +364,7 @@ by_place_order s AtTop text = in_code_order s text
 by_place_order s Deeper text = in_code_order s text
 
 by_before_order : (s : Situation) (before : Before) (text : Text) → StepOrdered text (by_before language s before text)
-by_before_order s Nothing text = margin_step_order text 0 [] [] (omega arith, gap_none text 0)
+by_before_order s Nothing text = margin_step_order text 0 [] s.levels (omega arith, gap_none text 0)
 by_before_order s Layout text = by_place_order s s.mode text
 by_before_order s Gap text = by_place_order s s.mode text
 by_before_order s Other text = by_place_order s s.mode text

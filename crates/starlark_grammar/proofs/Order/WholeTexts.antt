@@ -301,7 +301,7 @@ by_place_bounded s AtTop text utf8 = in_code_bounded s text utf8
 by_place_bounded s Deeper text utf8 = in_code_bounded s text utf8
 
 by_before_bounded : (s : Situation) (before : Before) (text : Text) → IsUtf8 text → StepBounded text (by_before language s before text)
-by_before_bounded s Nothing text utf8 = margin_step_bounded text 0 [] [] utf8 (IsCharBoundary-start text utf8) tt
+by_before_bounded s Nothing text utf8 = margin_step_bounded text 0 [] s.levels utf8 (IsCharBoundary-start text utf8) tt
 by_before_bounded s Layout text utf8 = by_place_bounded s s.mode text utf8
 by_before_bounded s Gap text utf8 = by_place_bounded s s.mode text utf8
 by_before_bounded s Other text utf8 = by_place_bounded s s.mode text utf8

@@ -1,10 +1,11 @@
 -- Readings and outcomes after a history.
-use Rattle.std.proofs.Common.{◌≡◌, ℕ, ◌+◌, ◌≤◌, true, false, List, [], ◌∷◌, length, drop, refl, ap, ◌∙◌, sym, arith, Some, None}
+use Rattle.std.proofs.Common.{◌≡◌, ◌+◌, ◌≤◌, true, false, List, [], ◌∷◌, length, drop, refl, ap, ◌∙◌, sym, arith, Some}
 use Rattle.std.proofs.lemmas.List.{length-drop}
 use Rattle.starlark_grammar.specs.FoundLaws.{OutcomeAfterNothing}
 use Rattle.starlark_grammar.specs.Longest.{IsLongestReading, IsReading}
-use Rattle.starlark_grammar.specs.Pieces.{Ends, Fails, Piece, Stands, Step}
-use Rattle.starlark_grammar.specs.Reading.{History, after, after_all, history_after, next_step, nothing, outcome, outcome_after, outcome_in, pieces_len, read, read_after, reading_outcome}
+use Rattle.starlark_grammar.specs.Margins.{open_widths}
+use Rattle.starlark_grammar.specs.Pieces.{Before, Ends, Fails, Gap, Layout, Nothing, Other, Piece, Stands, Step, by_before, first_margin, step_at}
+use Rattle.starlark_grammar.specs.Reading.{History, after, after_all, history_after, next_step, outcome, outcome_after, outcome_in, pieces_len, read, read_after, reading_outcome, situation}
 use Rattle.starlark_grammar.specs.Tokens.{Fault, Outcome, Spanned, moved}
 use Rattle.starlark_grammar.specs.Words.{Text, language}
 use Rattle.starlark_grammar.proofs.Reading.Readings.{fault_fits, one_longest, piece_fits, read_after_is, reading_fits, started}
@@ -37,9 +38,16 @@ after_by history text pieces last longest =
     let same = one_longest language history text (pieces_after history text) pieces (last_after history text) last (longest_after history text) longest in
     (ap (λ ps. reading_outcome history text ps (last_after history text)) same.0 ∙ ap (reading_outcome history text pieces) same.1, ap (after_all history) same.0)
 
--- a history that is at a text's start is that of nothing
-abbrev pub Starts : History → Type 0
-Starts history = is_nothing history.before ≡ true → history ≡ nothing
+-- at the start of a text, or of a line where lexing begins again, the first margin stands
+pub first_step_after : (history : History) (text : Text) → is_nothing history.before ≡ true → next_step language history text ≡ first_margin (open_widths history.widths) text
+unfolding next_step situation step_at
+first_step_after history text none = go history.before none
+  where
+    go : (before : Before) → is_nothing before ≡ true → by_before language (situation history) before text ≡ first_margin (open_widths history.widths) text
+    go Nothing none = refl
+    go Layout none = cc
+    go Gap none = cc
+    go Other none = cc
 
 -- what is after a piece is not the start of a text
 pub later_some : (history : History) (text : Text) (pieces : List Piece) → is_nothing history.before ≡ false → IsReading language history text pieces → is_nothing (after_all history pieces).before ≡ false

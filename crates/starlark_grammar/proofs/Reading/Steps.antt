@@ -190,7 +190,7 @@ least_len Nothing = 0
 least_len before = 1
 
 by_before_fits : (table : Table) (s : Situation) (before : Before) (text : Text) → StepFits (least_len before) text (by_before table s before text)
-by_before_fits table s Nothing text = margin_step_fits 0 0 [] [] (margin_of text) text (omega arith) (let fits = margin_fits text in omega arith)
+by_before_fits table s Nothing text = margin_step_fits 0 0 [] s.levels (margin_of text) text (omega arith) (let fits = margin_fits text in omega arith)
 by_before_fits table s Layout text = by_place_fits table s s.mode text
 by_before_fits table s Gap text = by_place_fits table s s.mode text
 by_before_fits table s Other text = by_place_fits table s s.mode text

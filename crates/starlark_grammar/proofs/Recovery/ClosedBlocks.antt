@@ -3,7 +3,7 @@ use Rattle.std.proofs.Common.{◌≡◌, ℕ, zero, suc, ◌+◌, ◌<◌, Bool,
 use Rattle.std.specs.Prelude.{◌&&◌, ◌||◌, ◌==◌, if◌then◌else◌, count_by, sum_by, take_while, option_to_list}
 use Rattle.std.specs.List.{list_all, onto_first}
 use Rattle.std.specs.Str.{byte}
-use Rattle.std.proofs.lemmas.Bool.{and_parts, both_ways}
+use Rattle.std.proofs.lemmas.Bool.{and_parts}
 use Rattle.std.proofs.lemmas.Bool.Decides.{nat_tests}
 use Rattle.std.proofs.lemmas.List.{length-drop, map-append}
 use Rattle.std.proofs.lemmas.List.Folds.{list_all-append}
@@ -120,10 +120,10 @@ closed_margin len lexemes levels text more piece whole stands reach begins posit
     go (Within some less f) = absurd (omega (arith, less, reach, margin_step_len len lexemes levels (margin_of text) piece stands))
 
 -- the last piece, by the situation
-closed_step : (s : Situation) (text more : Text) (piece : Piece) → ends_line text ≡ true → (is_nothing s.before ≡ true → s.levels ≡ []) → list_all (nat_lt 0) s.levels ≡ true → is_layout piece.sort ≡ true → piece.len ≡ length text → step_at language s text ≡ Stands piece → begins_plainly more ≡ true
+closed_step : (s : Situation) (text more : Text) (piece : Piece) → ends_line text ≡ true → list_all (nat_lt 0) s.levels ≡ true → is_layout piece.sort ≡ true → piece.len ≡ length text → step_at language s text ≡ Stands piece → begins_plainly more ≡ true
     → (step_at language s (text ++ more) ≡ Stands (closing_piece (length s.levels) piece)) × (piece.width ≡ None)
 unfolding step_at
-closed_step s text more piece ends fresh positive laid reach stands begins = go s.before refl stands
+closed_step s text more piece ends positive laid reach stands begins = go s.before refl stands
   where
     Claim : Before → Type 0
     Claim before = (by_before language s before (text ++ more) ≡ Stands (closing_piece (length s.levels) piece)) × (piece.width ≡ None)
@@ -135,13 +135,8 @@ closed_step s text more piece ends fresh positive laid reach stands begins = go 
         let found = closed_margin len (record { begin = 0; node = Newline; end = len } ∷ []) s.levels (drop end.len text) more piece (whole_after end.len text (whole_from_ends text ends)) end.stands (omega (arith, reach, end.total)) begins positive in
         (end.step ∙ found.0, found.1)
 
-    first : s.levels ≡ [] → by_before language s Nothing text ≡ Stands piece → Claim Nothing
-    first none e =
-        let found = closed_margin 0 [] [] text more piece (whole_from_ends text ends) e (omega (arith, reach)) begins refl in
-        (found.0 ∙ ap (λ (levels : List ℕ). Stands (closing_piece (length levels) piece)) (sym none), found.1)
-
     go : (before : Before) → s.before ≡ before → by_before language s before text ≡ Stands piece → Claim before
-    go Nothing same e = first (fresh (ap is_nothing same)) e
+    go Nothing same e = closed_margin 0 [] s.levels text more piece (whole_from_ends text ends) e (omega (arith, reach)) begins positive
     go Layout same e = subst Claim same (later (ap is_nothing same))
     go Gap same e = subst Claim same (later (ap is_nothing same))
     go Other same e = subst Claim same (later (ap is_nothing same))
@@ -172,7 +167,7 @@ abbrev pub with_dedents : ℕ → List Token → List Token
 with_dedents zero tokens = tokens
 with_dedents (suc count) tokens = with_dedents count (Dedent ∷ tokens)
 
-onto_dedents : (tokens : List Token) (count at : ℕ) → tokens_onto tokens (dedents count at) ≡ with_dedents count tokens
+pub onto_dedents : (tokens : List Token) (count at : ℕ) → tokens_onto tokens (dedents count at) ≡ with_dedents count tokens
 onto_dedents tokens zero at = refl
 onto_dedents tokens (suc count) at = onto_dedents (Dedent ∷ tokens) count at
 
@@ -218,11 +213,11 @@ no_cons : (p : Piece) (ps : List Piece) → p ∷ ps ≡ [] → ⊥
 no_cons p ps e = cc
 
 -- the last piece alone
-close_last : (history : History) (text more : Text) (piece : Piece) → ends_line text ≡ true → next_step language history text ≡ Stands piece → piece.len ≡ length text → is_layout piece.sort ≡ true → (is_nothing history.before ≡ true → open_widths history.widths ≡ []) → begins_plainly more ≡ true
+close_last : (history : History) (text more : Text) (piece : Piece) → ends_line text ≡ true → next_step language history text ≡ Stands piece → piece.len ≡ length text → is_layout piece.sort ≡ true → begins_plainly more ≡ true
     → Closed history text more (piece ∷ [])
 unfolding next_step situation after
-close_last history text more piece ends stands reach laid fresh begins =
-    let found = closed_step (situation history) text more piece ends fresh (positive history.widths) laid reach stands begins in
+close_last history text more piece ends stands reach laid begins =
+    let found = closed_step (situation history) text more piece ends (positive history.widths) laid reach stands begins in
     let widths : history.widths ≡ history.widths ++ option_to_list piece.width = sym (ap (λ w. history.widths ++ option_to_list w) found.1 ∙ append-nil history.widths) in
     let count = length (open_widths history.widths) in
     let last = closing_piece count piece in
@@ -243,20 +238,20 @@ close_last history text more piece ends stands reach laid fresh begins =
     }
 
 -- All pieces but the last stay, and the last closes the blocks.
-pub close_reading : (history : History) (text more : Text) (pieces : List Piece) → ends_line text ≡ true → ¬ (pieces ≡ []) → IsReading language history text pieces → pieces_len pieces ≡ length text → is_layout (after_all history pieces).before ≡ true → (is_nothing history.before ≡ true → open_widths history.widths ≡ []) → begins_plainly more ≡ true
+pub close_reading : (history : History) (text more : Text) (pieces : List Piece) → ends_line text ≡ true → ¬ (pieces ≡ []) → IsReading language history text pieces → pieces_len pieces ≡ length text → is_layout (after_all history pieces).before ≡ true → begins_plainly more ≡ true
     → Closed history text more pieces
 unfolding after
-close_reading history text more [] ends some reads reach laid fresh begins = absurd (some refl)
-close_reading history text more (piece ∷ []) ends some reads reach laid fresh begins =
-    close_last history text more piece ends reads.0 (omega (arith, reach, sum_by-cons (λ (piece : Piece). piece.len) piece [])) (sort laid) fresh begins
+close_reading history text more [] ends some reads reach laid begins = absurd (some refl)
+close_reading history text more (piece ∷ []) ends some reads reach laid begins =
+    close_last history text more piece ends reads.0 (omega (arith, reach, sum_by-cons (λ (piece : Piece). piece.len) piece [])) (sort laid) begins
   where
     sort : is_layout (after history piece).before ≡ true → is_layout piece.sort ≡ true
     sort h = h
-close_reading history text more (piece ∷ next ∷ pieces) ends some reads reach laid fresh begins =
+close_reading history text more (piece ∷ next ∷ pieces) ends some reads reach laid begins =
     let total = sum_by-cons (λ (piece : Piece). piece.len) piece (next ∷ pieces) in
     let less = inside history text piece next reads.0 reads.1.0 in
     let begun = started history piece (piece_fits language history text piece reads.0).sort in
-    let rest = close_reading (after history piece) (drop piece.len text) more (next ∷ pieces) (ends_line_drop piece.len text less ends) (no_cons next pieces) reads.1 (omega (arith, reach, total, length-drop piece.len text)) laid (λ e. absurd (both_ways _ begun e)) begins in
+    let rest = close_reading (after history piece) (drop piece.len text) more (next ∷ pieces) (ends_line_drop piece.len text less ends) (no_cons next pieces) reads.1 (omega (arith, reach, total, length-drop piece.len text)) laid begins in
     record {
       pieces' = piece ∷ rest.pieces';
       some = no_cons piece rest.pieces';

@@ -5,61 +5,60 @@ use Rattle.std.specs.List.{prefix_len, starts_with}
 use Rattle.std.proofs.lemmas.Bool.{and_parts, eqb-true, ltb-true}
 use Rattle.std.proofs.lemmas.List.{drop-append-le, length-drop}
 use Rattle.std.proofs.lemmas.List.Sums.{sum_by-cons}
-use Rattle.starlark_grammar.specs.Words.{Text, language}
-use Rattle.starlark_grammar.specs.Tokens.{Spanned, Fault, Lexeme, moved, Outcome}
 use Rattle.starlark_grammar.specs.Inner.KeptFaults.{is_in_margin}
-use Rattle.starlark_grammar.specs.Margins.{begins_with_line_end, Margin, is_lf, margin_of, margin_len}
-use Rattle.starlark_grammar.specs.Pieces.{Before, Fails, Gap, Layout, Nothing, Other, Piece, first_margin, margin_step}
-use Rattle.starlark_grammar.specs.Reading.{History, after_all, history_after, lexemes_before, next_step, nothing, outcome, outcome_after, pieces_len}
+use Rattle.starlark_grammar.specs.Words.{Text}
+use Rattle.starlark_grammar.specs.Tokens.{Spanned, Fault, Lexeme, moved, Outcome}
+use Rattle.starlark_grammar.specs.Margins.{begins_with_line_end, Margin, is_lf, margin_of, margin_len, open_widths}
+use Rattle.starlark_grammar.specs.Pieces.{Before, Fails, Gap, Layout, Nothing, Other, Piece, first_margin}
+use Rattle.starlark_grammar.specs.Reading.{History, after_all, history_after, lexemes_before, nothing, outcome_after, pieces_len}
 use Rattle.starlark_grammar.proofs.Lists.{drop-sum}
 use Rattle.starlark_grammar.proofs.Literals.Bodies.{starts_fits}
-use Rattle.starlark_grammar.proofs.Reading.Onward.{Starts, StopsAt, after_by, outcome_after_nothing, stops_at}
+use Rattle.starlark_grammar.proofs.Reading.Onward.{StopsAt, after_by, first_step_after, outcome_after_nothing, stops_at}
 use Rattle.starlark_grammar.proofs.Reading.Steps.{is_nothing}
 use Rattle.starlark_grammar.proofs.Joining.Followed.{ends_line, ends_line_drop, ends_line_of}
 use Rattle.starlark_grammar.proofs.Joining.FollowedMargins.{Followed, Whole, Within, followed, whole_after}
 use Rattle.starlark_grammar.proofs.Joining.Joined.{margin_step_len, whole_from_ends}
-use Rattle.starlark_grammar.proofs.Joining.Tabs.{first_step}
 use Rattle.starlark_grammar.specs.Joining.{DecidedFaultsStay, is_decided}
 use Rattle.starlark_grammar.specs.Recovery.{is_margin_tab, is_tab, line_end_len, margin_line, next_line, restart, stopped_at}
 use Rattle.starlark_grammar.proofs.Recovery.FollowedFaults.{FaultStays, fault_stays, margin_within}
-use Rattle.starlark_grammar.proofs.Recovery.MarginTabs.{LineFails, TabAt, begins_with_tab, line_end_stands, line_is, no_line_end, tab_next, tab_no_line}
+use Rattle.starlark_grammar.proofs.Recovery.MarginTabs.{FirstFails, LineFails, TabAt, begins_with_tab, line_end_stands, line_is, no_line_end, tab_next, tab_no_line}
 
 abbrev pub fault_stays_here : {history : History} {text : Text} {fault : Spanned Fault} (here : StopsAt history text fault) → FaultStays history text here.pieces here.found
 fault_stays_here here = record { reads = here.longest.reads; fails = here.longest.stands_last }
 
 -- Outcomes
 
-before_same : (history : History) (text more : Text) (pieces : List Piece) (found : Spanned Fault) → Starts history → ends_line text ≡ true → FaultStays history text pieces found
+before_same : (history : History) (text more : Text) (pieces : List Piece) (found : Spanned Fault) → ends_line text ≡ true → FaultStays history text pieces found
     → lexemes_before history.before (text ++ more) pieces ≡ lexemes_before history.before text pieces
-before_same history text more (piece ∷ pieces) found start ends stays = by history.before
+before_same history text more (piece ∷ pieces) found ends stays = by history.before
   where
     by : (before : Before) → lexemes_before before (text ++ more) (piece ∷ pieces) ≡ lexemes_before before text (piece ∷ pieces)
     by Nothing = refl
     by before = refl
-before_same history text more [] found start ends stays = by history.before refl
+before_same history text more [] found ends stays = by history.before refl
   where
     by : (before : Before) → history.before ≡ before → lexemes_before before (text ++ more) [] ≡ lexemes_before before text []
     by Nothing e = go (followed text more (whole_from_ends text ends))
       where
-        fails : margin_step 0 [] [] (margin_of text) ≡ Fails found
-        fails = sym (first_step text) ∙ sym (ap (λ (h : History). next_step language h text) (start (ap is_nothing e))) ∙ stays.fails
+        fails : first_margin (open_widths history.widths) text ≡ Fails found
+        fails = sym (first_step_after history text (ap is_nothing e)) ∙ stays.fails
 
         go : Followed text more → (margin_of (text ++ more)).comments ≡ (margin_of text).comments
-        go (Whole e f) = absurd (margin_within 0 [] [] text found e fails)
+        go (Whole e f) = absurd (margin_within 0 [] (open_widths history.widths) text found e fails)
         go (Within some less f) = ap (λ (m : Margin). m.comments) f
     by Layout e = refl
     by Gap e = refl
     by Other e = refl
 
-pub outcome_stays : (history : History) (text more : Text) (fault : Spanned Fault) → Starts history → ends_line text ≡ true → StopsAt history text fault → fault.end < length text
+pub outcome_stays : (history : History) (text more : Text) (fault : Spanned Fault) → ends_line text ≡ true → StopsAt history text fault → fault.end < length text
     → (outcome_after history (text ++ more) ≡ outcome_after history text) × (history_after history (text ++ more) ≡ history_after history text)
-outcome_stays history text more fault start ends here less =
+outcome_stays history text more fault ends here less =
     let end = here.end in
     let stays = fault_stays history text more here.pieces here.found ends (fault_stays_here here) (omega (arith, less, end)) in
     let both = after_by history (text ++ more) here.pieces (Fails here.found) (record { reads = stays.reads; stands_last = stays.fails; no_piece = λ piece e. cc }) in
     let past = here.past in (
       both.0
-          ∙ ap (λ (ls : List Lexeme). let o : Outcome = record { lexemes = ls; fault = Some (moved (pieces_len here.pieces) here.found) } in o) (before_same history text more here.pieces here.found start ends (fault_stays_here here))
+          ∙ ap (λ (ls : List Lexeme). let o : Outcome = record { lexemes = ls; fault = Some (moved (pieces_len here.pieces) here.found) } in o) (before_same history text more here.pieces here.found ends (fault_stays_here here))
           ∙ sym here.is,
       both.1 ∙ sym past,
     )
@@ -130,13 +129,13 @@ margin_line_stays text more at h inside some = go (followed (drop at text) more 
     )
 
 -- a text whose fault isn't at its end isn't comment-only lines alone
-some_content : (text : Text) (fault : Spanned Fault) → StopsAt nothing text fault → fault.end < length text → IsRest text → ⊥
-some_content text fault here less whole = go here.pieces here.found (fault_stays_here here) here.end
+some_content : (history : History) (text : Text) (fault : Spanned Fault) → is_nothing history.before ≡ true → StopsAt history text fault → fault.end < length text → IsRest text → ⊥
+some_content history text fault begun here less whole = go here.pieces here.found (fault_stays_here here) here.end
   where
-    go : (pieces : List Piece) (found : Spanned Fault) → FaultStays nothing text pieces found → pieces_len pieces + found.end ≡ fault.end → ⊥
-    go [] found stays end = margin_within 0 [] [] text found whole (sym (first_step text) ∙ stays.fails)
+    go : (pieces : List Piece) (found : Spanned Fault) → FaultStays history text pieces found → pieces_len pieces + found.end ≡ fault.end → ⊥
+    go [] found stays end = margin_within 0 [] (open_widths history.widths) text found whole (sym (first_step_after history text begun) ∙ stays.fails)
     go (piece ∷ pieces) found stays end =
-        let len = margin_step_len 0 [] [] (margin_of text) piece (sym (first_step text) ∙ stays.reads.0) in
+        let len = margin_step_len 0 [] (open_widths history.widths) (margin_of text) piece (sym (first_step_after history text begun) ∙ stays.reads.0) in
         let total = sum_by-cons (λ (piece : Piece). piece.len) piece pieces in
         omega (arith, less, end, len, total, ap margin_len whole)
 
@@ -145,8 +144,8 @@ abbrev pub InMargin : History → Text → Spanned Fault → Type 0
 InMargin history text fault = is_margin_tab text fault ≡ true → is_in_margin history.before text fault.begin ≡ true
 
 -- after the line end of a tab's margin there is content
-tab_content : (history : History) (text : Text) (fault : Spanned Fault) → Starts history → InMargin history text fault → StopsAt history text fault → fault.end < length text → is_margin_tab text fault ≡ true → IsRest (drop (fault.begin + line_end_len (drop fault.begin text)) text) → ⊥
-tab_content history text fault starts margin here less tab whole = go (begins_with_line_end (drop fault.begin text)) refl
+tab_content : (history : History) (text : Text) (fault : Spanned Fault) → InMargin history text fault → StopsAt history text fault → fault.end < length text → is_margin_tab text fault ≡ true → IsRest (drop (fault.begin + line_end_len (drop fault.begin text)) text) → ⊥
+tab_content history text fault margin here less tab whole = go (begins_with_line_end (drop fault.begin text)) refl
   where
     parts : (is_tab fault.node ≡ true) × ((fault.begin == 0 || begins_with_line_end (drop fault.begin text)) ≡ true)
     parts = and_parts (is_tab fault.node) _ tab
@@ -166,7 +165,7 @@ tab_content history text fault starts margin here less tab whole = go (begins_wi
         let no_len : line_end_len (drop fault.begin text) ≡ 0 = no_line_end (drop fault.begin text) none in
         let start : fault.begin + line_end_len (drop fault.begin text) ≡ 0 = omega (arith, zero_begin, no_len) in
         let begun : is_nothing history.before ≡ true = begun_of (is_nothing history.before) (fault.begin == 0) (begins_with_line_end (drop fault.begin text)) none (margin tab) in
-        some_content text fault (subst (λ (h : History). StopsAt h text fault) (starts begun) here) less (subst (λ n. IsRest (drop n text)) start whole)
+        some_content history text fault begun here less (subst (λ n. IsRest (drop n text)) start whole)
       where
         begun_of : (begun zero line : Bool) → line ≡ false → (begun && zero || line) ≡ true → begun ≡ true
         begun_of true zero line e h = refl
@@ -177,7 +176,7 @@ tab_content history text fault starts margin here less tab whole = go (begins_wi
         first_of false y e h = let wrong : true ≡ false = sym h ∙ e in cc
     go true line = by at.stands
       where
-        by : (first_margin (drop (pieces_len here.pieces) text) ≡ Fails here.found) ⊎ ((begins_with_tab (drop (pieces_len here.pieces) text) ≡ true) ⊎ LineFails (drop (pieces_len here.pieces) text) here.found) → ⊥
+        by : FirstFails (drop (pieces_len here.pieces) text) here.found ⊎ ((begins_with_tab (drop (pieces_len here.pieces) text) ≡ true) ⊎ LineFails (drop (pieces_len here.pieces) text) here.found) → ⊥
         by (inl first) = line_end_stands (drop (pieces_len here.pieces) text) here.found (ap begins_with_line_end place ∙ line) first
         by (inr (inl tab)) = let wrong : true ≡ false = sym (ap begins_with_line_end place ∙ line) ∙ tab_no_line (drop (pieces_len here.pieces) text) tab in cc
         by (inr (inr fails)) =
@@ -196,9 +195,9 @@ line_len_fits text = by (starts_with nat_eq text (codes "\n")) (starts_with nat_
     by false true h k = k refl
     by false false h k = omega arith
 
-stopped_stays : (history : History) (text more : Text) (fault : Spanned Fault) → Starts history → InMargin history text fault → ends_line text ≡ true → StopsAt history text fault → fault.end < length text → (stopped_at (text ++ more) fault ≡ stopped_at text fault) × (stopped_at text fault < length text)
+stopped_stays : (history : History) (text more : Text) (fault : Spanned Fault) → InMargin history text fault → ends_line text ≡ true → StopsAt history text fault → fault.end < length text → (stopped_at (text ++ more) fault ≡ stopped_at text fault) × (stopped_at text fault < length text)
 unfolding stopped_at
-stopped_stays history text more fault starts margin h here less =
+stopped_stays history text more fault margin h here less =
     let found = by (is_margin_tab text fault) refl in
     (ap (λ tab. stop tab (margin_line (text ++ more) (fault.begin + line_end_len (drop fault.begin (text ++ more))))) tabs ∙ found.0, found.1)
   where
@@ -223,7 +222,7 @@ stopped_stays history text more fault starts margin h here less =
     by true e =
         let order = here.order in
         let inside : fault.begin + line_end_len (drop fault.begin text) ≤ length text = omega (arith, order, less, line_len_fits (drop fault.begin text), length-drop fault.begin text) in
-        let line = margin_line_stays text more (fault.begin + line_end_len (drop fault.begin text)) h inside (tab_content history text fault starts margin here less e) in
+        let line = margin_line_stays text more (fault.begin + line_end_len (drop fault.begin text)) h inside (tab_content history text fault margin here less e) in
         let last = line.1 in (
           ap (λ n. stop true (margin_line (text ++ more) (fault.begin + n))) len ∙ ap (stop true) line.0,
           omega (arith, less, last),
@@ -236,17 +235,17 @@ decided text fault h =
     (ltb-true fault.end (length text) parts.0, ends_line_of text parts.1)
 
 -- where lexing begins again after a fault that is no tab in code
-pub restart_stays : (history : History) (text more : Text) (fault : Spanned Fault) → Starts history → InMargin history text fault → StopsAt history text fault → is_decided text fault ≡ true → restart (text ++ more) fault ≡ restart text fault
+pub restart_stays : (history : History) (text more : Text) (fault : Spanned Fault) → InMargin history text fault → StopsAt history text fault → is_decided text fault ≡ true → restart (text ++ more) fault ≡ restart text fault
 unfolding restart
-restart_stays history text more fault starts margin here is =
+restart_stays history text more fault margin here is =
     let parts = decided text fault is in
-    let stopped = stopped_stays history text more fault starts margin parts.1 here parts.0 in
+    let stopped = stopped_stays history text more fault margin parts.1 here parts.0 in
     ap (next_line (text ++ more)) stopped.0 ∙ next_line_stays text more (stopped_at text fault) parts.1 stopped.1
 
 pub decided_faults_stay : DecidedFaultsStay
 decided_faults_stay text more fault has is =
     let here = stops_at nothing text fault (ap (λ (o : Outcome). o.fault) (outcome_after_nothing text) ∙ has) in
     let parts = decided text fault is in (
-      sym (outcome_after_nothing (text ++ more)) ∙ (outcome_stays nothing text more fault (λ e. refl) parts.1 here parts.0).0 ∙ outcome_after_nothing text,
-      restart_stays nothing text more fault (λ e. refl) (λ e. (and_parts (is_tab fault.node) _ e).1) here is,
+      sym (outcome_after_nothing (text ++ more)) ∙ (outcome_stays nothing text more fault parts.1 here parts.0).0 ∙ outcome_after_nothing text,
+      restart_stays nothing text more fault (λ e. (and_parts (is_tab fault.node) _ e).1) here is,
     )

@@ -15,19 +15,18 @@ use Rattle.starlark_grammar.specs.Items.{Stop, Closing, Line, Ended, OpeningBrac
 use Rattle.starlark_grammar.specs.Depths.{Mode}
 use Rattle.starlark_grammar.specs.Margins.{Margin, margin_of, margin_len, is_content, has_tab, width_of, fits, is_widest, indentation, begins_with_line_end}
 use Rattle.starlark_grammar.specs.Gaps.{InOrder}
-use Rattle.starlark_grammar.specs.Pieces.{Before, Nothing, Layout, Gap, Other, Piece, Step, Stands, Fails, Situation, token, margin_step, first_margin, more_quotes, opening_of, escape_fault, literal_by, opener, chunk_text, chunk_piece, chunk_by, chunk, counts, starts_zero, word_step, front_step, takes_bang, is_bang, in_code, by_mode, by_before, step_at}
+use Rattle.starlark_grammar.specs.Pieces.{Before, Nothing, Layout, Gap, Other, Piece, Step, Stands, Fails, Situation, token, margin_step, more_quotes, opening_of, escape_fault, literal_by, opener, chunk_text, chunk_piece, chunk_by, chunk, counts, starts_zero, word_step, front_step, takes_bang, is_bang, in_code, by_mode, by_before, step_at}
 use Rattle.starlark_grammar.specs.Reading.{History, nothing, after, situation, next_step, pieces_len, lexemes_along, lexemes_before, outcome_after}
 use Rattle.starlark_grammar.specs.Longest.{IsReading}
 use Rattle.starlark_grammar.proofs.Literals.LiteralSteps.{by_mode_holds}
 use Rattle.starlark_grammar.proofs.Choices.{either}
-use Rattle.starlark_grammar.proofs.Joining.Tabs.{first_step}
 use Rattle.starlark_grammar.proofs.Order.Gaps.{gap_none}
 use Rattle.starlark_grammar.proofs.Order.OrderedLexemes.{margin_gap, margin_order}
 use Rattle.starlark_grammar.proofs.Reading.Steps.{Each, margin_fits, is_nothing}
-use Rattle.starlark_grammar.proofs.Reading.Onward.{Starts, StopsAt, outcome_after_nothing, stops_at}
+use Rattle.starlark_grammar.proofs.Reading.Onward.{StopsAt, outcome_after_nothing, stops_at}
 use Rattle.starlark_grammar.proofs.Recovery.DecidedFaults.{fault_stays_here}
 use Rattle.starlark_grammar.proofs.Recovery.FollowedFaults.{FaultStays, fault_end, same_fault}
-use Rattle.starlark_grammar.proofs.Recovery.MarginTabs.{line_end_stands, no_line_end}
+use Rattle.starlark_grammar.proofs.Recovery.MarginTabs.{FirstFails, tab_first, line_end_stands, no_line_end}
 use Rattle.starlark_grammar.proofs.Recovery.RestartBounds.{restart_bounds}
 use Rattle.starlark_grammar.specs.Recovery.{is_margin_tab, is_tab, line_end_len, margin_line, next_line, restart, stopped_at}
 use Rattle.starlark_grammar.specs.RecoveryLaws.{LexemesBeforeFaults}
@@ -167,7 +166,7 @@ by_mode_ends : (s : Situation) (mode : Mode) (text : Text) → StepEnds (by_mode
 by_mode_ends s mode text = by_mode_holds StepEnds s mode text (in_code_ends s text) (λ opening. chunk_ends opening text)
 
 by_before_ends : (s : Situation) (before : Before) (text : Text) → StepEnds (by_before language s before text)
-by_before_ends s Nothing text = margin_step_ends 0 [] [] (margin_of text) tt (comments_end text)
+by_before_ends s Nothing text = margin_step_ends 0 [] s.levels (margin_of text) tt (comments_end text)
 by_before_ends s Layout text = by_mode_ends s s.mode text
 by_before_ends s Gap text = by_mode_ends s s.mode text
 by_before_ends s Other text = by_mode_ends s s.mode text
@@ -208,9 +207,9 @@ stopped_margin text fault begin node none =
     omega (arith, line, stop)
 
 -- the fault of a first margin: a tab's, or one that has the margin's bytes
-margin_fault : (margin : Margin) (found : Spanned Fault) → margin_step 0 [] [] margin ≡ Fails found → ((found.begin ≡ 0) × (is_tab found.node ≡ true)) ⊎ (margin_len margin ≤ found.end)
+margin_fault : (levels : List ℕ) (margin : Margin) (found : Spanned Fault) → margin_step 0 [] levels margin ≡ Fails found → ((found.begin ≡ 0) × (is_tab found.node ≡ true)) ⊎ (margin_len margin ≤ found.end)
 unfolding margin_step
-margin_fault margin found e = go (not (is_content margin.remainder)) (has_tab margin) (fits (width_of margin) []) _ _ e
+margin_fault levels margin found e = go (not (is_content margin.remainder)) (has_tab margin) (fits (width_of margin) levels) _ _ e
   where
     go : (blank tab fitting : Bool) (one other : Piece)
         → (if blank then Stands one else (if tab then Fails (record { begin = 0; node = InvalidTab; end = 0 }) else (if fitting then Stands other else Fails (record { begin = 0; node = Indentation; end = 0 + margin_len margin })))) ≡ Fails found
@@ -223,16 +222,16 @@ margin_fault margin found e = go (not (is_content margin.remainder)) (has_tab ma
     go false false false one other e = let end = fault_end _ found e in inr (omega (arith, end))
 
 -- the lexemes before a fault end before lexing begins again
-pub lexemes_before_restart : (history : History) (text : Text) (fault : Spanned Fault) → Starts history → StopsAt history text fault → EndBy (restart text fault) (outcome_after history text).lexemes
-lexemes_before_restart history text fault starts here = subst (λ (o : Outcome). EndBy (restart text fault) o.lexemes) (sym here.is) (by here.pieces here.found (fault_stays_here here) here.same)
+pub lexemes_before_restart : (history : History) (text : Text) (fault : Spanned Fault) → StopsAt history text fault → EndBy (restart text fault) (outcome_after history text).lexemes
+lexemes_before_restart history text fault here = subst (λ (o : Outcome). EndBy (restart text fault) o.lexemes) (sym here.is) (by here.pieces here.found (fault_stays_here here) here.same)
   where
     -- after the end of the fault
     past_end : fault.end ≤ restart text fault
     past_end = (restart_bounds text fault here.inside).0
 
     -- what ends before the last line of the first margin
-    comments : (found : Spanned Fault) → first_margin text ≡ Fails found → moved 0 found ≡ fault → (margin_of text).at ≤ restart text fault
-    comments found fails same = go (margin_fault (margin_of text) found fails)
+    comments : (found : Spanned Fault) → FirstFails text found → moved 0 found ≡ fault → (margin_of text).at ≤ restart text fault
+    comments found fails same = go (margin_fault fails.0 (margin_of text) found fails.1)
       where
         begin : 0 + found.begin ≡ fault.begin
         begin = ap (λ (f : Spanned Fault). f.begin) same
@@ -257,7 +256,7 @@ lexemes_before_restart history text fault starts here = subst (λ (o : Outcome).
       where
         first : (before : Before) → history.before ≡ before → EndBy (restart text fault) (lexemes_before before text [])
         first Nothing e =
-            let fails : first_margin text ≡ Fails found = sym (first_step text) ∙ sym (ap (λ (h : History). next_step language h text) (starts (ap is_nothing e))) ∙ stays.fails in
+            let fails = tab_first history text found (ap is_nothing e) stays.fails in
             end_later (margin_of text).at (restart text fault) (margin_of text).comments (comments found fails same) (comments_end text)
         first Layout e = tt
         first Gap e = tt
@@ -275,4 +274,4 @@ lexemes_before_restart history text fault starts here = subst (λ (o : Outcome).
 pub lexemes_before_faults : LexemesBeforeFaults
 lexemes_before_faults text fault has =
     subst (λ (o : Outcome). EndBy (restart text fault) o.lexemes) (outcome_after_nothing text)
-    (lexemes_before_restart nothing text fault (λ e. refl) (stops_at nothing text fault (ap (λ (o : Outcome). o.fault) (outcome_after_nothing text) ∙ has)))
+    (lexemes_before_restart nothing text fault (stops_at nothing text fault (ap (λ (o : Outcome). o.fault) (outcome_after_nothing text) ∙ has)))

@@ -209,7 +209,7 @@ step_fails s text more found h e less = before s.before e
     at Deeper e = code_fails s text more found h e less
 
     before : (before : Before) → by_before language s before text ≡ Fails found → by_before language s before (text ++ more) ≡ Fails found
-    before Nothing e = margin_fails 0 [] [] text more found (whole_from_ends text h) e
+    before Nothing e = margin_fails 0 [] s.levels text more found (whole_from_ends text h) e
     before Layout e = at s.mode e
     before Gap e = at s.mode e
     before Other e = at s.mode e

@@ -9,14 +9,15 @@ use Rattle.std.proofs.Math.Seq.{drop-append-add}
 use Rattle.starlark_grammar.specs.Words.{Text, language}
 use Rattle.starlark_grammar.specs.Tokens.{Newline, Lexeme, moved, Outcome}
 use Rattle.starlark_grammar.specs.Depths.{mode_by, mode_after, open_fstring, is_balanced}
-use Rattle.starlark_grammar.specs.Margins.{open_widths}
-use Rattle.starlark_grammar.specs.Pieces.{Before, Layout, Other, Piece, Step, Stands, Fails, Ends, Situation, margin_step}
+use Rattle.starlark_grammar.specs.Margins.{lines, margin_of, open_widths}
+use Rattle.starlark_grammar.specs.Pieces.{Before, Layout, Other, Piece, Step, Stands, Fails, Ends, Situation, first_margin, margin_step, step_at}
 use Rattle.starlark_grammar.specs.Reading.{History, nothing, after, after_all, situation, next_step, pieces_len, lexemes_along, lexemes_before, closing, outcome_of, reading_outcome, outcome, outcome_after, history_after}
 use Rattle.starlark_grammar.specs.Longest.{IsReading, IsLongestReading}
 use Rattle.starlark_grammar.specs.Cuts.{is_layout, is_outside, is_newline, is_faultless}
-use Rattle.starlark_grammar.proofs.Reading.Onward.{Starts, after_by, last_after, longest_after, outcome_after_nothing, outcome_is, pieces_after}
+use Rattle.starlark_grammar.specs.Found.{at_line}
+use Rattle.starlark_grammar.proofs.Indentation.Widths.{positive}
+use Rattle.starlark_grammar.proofs.Reading.Onward.{after_by, first_step_after, last_after, longest_after, outcome_after_nothing, outcome_is, pieces_after}
 use Rattle.starlark_grammar.proofs.Reading.Readings.{one_longest, longest_onward}
-use Rattle.starlark_grammar.proofs.Reading.Steps.{is_nothing}
 use Rattle.starlark_grammar.proofs.Joining.Followed.{ends_line, ends_line_of, ends_line_some}
 use Rattle.starlark_grammar.proofs.Joining.Settled.{Settled, outside_none, remainder, widths_settled, situation_after, after_onto, next_after, all_after}
 use Rattle.starlark_grammar.proofs.Joining.Joined.{moved_both}
@@ -24,7 +25,7 @@ use Rattle.starlark_grammar.proofs.Joining.CleanCuts.{CharacterStarts, along_app
 use Rattle.starlark_grammar.proofs.Joining.Tabs.{first_step}
 use Rattle.starlark_grammar.proofs.Joining.Laws.{ends_after}
 use Rattle.starlark_grammar.specs.Joining.{is_between_lines, is_line_cut, is_line_cut_after, has_newline, without_last_newline, begins_plainly, LineCutsJoin, LineCutsOfJoined}
-use Rattle.starlark_grammar.proofs.Recovery.ClosedBlocks.{plain_content, plain_margin, closing_step, dedents, dedents_moved, open_count, closed_after, none_open_dedents, balanced_dedents, none_wider, Closed, close_reading}
+use Rattle.starlark_grammar.proofs.Recovery.ClosedBlocks.{closing_piece, onto_dedents, plain_content, plain_margin, closing_step, dedents, dedents_moved, open_count, closed_after, none_open_dedents, balanced_dedents, none_wider, Closed, close_reading}
 
 -- The last `Newline` of some lexemes
 
@@ -136,9 +137,6 @@ line_cut history text h =
     let two = and_parts (is_faultless (last_after history text)) _ one.0 in
     line_cut_of history text (pieces_after history text) (last_after history text) (longest_after history text) (outcome_is history text) two.0 two.1 (ends_line_of text one.1)
 
-pub line_cut_some : (history : History) (text : Text) → is_line_cut_after history text ≡ true → 0 < length text
-line_cut_some history text h = ends_line_some text (line_cut history text h).ends
-
 -- whether a text is a cut between lines, by a longest reading of it
 pub line_cut_by : (history : History) (text : Text) (pieces : List Piece) (last : Step) → IsLongestReading language history text pieces last
     → is_line_cut_after history text ≡ (is_faultless last && is_between_lines (after_all history pieces) && ends_with nat_eq text (codes "\n"))
@@ -223,13 +221,83 @@ closed_settled history none_open balanced = record {
 closed_alone : (history : History) → closed_after history ≡ remainder (closed_after history) margin_alone
 closed_alone history = ap (λ ws. record { tokens = (closed_after history).tokens; widths = ws; before = Layout }) (sym (append-nil (closed_after history).widths))
 
-no_fresh : (history : History) → Starts history → is_nothing history.before ≡ true → open_widths history.widths ≡ []
-unfolding open_widths
-no_fresh history starts h = ap (λ (past : History). open_widths past.widths) (starts h)
+-- What a line follows: a cut between lines, or nothing, where lexing begins again at that line.
+pub data BeforeLine : History → Text → Type 0 where
+  AfterCut : (history : History) (text : Text) → is_line_cut_after history text ≡ true → BeforeLine history text
+  AtLine : (widths : List ℕ) → BeforeLine (at_line widths) []
 
-module _ (history : History) (text more : Text) (pieces : List Piece) (fresh : Starts history) (here : LineCut history text pieces) (begins : begins_plainly more ≡ true) (there : CharacterStarts more plain_piece) where
+-- what is read before such a line, which closes all blocks if it begins plainly
+pub record Closes (history : History) (text : Text) (pieces : List Piece) : Type 0 where
+  pub none_open : open_fstring 0 (after_all history pieces).tokens ≡ None
+  pub balanced : is_balanced (after_all history pieces).tokens ≡ true
+  pub faultless : (outcome_after history text).fault ≡ None
+  pub kept : without_last_newline (outcome_after history text).lexemes ≡ lexemes_along 0 pieces ++ dedents (open_count (after_all history pieces)) (length text)
+  pub closed : (more : Text) → begins_plainly more ≡ true → Closed history text more pieces
+
+cut_closes : (history : History) (text : Text) (pieces : List Piece) → LineCut history text pieces → Closes history text pieces
+cut_closes history text pieces cut = record {
+  none_open = cut.none_open;
+  balanced = cut.balanced;
+  faultless = line_cut_faultless history text pieces cut;
+  kept = line_cut_lexemes history text pieces cut;
+  closed = λ more begins. close_reading history text more pieces cut.ends cut.some cut.reads cut.reach cut.layout begins;
+}
+
+-- the piece of no text, at the start of a line
+blank_piece : Piece
+blank_piece = record { len = 0; lexemes = []; width = None; sort = Layout }
+
+blank_margin : (levels : List ℕ) → first_margin levels [] ≡ Stands blank_piece
+unfolding margin_step margin_of lines blank_piece
+blank_margin levels = refl
+
+empty_longest : (widths : List ℕ) → IsLongestReading language (at_line widths) [] (blank_piece ∷ []) Ends
+unfolding next_step situation step_at after mode_after open_fstring blank_piece
+empty_longest widths = record { reads = (first_step_after (at_line widths) [] refl ∙ blank_margin (open_widths widths), tt); stands_last = refl; no_piece = λ piece e. cc }
+
+line_step : (widths : List ℕ) (text : Text) → begins_plainly text ≡ true → next_step language (at_line widths) text ≡ Stands (closing_piece (length (open_widths widths)) blank_piece)
+unfolding blank_piece
+line_step widths text begins =
+    first_step_after (at_line widths) text refl ∙ ap (margin_step 0 [] (open_widths widths)) (plain_margin text begins)
+    ∙ closing_step 0 [] (open_widths widths) [] 0 text (plain_content text begins) (positive widths)
+    ∙ ap (λ (ls : List Lexeme). Stands (record { len = 0; lexemes = ls; width = Some 0; sort = Layout })) (dedents_moved 0 (length (open_widths widths)) 0)
+
+pub line_closes : (widths : List ℕ) → Closes (at_line widths) [] []
+unfolding open_fstring is_balanced after blank_piece
+line_closes widths = record {
+  none_open = refl;
+  balanced = refl;
+  faultless = ap (λ (o : Outcome). o.fault) alone;
+  kept = ap (λ (o : Outcome). without_last_newline o.lexemes) alone ∙ closing_left_out [] 0 (at_line widths);
+  closed = closed;
+}
+  where
+    alone : outcome_after (at_line widths) [] ≡ record { lexemes = closing 0 (at_line widths); fault = None }
+    alone =
+        (after_by (at_line widths) [] (blank_piece ∷ []) Ends (empty_longest widths)).0
+        ∙ ap (λ (ws : List ℕ). record { lexemes = closing 0 (at_line ws); fault = None }) (append-nil widths)
+
+    closed : (more : Text) → begins_plainly more ≡ true → Closed (at_line widths) [] more []
+    closed more begins =
+        record {
+          pieces' = closing_piece (open_count (at_line widths)) blank_piece ∷ [];
+          some = λ e. cc;
+          reads = (line_step widths more begins, tt);
+          len = refl;
+          past = ap (λ ts. record { tokens = ts; widths = widths ++ 0 ∷ []; before = Layout }) (onto_dedents [] (open_count (at_line widths)) 0);
+          lexemes = λ at. append-nil (map (moved at) (dedents (open_count (at_line widths)) 0)) ∙ dedents_moved at (open_count (at_line widths)) 0;
+        }
+
+before_closes : (history : History) (text : Text) → BeforeLine history text → (pieces : List Piece) × Closes history text pieces
+before_closes _ _ (AfterCut history text cut) = (pieces_after history text, cut_closes history text (pieces_after history text) (line_cut history text cut))
+before_closes _ _ (AtLine widths) = ([], line_closes widths)
+
+pub before_faultless : (history : History) (text : Text) → BeforeLine history text → (outcome_after history text).fault ≡ None
+before_faultless history text before = let here = (before_closes history text before).1 in here.faultless
+
+module _ (history : History) (text more : Text) (pieces : List Piece) (here : Closes history text pieces) (begins : begins_plainly more ≡ true) (there : CharacterStarts more plain_piece) where
   pub closed : Closed history text more pieces
-  closed = close_reading history text more pieces here.ends here.some here.reads here.reach here.layout (no_fresh history fresh) begins
+  closed = here.closed more begins
 
   pub all_closed : Settled (closed_after (after_all history pieces))
   all_closed = closed_settled (after_all history pieces) here.none_open here.balanced
@@ -257,7 +325,7 @@ module _ (history : History) (text more : Text) (pieces : List Piece) (fresh : S
       let at : 0 + length text ≡ length text = omega arith in
       along_append 0 closed.pieces' there.pieces
       ∙ ap (λ ls. ls ++ lexemes_along (0 + pieces_len closed.pieces') there.pieces)
-      (closed.lexemes 0 ∙ ap (λ n. lexemes_along 0 pieces ++ dedents (open_count (after_all history pieces)) n) at ∙ sym (line_cut_lexemes history text pieces here))
+      (closed.lexemes 0 ∙ ap (λ n. lexemes_along 0 pieces ++ dedents (open_count (after_all history pieces)) n) at ∙ sym here.kept)
       ∙ ap (λ n. without_last_newline (outcome_after history text).lexemes ++ lexemes_along n there.pieces) start
       ∙ ap (λ ls. without_last_newline (outcome_after history text).lexemes ++ ls) (along_later (length text) 0 there.pieces)
 
@@ -313,34 +381,34 @@ plainly text begins = begun text plain_piece (plain_step text begins)
 plainly_longest : (text : Text) (begins : begins_plainly text ≡ true) → IsLongestReading language nothing text (plain_piece ∷ (plainly text begins).pieces) (plainly text begins).last
 plainly_longest text begins = longest_onward language nothing text plain_piece (plainly text begins).pieces (plainly text begins).last (plain_step text begins) (plainly text begins).longest
 
--- The outcome of a cut between lines after a history, and after it that of a text that begins plainly.
-pub cut_joins : (history : History) (first second : Text) → Starts history → is_line_cut_after history first ≡ true → begins_plainly second ≡ true
+-- The outcome of what a line follows, after a history, and then that of a text that begins plainly.
+pub cut_joins : (history : History) (first second : Text) → BeforeLine history first → begins_plainly second ≡ true
     → outcome_after history (first ++ second) ≡ record {
       lexemes = without_last_newline (outcome_after history first).lexemes ++ map (moved (length first)) (outcome_after nothing second).lexemes;
       fault = option_map (moved (length first)) (outcome_after nothing second).fault;
     }
-cut_joins history first second fresh h begins =
-    let here = line_cut history first h in
+cut_joins history first second before begins =
+    let here = before_closes history first before in
     let there = plainly second begins in
-    (after_by history (first ++ second) _ there.last (longest history first second (pieces_after history first) fresh here begins there)).0
-    ∙ by_last history first second (pieces_after history first) fresh here begins there there.last
+    (after_by history (first ++ second) _ there.last (longest history first second here.0 here.1 begins there)).0
+    ∙ by_last history first second here.0 here.1 begins there there.last
     ∙ ap (λ (o : Outcome). record { lexemes = without_last_newline (outcome_after history first).lexemes ++ map (moved (length first)) o.lexemes; fault = option_map (moved (length first)) o.fault })
     (sym (outcome_after_nothing second ∙ there.is))
 
 -- Both together are a cut between lines exactly where the second one is.
-pub cut_of_joined : (history : History) (first second : Text) → Starts history → is_line_cut_after history first ≡ true → begins_plainly second ≡ true
+pub cut_of_joined : (history : History) (first second : Text) → BeforeLine history first → begins_plainly second ≡ true
     → is_line_cut_after history (first ++ second) ≡ is_line_cut_after nothing second
-cut_of_joined history first second fresh h begins =
-    let here = line_cut history first h in
+cut_of_joined history first second before begins =
+    let pieces = (before_closes history first before).0 in
+    let here = (before_closes history first before).1 in
     let there = plainly second begins in
-    let pieces = pieces_after history first in
     let rest = after_all margin_alone there.pieces in
-    line_cut_by history (first ++ second) _ there.last (longest history first second pieces fresh here begins there)
-    ∙ ap (λ (past : History). is_faultless there.last && is_between_lines past && ends_with nat_eq (first ++ second) (codes "\n")) (past history first second pieces fresh here begins there)
+    line_cut_by history (first ++ second) _ there.last (longest history first second pieces here begins there)
+    ∙ ap (λ (past : History). is_faultless there.last && is_between_lines past && ends_with nat_eq (first ++ second) (codes "\n")) (past history first second pieces here begins there)
     ∙ ap (λ (between : Bool). is_faultless there.last && between && ends_with nat_eq (first ++ second) (codes "\n"))
-    (between_after (closed_after (after_all history pieces)) rest (all_closed history first second pieces fresh here begins there) ∙ sym (between_after line_alone rest line_settled))
+    (between_after (closed_after (after_all history pieces)) rest (all_closed history first second pieces here begins there) ∙ sym (between_after line_alone rest line_settled))
     ∙ ap (λ (ends : Bool). is_faultless there.last && is_between_lines (remainder line_alone rest) && ends) (ends_after first second (plain_some second begins))
-    ∙ ap (λ (past : History). is_faultless there.last && is_between_lines past && ends_with nat_eq second (codes "\n")) (sym (past_alone history first second pieces fresh here begins there))
+    ∙ ap (λ (past : History). is_faultless there.last && is_between_lines past && ends_with nat_eq second (codes "\n")) (sym (past_alone history first second pieces here begins there))
     ∙ sym (line_cut_by nothing second (plain_piece ∷ there.pieces) there.last (plainly_longest second begins))
 
 -- Histories after which the same is read: what differs is settled.
@@ -416,23 +484,42 @@ alike_line_cut one other text alike =
     ∙ ap (λ (between : Bool). is_faultless last && between && ends_with nat_eq text (codes "\n")) (alike_between (after_all one pieces) (after_all other pieces) (alike_past one other pieces alike))
     ∙ sym (line_cut_by other text pieces last (alike_longest one other text pieces last alike (longest_after one text)))
 
--- A cut between lines is all that differs between two texts.
-pub alike_joined : (history : History) (first second : Text) → Starts history → is_line_cut_after history first ≡ true → begins_plainly second ≡ true → Alike (history_after history (first ++ second)) (history_after nothing second)
-alike_joined history first second fresh h begins =
-    let here = line_cut history first h in
+-- What a line follows is all that differs between both and that line.
+pub alike_joined : (history : History) (first second : Text) → BeforeLine history first → begins_plainly second ≡ true → Alike (history_after history (first ++ second)) (history_after nothing second)
+alike_joined history first second before begins =
+    let pieces = (before_closes history first before).0 in
+    let here = (before_closes history first before).1 in
     let there = plainly second begins in
-    let pieces = pieces_after history first in
     record {
       earlier = closed_after (after_all history pieces);
       before = line_alone;
       common = after_all margin_alone there.pieces;
-      settled = all_closed history first second pieces fresh here begins there;
+      settled = all_closed history first second pieces here begins there;
       other_settled = line_settled;
-      one_is = (after_by history (first ++ second) _ there.last (longest history first second pieces fresh here begins there)).1 ∙ past history first second pieces fresh here begins there;
-      other_is = (after_by nothing second _ there.last (plainly_longest second begins)).1 ∙ past_alone history first second pieces fresh here begins there;
+      one_is = (after_by history (first ++ second) _ there.last (longest history first second pieces here begins there)).1 ∙ past history first second pieces here begins there;
+      other_is = (after_by nothing second _ there.last (plainly_longest second begins)).1 ∙ past_alone history first second pieces here begins there;
     }
 
--- and so it is in the midst of their lines
+-- and so it is at the start of their next lines, …
+pub alike_line : (one other : History) → Alike one other → Alike (at_line one.widths) (at_line other.widths)
+unfolding open_fstring is_balanced
+alike_line one other alike = record {
+  earlier = only alike.earlier.widths;
+  before = only alike.before.widths;
+  common = at_line alike.common.widths;
+  settled = settled_line alike.earlier.widths alike.settled.no_width;
+  other_settled = settled_line alike.before.widths alike.other_settled.no_width;
+  one_is = ap (λ (past : History). at_line past.widths) alike.one_is;
+  other_is = ap (λ (past : History). at_line past.widths) alike.other_is;
+}
+  where
+    only : List ℕ → History
+    only widths = record { tokens = []; widths = widths; before = Layout }
+
+    settled_line : (widths : List ℕ) → open_widths widths ≡ [] → Settled (only widths)
+    settled_line widths none = record { layout = refl; none_open = refl; balanced = refl; no_width = none }
+
+-- … and in the midst of these lines
 pub alike_other : (one other : History) → Alike one other → Alike (record one { before = Other }) (record other { before = Other })
 alike_other one other alike = record {
   earlier = alike.earlier;
@@ -446,20 +533,17 @@ alike_other one other alike = record {
 
 -- The laws for whole texts
 
-pub starts_nothing : Starts nothing
-starts_nothing = λ none. refl
-
 pub line_cuts_join : LineCutsJoin
 unfolding is_line_cut
 line_cuts_join first second h begins =
-    let joins = cut_joins nothing first second starts_nothing h begins in
+    let joins = cut_joins nothing first second (AfterCut nothing first h) begins in
     sym (outcome_after_nothing (first ++ second)) ∙ joins
     ∙ ap (λ (o : Outcome). record { lexemes = without_last_newline o.lexemes ++ map (moved (length first)) (outcome_after nothing second).lexemes; fault = option_map (moved (length first)) (outcome_after nothing second).fault }) (outcome_after_nothing first)
     ∙ ap (λ (o : Outcome). record { lexemes = without_last_newline (outcome first).lexemes ++ map (moved (length first)) o.lexemes; fault = option_map (moved (length first)) o.fault }) (outcome_after_nothing second)
 
 pub line_cuts_of_joined : LineCutsOfJoined
 unfolding is_line_cut
-line_cuts_of_joined first second h begins = cut_of_joined nothing first second starts_nothing h begins
+line_cuts_of_joined first second h begins = cut_of_joined nothing first second (AfterCut nothing first h) begins
 
 -- a `Newline` is found in every text without fault: the closing one
 pub outcome_newline : (history : History) (text : Text) → (outcome_after history text).fault ≡ None → has_newline (outcome_after history text).lexemes ≡ true

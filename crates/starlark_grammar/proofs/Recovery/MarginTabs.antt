@@ -15,7 +15,7 @@ use Rattle.starlark_grammar.specs.Numbers.{integer_of}
 use Rattle.starlark_grammar.specs.Tokens.{Newline, Opening, Int, StartsZero, FStringBang, InvalidTab, UnfinishedFStringExpression, UnfinishedStringLiteral, Indentation, Lexeme, Spanned, Fault}
 use Rattle.starlark_grammar.specs.Items.{Stop, Closing, Line, Ended, OpeningBrace, ClosingBrace, BadEscape, Body, body_at}
 use Rattle.starlark_grammar.specs.Depths.{Mode, Outside, InText, AtTop, Deeper}
-use Rattle.starlark_grammar.specs.Margins.{Margin, margin_of, margin_len, is_content, has_tab, lines, width_of, fits, begins_with_line_end}
+use Rattle.starlark_grammar.specs.Margins.{Margin, margin_of, margin_len, is_content, has_tab, lines, open_widths, width_of, fits, begins_with_line_end}
 use Rattle.starlark_grammar.specs.Pieces.{Before, Nothing, Layout, Gap, Other, Piece, Step, Stands, Fails, Ends, Situation, token, fault, margin_step, first_margin, line_end, is_plain, unfinished, literal_by, opener, chunk_by, chunk, counts, starts_zero, word_step, front_step, takes_bang, is_bang, in_code, by_mode, by_before, step_at}
 use Rattle.starlark_grammar.specs.Reading.{History, situation, next_step}
 use Rattle.starlark_grammar.proofs.Literals.LiteralSteps.{opener_holds, escape_holds}
@@ -24,6 +24,7 @@ use Rattle.starlark_grammar.proofs.Words.Classes.{RowsFit, language_all_fit, pat
 use Rattle.starlark_grammar.proofs.Words.Fronts.{front_sound}
 use Rattle.starlark_grammar.specs.Joining.{begins_plainly}
 use Rattle.starlark_grammar.specs.Recovery.{is_tab, line_end_len}
+use Rattle.starlark_grammar.proofs.Reading.Onward.{first_step_after}
 use Rattle.starlark_grammar.proofs.Reading.Steps.{is_nothing}
 use Rattle.starlark_grammar.proofs.Recovery.FollowedFaults.{same_fault}
 
@@ -167,10 +168,14 @@ pub record LineFails (text : Text) (found : Spanned Fault) : Type 0 where
   pub line : BeginsLine text len
   pub fails : margin_step size lexemes levels (margin_of (drop len text)) ≡ Fails found
 
+-- a first margin that fails, with some blocks open
+abbrev pub FirstFails : Text → Spanned Fault → Type 0
+FirstFails text found = (levels : List ℕ) × (first_margin levels text ≡ Fails found)
+
 -- The fault of a tab, by what was read before it.
 pub record TabAt (text : Text) (found : Spanned Fault) : Type 0 where
   pub begin : found.begin ≡ 0
-  pub stands : (first_margin text ≡ Fails found) ⊎ ((begins_with_tab text ≡ true) ⊎ LineFails text found)
+  pub stands : FirstFails text found ⊎ ((begins_with_tab text ≡ true) ⊎ LineFails text found)
 
 -- where a margin isn't the text's first
 pub record TabLater (text : Text) (found : Spanned Fault) : Type 0 where
@@ -258,7 +263,7 @@ module _ (s : Situation) (text : Text) (found : Spanned Fault) (tab : is_tab fou
   tab_step e = go s.before e
     where
       go : (before : Before) → by_before language s before text ≡ Fails found → TabAt text found
-      go Nothing e = record { begin = margin_begin 0 [] [] (margin_of text) found e; stands = inl e }
+      go Nothing e = record { begin = margin_begin 0 [] s.levels (margin_of text) found e; stands = inl (s.levels, e) }
       go Layout e = anywhere (tab_by_place s.mode e)
       go Gap e = anywhere (tab_by_place s.mode e)
       go Other e = anywhere (tab_by_place s.mode e)
@@ -278,15 +283,8 @@ unfolding next_step situation
 tab_next history text found tab e = tab_step (situation history) text found tab e
 
 -- at the first margin
-pub tab_first : (history : History) (text : Text) (found : Spanned Fault) → is_nothing history.before ≡ true → next_step language history text ≡ Fails found → first_margin text ≡ Fails found
-unfolding next_step situation step_at
-tab_first history text found none e = go history.before none e
-  where
-    go : (before : Before) → is_nothing before ≡ true → by_before language (situation history) before text ≡ Fails found → first_margin text ≡ Fails found
-    go Nothing none e = e
-    go Layout none e = cc
-    go Gap none e = cc
-    go Other none e = cc
+pub tab_first : (history : History) (text : Text) (found : Spanned Fault) → is_nothing history.before ≡ true → next_step language history text ≡ Fails found → FirstFails text found
+tab_first history text found none e = (open_widths history.widths, sym (first_step_after history text none) ∙ e)
 
 -- after the first margin
 pub tab_later : (history : History) (text : Text) (found : Spanned Fault) → is_tab found.node ≡ true → is_nothing history.before ≡ false → next_step language history text ≡ Fails found → TabLater text found
@@ -296,13 +294,13 @@ tab_later history text found tab some e = later_step (situation history) text fo
 -- What such texts aren't
 
 -- no margin fails at a line end, …
-feed_stands : (bs : Text) (found : Spanned Fault) → first_margin (10 ∷ bs) ≡ Fails found → ⊥
+feed_stands : (levels : List ℕ) (bs : Text) (found : Spanned Fault) → first_margin levels (10 ∷ bs) ≡ Fails found → ⊥
 unfolding margin_of margin_step lines
-feed_stands bs found e = cc
+feed_stands levels bs found e = cc
 
-return_stands : (bs : Text) (found : Spanned Fault) → first_margin (13 ∷ 10 ∷ bs) ≡ Fails found → ⊥
+return_stands : (levels : List ℕ) (bs : Text) (found : Spanned Fault) → first_margin levels (13 ∷ 10 ∷ bs) ≡ Fails found → ⊥
 unfolding margin_of margin_step lines
-return_stands bs found e = cc
+return_stands levels bs found e = cc
 
 -- a text that begins with a line end
 begins_line : (text : Text) → begins_with_line_end text ≡ true → (n : ℕ) × BeginsLine text n
@@ -327,12 +325,12 @@ begins_line (b ∷ bs) h = by (10 == b) refl bs h
         let two : 10 ≡ c = eqb-true 10 c (and_parts (10 == c) true parts.1).0 in
         (2, inr (bs, rw (sym one, sym two) refl, refl))
 
-pub line_end_stands : (text : Text) (found : Spanned Fault) → begins_with_line_end text ≡ true → first_margin text ≡ Fails found → ⊥
-line_end_stands text found h e = go (begins_line text h).1
+pub line_end_stands : (text : Text) (found : Spanned Fault) → begins_with_line_end text ≡ true → FirstFails text found → ⊥
+line_end_stands text found h (levels, e) = go (begins_line text h).1
   where
     go : {n : ℕ} → BeginsLine text n → ⊥
-    go (inl line) = feed_stands line.0 found (subst (λ (t : Text). first_margin t ≡ Fails found) line.1 e)
-    go (inr line) = return_stands line.0 found (subst (λ (t : Text). first_margin t ≡ Fails found) line.1 e)
+    go (inl line) = feed_stands levels line.0 found (subst (λ (t : Text). first_margin levels t ≡ Fails found) line.1 e)
+    go (inr line) = return_stands levels line.0 found (subst (λ (t : Text). first_margin levels t ≡ Fails found) line.1 e)
 
 -- … and none stands at a tab.
 pub tab_no_line : (text : Text) → begins_with_tab text ≡ true → begins_with_line_end text ≡ false

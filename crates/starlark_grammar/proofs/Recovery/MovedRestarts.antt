@@ -1,5 +1,5 @@
 -- Where lexing begins again in a text that stands after another.
-use Rattle.std.proofs.Common.{◌≡◌, ℕ, ◌+◌, ◌-◌, ◌≤◌, ◌<◌, Bool, true, false, not, List, [], ◌∷◌, ◌++◌, length, take, drop, refl, ap, ◌∙◌, sym, subst, Some, arith, ◌⊎◌, inl, inr, length-append}
+use Rattle.std.proofs.Common.{◌≡◌, ℕ, ◌+◌, ◌-◌, ◌≤◌, ◌<◌, Bool, true, false, not, List, [], ◌∷◌, ◌++◌, length, take, drop, refl, ap, ◌∙◌, subst, Some, arith, ◌⊎◌, inl, inr, length-append}
 use Rattle.std.specs.Prelude.{◌&&◌, ◌||◌, ◌==◌, if◌then◌else◌, max, sum_by, take_while}
 use Rattle.std.specs.List.{onto_first, prefix_len}
 use Rattle.std.specs.Str.{byte}
@@ -8,14 +8,13 @@ use Rattle.std.proofs.lemmas.Bool.{both_ways, cases_lt, eqb-true}
 use Rattle.starlark_grammar.specs.Words.{Text, language}
 use Rattle.starlark_grammar.specs.Tokens.{Spanned, Fault, moved}
 use Rattle.starlark_grammar.specs.Margins.{begins_with_line_end, blanks_len, has_tab, is_blank, is_comment_only, is_lf, lines, margin_of}
-use Rattle.starlark_grammar.specs.Pieces.{Fails, first_margin}
 use Rattle.starlark_grammar.specs.Reading.{after_all, nothing, outcome_after, pieces_len}
 use Rattle.starlark_grammar.specs.TextLaws.{HasFirstMargin}
-use Rattle.starlark_grammar.proofs.Joining.Tabs.{HasTab, first_margin_is, first_step}
+use Rattle.starlark_grammar.proofs.Joining.Tabs.{HasTab, first_margin_is}
 use Rattle.starlark_grammar.specs.Joining.{begins_plainly}
 use Rattle.starlark_grammar.specs.Recovery.{is_margin_tab, is_tab, line_end_len, margin_line, next_line, restart, stopped_at}
 use Rattle.starlark_grammar.proofs.Reading.Onward.{StopsAt, stops_at}
-use Rattle.starlark_grammar.proofs.Recovery.MarginTabs.{LineFails, TabAt, begins_with_tab, plain_no_line, plain_no_tab, tab_next}
+use Rattle.starlark_grammar.proofs.Recovery.MarginTabs.{FirstFails, margin_tab, LineFails, TabAt, begins_with_tab, plain_no_line, plain_no_tab, tab_next}
 
 -- Texts that begin plainly
 
@@ -43,19 +42,19 @@ plain_blanks b bs blank feed comment = ap blanks (ap (take_while is_comment_only
     none [] = rw (line []) refl
     none (l ∷ more) = rw (line l) refl
 
-pub plain_first : (text : Text) → begins_plainly text ≡ true → HasFirstMargin language text
+plain_untabbed : (text : Text) → begins_plainly text ≡ true → has_tab (margin_of text) ≡ false
 unfolding begins_plainly
-plain_first [] plain = cc
-plain_first (b ∷ bs) plain = go (first_margin_is (b ∷ bs))
-  where
-    tests : (is_blank b ≡ false) × (is_lf b ≡ false) × ((b == byte "#") ≡ false)
-    tests = not_any (is_blank b) (is_lf b) (b == byte "#") plain
+plain_untabbed [] plain = cc
+plain_untabbed (b ∷ bs) plain =
+    let tests : (is_blank b ≡ false) × (is_lf b ≡ false) × ((b == byte "#") ≡ false) = not_any (is_blank b) (is_lf b) (b == byte "#") plain in
+    rw (plain_blanks b bs tests.0 tests.1 tests.2) refl
 
-    go : HasFirstMargin language (b ∷ bs) ⊎ HasTab (margin_of (b ∷ bs)) → HasFirstMargin language (b ∷ bs)
+pub plain_first : (text : Text) → begins_plainly text ≡ true → HasFirstMargin language text
+plain_first text plain = go (first_margin_is text)
+  where
+    go : HasFirstMargin language text ⊎ HasTab (margin_of text) → HasFirstMargin language text
     go (inl margin) = margin
-    go (inr has) =
-        let none : has_tab (margin_of (b ∷ bs)) ≡ false = rw (plain_blanks b bs tests.0 tests.1 tests.2) refl in
-        absurd (both_ways _ none has.is)
+    go (inr has) = absurd (both_ways _ (plain_untabbed text plain) has.is)
 
 -- no tab's fault is at its start
 pub plain_tab : (text : Text) (fault : Spanned Fault) → begins_plainly text ≡ true → (outcome_after nothing text).fault ≡ Some fault → is_tab fault.node ≡ true → 0 < fault.begin
@@ -77,10 +76,8 @@ plain_tab text fault plain has tab = go (stops_at nothing text fault has)
             let at : TabAt text here.found = subst (λ n. TabAt (drop n text) here.found) start (tab_next (after_all nothing here.pieces) (drop (pieces_len here.pieces) text) here.found node here.longest.stands_last) in
             absurd (never at.stands)
           where
-            never : (first_margin text ≡ Fails here.found) ⊎ ((begins_with_tab text ≡ true) ⊎ LineFails text here.found) → ⊥
-            never (inl first) =
-                let margin = plain_first text plain in
-                let wrong = sym margin.1 ∙ first_step text ∙ first in cc
+            never : FirstFails text here.found ⊎ ((begins_with_tab text ≡ true) ⊎ LineFails text here.found) → ⊥
+            never (inl first) = absurd (both_ways _ (plain_untabbed text plain) (margin_tab 0 [] first.0 (margin_of text) here.found node first.1).0)
             never (inr (inl tabs)) = plain_no_tab text plain tabs
             never (inr (inr fails)) = plain_no_line text fails.len plain fails.line
 
@@ -108,7 +105,7 @@ module _ (first second : Text) where
       let same : (margin_of (drop (length first + at) (first ++ second))).at ≡ (margin_of (drop at second)).at = ap (λ (t : Text). (margin_of t).at) (drop-append-add first second at) in
       omega (arith, same)
 
-  module _ (fault : Spanned Fault) (some : 0 < length first) (later : is_tab fault.node ≡ true → 0 < fault.begin) where
+  module _ (fault : Spanned Fault) (later : is_tab fault.node ≡ true → 0 < fault.begin) where
     pub tab_moved : is_margin_tab (first ++ second) (moved (length first) fault) ≡ is_margin_tab second fault
     tab_moved =
         ap (λ (t : Text). is_tab fault.node && (length first + fault.begin == 0 || begins_with_line_end t)) (drop-append-add first second fault.begin)
@@ -116,7 +113,7 @@ module _ (first second : Text) where
       where
         by : (tab : Bool) → (tab ≡ true → 0 < fault.begin) → (tab && (length first + fault.begin == 0 || begins_with_line_end (drop fault.begin second))) ≡ (tab && (fault.begin == 0 || begins_with_line_end (drop fault.begin second)))
         by false h = refl
-        by true h = rw (not_zero fault.begin (h refl), not_zero (length first + fault.begin) (omega (arith, some))) refl
+        by true h = let late = h refl in rw (not_zero fault.begin late, not_zero (length first + fault.begin) (omega (arith, late))) refl
 
     stopped_moved : stopped_at (first ++ second) (moved (length first) fault) ≡ length first + stopped_at second fault
     unfolding stopped_at

@@ -17,11 +17,11 @@ use Rattle.starlark_grammar.specs.Pieces.{Ends, Layout, Piece, Stands, Step, cou
 use Rattle.starlark_grammar.specs.Reading.{History, after, after_all, closing, lexemes_along, next_step, nothing, outcome_after, pieces_len, situation}
 use Rattle.starlark_grammar.specs.Longest.{IsLongestReading, IsReading}
 use Rattle.starlark_grammar.specs.Cuts.{is_newline, is_outside}
-use Rattle.starlark_grammar.proofs.Recovery.LineCuts.{line_cut_by, starts_nothing}
+use Rattle.starlark_grammar.proofs.Recovery.LineCuts.{line_cut_by}
 use Rattle.starlark_grammar.proofs.Lists.{drop-sum}
 use Rattle.starlark_grammar.proofs.Words.Fronts.{front_sound}
 use Rattle.starlark_grammar.proofs.Reading.Steps.{is_nothing}
-use Rattle.starlark_grammar.proofs.Reading.Onward.{Starts, after_by, outcome_after_nothing}
+use Rattle.starlark_grammar.proofs.Reading.Onward.{after_by, outcome_after_nothing}
 use Rattle.starlark_grammar.proofs.Reading.Readings.{longest_onward, stops_here}
 use Rattle.starlark_grammar.proofs.Joining.CleanCuts.{along_append, longest_append, past_append, pieces_append}
 use Rattle.starlark_grammar.proofs.Joining.Followed.{ends_line_drop, ends_line_of, longest_front_append}
@@ -276,11 +276,11 @@ dedents_are history text front newline dedents more here all undented plain =
     lexemes_of step = []
 
 -- Where a `Newline` of some bytes ends, and a line begins plainly, the rest of a text so far is a cut between lines.
-pub newlines_cut_after : (history : History) (text : Text) (front : List Lexeme) (newline : Lexeme) (dedents more : List Lexeme) → Starts history → (outcome_after history text).lexemes ≡ front ++ (newline ∷ (dedents ++ more))
+pub newlines_cut_after : (history : History) (text : Text) (front : List Lexeme) (newline : Lexeme) (dedents more : List Lexeme) → (outcome_after history text).lexemes ≡ front ++ (newline ∷ (dedents ++ more))
     → is_newline newline.node ≡ true → newline.begin < newline.end → list_all (λ (lexeme : Lexeme). is_dedent lexeme.node) dedents ≡ true → begins_undented more ≡ true → begins_plainly (drop newline.end text) ≡ true
     → (is_line_cut_after history (take newline.end text) ≡ true) × (without_last_newline (outcome_after history (take newline.end text)).lexemes ≡ front ++ (newline ∷ dedents))
-newlines_cut_after history text front newline dedents more starts e is some all undented plain =
-    let here = newline_found history text front newline (dedents ++ more) starts e is some in
+newlines_cut_after history text front newline dedents more e is some all undented plain =
+    let here = newline_found history text front newline (dedents ++ more) e is some in
     let end : newline.end ≡ pieces_len here.earlier + here.n = newline_end history text front newline (dedents ++ more) here in
     let left : drop newline.end text ≡ drop here.n (drop (pieces_len here.earlier) text) = ap (λ k. drop k text) end ∙ drop-sum (pieces_len here.earlier) here.n text in
     let short = dedents_are history text front newline dedents more here all undented (sym (ap begins_plainly left) ∙ plain) in
@@ -293,10 +293,10 @@ newlines_cut_after history text front newline dedents more starts e is some all 
     )
 
 -- One at its end makes it a cut, without a fault.
-pub last_newline_cuts_after : (history : History) (text : Text) (front : List Lexeme) (newline : Lexeme) (more : List Lexeme) → Starts history → (outcome_after history text).lexemes ≡ front ++ (newline ∷ more)
+pub last_newline_cuts_after : (history : History) (text : Text) (front : List Lexeme) (newline : Lexeme) (more : List Lexeme) → (outcome_after history text).lexemes ≡ front ++ (newline ∷ more)
     → is_newline newline.node ≡ true → newline.begin < newline.end → newline.end ≡ length text → (is_line_cut_after history text ≡ true) × ((outcome_after history text).fault ≡ None)
-last_newline_cuts_after history text front newline more starts e is some last =
-    let here = newline_found history text front newline more starts e is some in
+last_newline_cuts_after history text front newline more e is some last =
+    let here = newline_found history text front newline more e is some in
     let end : pieces_len here.earlier + here.n ≡ length text = sym (newline_end history text front newline more here) ∙ last in
     let whole : text ≡ take (pieces_len here.earlier + here.n) text = sym (ap (λ k. take k text) end ∙ take-length text) in (
       ap (is_line_cut_after history) whole ∙ is_cut history text here.earlier here.n here.reads here.begun here.counted here.found,
@@ -306,11 +306,11 @@ last_newline_cuts_after history text front newline more starts e is some last =
 pub newlines_cut : NewlinesCut
 unfolding is_line_cut
 newlines_cut text front newline dedents more e is some all undented plain =
-    let cuts = newlines_cut_after nothing text front newline dedents more starts_nothing (ap (λ (o : Outcome). o.lexemes) (outcome_after_nothing text) ∙ e) is some all undented plain in
+    let cuts = newlines_cut_after nothing text front newline dedents more (ap (λ (o : Outcome). o.lexemes) (outcome_after_nothing text) ∙ e) is some all undented plain in
     (cuts.0, sym (ap (λ (o : Outcome). without_last_newline o.lexemes) (outcome_after_nothing (take newline.end text))) ∙ cuts.1)
 
 pub last_newline_cuts : LastNewlineCuts
 unfolding is_line_cut
 last_newline_cuts text front newline more e is some last =
-    let cuts = last_newline_cuts_after nothing text front newline more starts_nothing (ap (λ (o : Outcome). o.lexemes) (outcome_after_nothing text) ∙ e) is some last in
+    let cuts = last_newline_cuts_after nothing text front newline more (ap (λ (o : Outcome). o.lexemes) (outcome_after_nothing text) ∙ e) is some last in
     (cuts.0, sym (ap (λ (o : Outcome). o.fault) (outcome_after_nothing text)) ∙ cuts.1)

@@ -19,7 +19,7 @@ use Rattle.starlark_grammar.specs.Items.{Stop, Closing, Line, Ended, OpeningBrac
 use Rattle.starlark_grammar.specs.Depths.{Mode, AtTop, is_balanced, mode_after}
 use Rattle.starlark_grammar.specs.Margins.{Margin, margin_of, margin_len, is_content, has_tab, width_of, fits, is_widest, indentation, open_widths}
 use Rattle.starlark_grammar.specs.Pieces.{Before, Nothing, Layout, Gap, Other, Piece, Step, Stands, Fails, Ends, Situation, fault, token, margin_step, line_end, literal_by, opener, chunk_text, chunk_piece, chunk_by, chunk, terminal_token, counts, starts_zero, word_step, front_step, takes_bang, is_bang, in_code, by_mode, by_before, step_at, opening_of}
-use Rattle.starlark_grammar.specs.Reading.{History, nothing, after, after_all, situation, next_step, pieces_len, lexemes_along, lexemes_before, closing, reading_outcome, outcome_after}
+use Rattle.starlark_grammar.specs.Reading.{History, after, after_all, situation, next_step, pieces_len, lexemes_along, lexemes_before, closing, reading_outcome, outcome_after}
 use Rattle.starlark_grammar.specs.Longest.{IsReading}
 use Rattle.starlark_grammar.specs.Cuts.{is_layout, is_newline}
 use Rattle.starlark_grammar.proofs.Literals.LiteralSteps.{by_mode_holds, chunk_holds, opener_holds, escape_holds}
@@ -28,11 +28,11 @@ use Rattle.starlark_grammar.proofs.Lists.{drop-sum}
 use Rattle.starlark_grammar.proofs.Choices.{either}
 use Rattle.starlark_grammar.proofs.Words.Fronts.{front_sound}
 use Rattle.starlark_grammar.proofs.Reading.Steps.{is_nothing}
-use Rattle.starlark_grammar.proofs.Reading.Onward.{Starts, last_after, longest_after, outcome_is, pieces_after}
+use Rattle.starlark_grammar.proofs.Reading.Onward.{first_step_after, last_after, longest_after, outcome_is, pieces_after}
 use Rattle.starlark_grammar.proofs.Reading.Readings.{piece_fits, started}
 use Rattle.starlark_grammar.proofs.Joining.Joined.{counted_end}
 use Rattle.starlark_grammar.proofs.Joining.LaidCuts.{line_of}
-use Rattle.starlark_grammar.proofs.Joining.Tabs.{first_step}
+use Rattle.starlark_grammar.proofs.Order.OrderedLexemes.{some_lexemes_before}
 use Rattle.starlark_grammar.specs.Joining.{begins_undented, has_newline, is_dedent}
 
 -- Lexemes of which none is a `Newline`
@@ -163,7 +163,7 @@ mode_plain : (s : Situation) (mode : Mode) (text : Text) → PlainStep (by_mode 
 mode_plain s mode text = by_mode_holds PlainStep s mode text (code_plain s text) (λ opening. chunk_plain opening text)
 
 before_plain : (s : Situation) (before : Before) (text : Text) → PlainStep (by_before language s before text)
-before_plain s Nothing text = margin_plain 0 [] [] (margin_of text)
+before_plain s Nothing text = margin_plain 0 [] s.levels (margin_of text)
 before_plain s Layout text = mode_plain s s.mode text
 before_plain s Gap text = mode_plain s s.mode text
 before_plain s Other text = mode_plain s s.mode text
@@ -389,9 +389,9 @@ located history text (piece ∷ pieces) at tail front newline rest begun reads n
     go (InSecond front' f g) again = one_earlier history text piece at front front' newline rest reads.0 f (again front' g)
 
 -- the first piece of a text is a margin alone
-from_first : (text : Text) (first : Piece) (pieces : List Piece) (tail front : List Lexeme) (newline : Lexeme) (rest : List Lexeme) → IsReading language nothing text (first ∷ pieces)
-    → IsNarrow tail → begins_undented tail ≡ true → is_newline newline.node ≡ true → newline.begin < newline.end → lexemes_along 0 (first ∷ pieces) ++ tail ≡ front ++ (newline ∷ rest) → NewlineAt nothing text 0 front newline rest
-from_first text first pieces tail front newline rest reads narrow undented is some e = go (in_either here (later ++ tail) front newline rest (sym (append_assoc here later tail) ∙ e))
+from_first : (history : History) (text : Text) (first : Piece) (pieces : List Piece) (tail front : List Lexeme) (newline : Lexeme) (rest : List Lexeme) → is_nothing history.before ≡ true → IsReading language history text (first ∷ pieces)
+    → IsNarrow tail → begins_undented tail ≡ true → is_newline newline.node ≡ true → newline.begin < newline.end → lexemes_along 0 (first ∷ pieces) ++ tail ≡ front ++ (newline ∷ rest) → NewlineAt history text 0 front newline rest
+from_first history text first pieces tail front newline rest begun reads narrow undented is some e = go (in_either here (later ++ tail) front newline rest (sym (append_assoc here later tail) ∙ e))
   where
     here : List Lexeme
     here = map (moved 0) first.lexemes
@@ -400,26 +400,32 @@ from_first text first pieces tail front newline rest reads narrow undented is so
     later = lexemes_along (0 + first.len) pieces
 
     margin : LineLexemes [] first.lexemes
-    margin = margin_lexemes 0 [] [] (margin_of text) first (margin_none text) (sym (first_step text) ∙ reads.0)
+    margin = margin_lexemes 0 [] (open_widths history.widths) (margin_of text) first (margin_none text) (sym (first_step_after history text begun) ∙ reads.0)
 
-    go : InEither here (later ++ tail) front newline rest → NewlineAt nothing text 0 front newline rest
+    go : InEither here (later ++ tail) front newline rest → NewlineAt history text 0 front newline rest
     go (InFirst more f g) = absurd (none_there here front newline more (none_moved 0 first.lexemes (ap has_newline margin.whole ∙ margin.none)) f is)
     go (InSecond front' f g) =
-        one_earlier nothing text first 0 front front' newline rest reads.0 f
-        (located (after nothing first) (drop first.len text) pieces (0 + first.len) tail front' newline rest (started nothing first (piece_fits language nothing text first reads.0).sort) reads.1 narrow undented is some g)
+        one_earlier history text first 0 front front' newline rest reads.0 f
+        (located (after history first) (drop first.len text) pieces (0 + first.len) tail front' newline rest (started history first (piece_fits language history text first reads.0).sort) reads.1 narrow undented is some g)
 
--- in a whole text
-found_first : (text : Text) (pieces : List Piece) (last : Step) (front : List Lexeme) (newline : Lexeme) (rest : List Lexeme) → IsReading language nothing text pieces → is_newline newline.node ≡ true → newline.begin < newline.end
-    → (reading_outcome nothing text pieces last).lexemes ≡ front ++ (newline ∷ rest) → NewlineAt nothing text 0 front newline rest
-found_first text pieces last front newline rest reads is some e = go pieces last reads e
+-- in a whole text, or one from a line on
+found_first : (history : History) (text : Text) (pieces : List Piece) (last : Step) (front : List Lexeme) (newline : Lexeme) (rest : List Lexeme) → is_nothing history.before ≡ true → IsReading language history text pieces → is_newline newline.node ≡ true → newline.begin < newline.end
+    → (reading_outcome history text pieces last).lexemes ≡ front ++ (newline ∷ rest) → NewlineAt history text 0 front newline rest
+found_first history text pieces last front newline rest begun reads is some e = go pieces last reads e
   where
-    closed : (pieces : List Piece) → IsReading language nothing text pieces → lexemes_along 0 pieces ++ closing (pieces_len pieces) (after_all nothing pieces) ≡ front ++ (newline ∷ rest) → NewlineAt nothing text 0 front newline rest
-    closed [] reads e = absurd (closing_narrow (pieces_len []) nothing front newline rest e is some)
-    closed (first ∷ pieces) reads e = from_first text first pieces (closing (pieces_len (first ∷ pieces)) (after_all nothing (first ∷ pieces))) front newline rest reads (closing_narrow (pieces_len (first ∷ pieces)) (after_all nothing (first ∷ pieces))) refl is some e
+    margin_alone : (before : Before) → is_nothing before ≡ true → lexemes_before before text [] ≡ (margin_of text).comments
+    margin_alone Nothing h = refl
+    margin_alone Layout h = cc
+    margin_alone Gap h = cc
+    margin_alone Other h = cc
 
-    go : (pieces : List Piece) (last : Step) → IsReading language nothing text pieces → (reading_outcome nothing text pieces last).lexemes ≡ front ++ (newline ∷ rest) → NewlineAt nothing text 0 front newline rest
-    go [] (Fails fault) reads e = absurd (none_there (margin_of text).comments front newline rest (margin_none text) e is)
-    go (first ∷ pieces) (Fails fault) reads e = from_first text first pieces [] front newline rest reads (none_narrow [] refl) refl is some (append-nil (lexemes_along 0 (first ∷ pieces)) ∙ e)
+    closed : (pieces : List Piece) → IsReading language history text pieces → lexemes_along 0 pieces ++ closing (pieces_len pieces) (after_all history pieces) ≡ front ++ (newline ∷ rest) → NewlineAt history text 0 front newline rest
+    closed [] reads e = absurd (closing_narrow (pieces_len []) history front newline rest e is some)
+    closed (first ∷ pieces) reads e = from_first history text first pieces (closing (pieces_len (first ∷ pieces)) (after_all history (first ∷ pieces))) front newline rest begun reads (closing_narrow (pieces_len (first ∷ pieces)) (after_all history (first ∷ pieces))) refl is some e
+
+    go : (pieces : List Piece) (last : Step) → IsReading language history text pieces → (reading_outcome history text pieces last).lexemes ≡ front ++ (newline ∷ rest) → NewlineAt history text 0 front newline rest
+    go [] (Fails fault) reads e = absurd (none_there (margin_of text).comments front newline rest (margin_none text) (sym (margin_alone history.before begun) ∙ e) is)
+    go (first ∷ pieces) (Fails fault) reads e = from_first history text first pieces [] front newline rest begun reads (none_narrow [] refl) refl is some (append-nil (lexemes_along 0 (first ∷ pieces)) ∙ sym (some_lexemes_before history.before text first pieces) ∙ e)
     go pieces (Stands piece) reads e = closed pieces reads e
     go pieces Ends reads e = closed pieces reads e
 
@@ -443,15 +449,13 @@ found_later history text pieces last front newline rest begun reads is some e = 
     go Ends e = closed e
 
 -- Such a `Newline` of a text is found so.
-pub newline_found : (history : History) (text : Text) (front : List Lexeme) (newline : Lexeme) (rest : List Lexeme) → Starts history → (outcome_after history text).lexemes ≡ front ++ (newline ∷ rest) → is_newline newline.node ≡ true → newline.begin < newline.end
+pub newline_found : (history : History) (text : Text) (front : List Lexeme) (newline : Lexeme) (rest : List Lexeme) → (outcome_after history text).lexemes ≡ front ++ (newline ∷ rest) → is_newline newline.node ≡ true → newline.begin < newline.end
     → NewlineAt history text 0 front newline rest
-newline_found history text front newline rest starts e is some = by (is_nothing history.before) refl
+newline_found history text front newline rest e is some = by (is_nothing history.before) refl
   where
-    lexemes : (past : History) → history ≡ past → (reading_outcome past text (pieces_after past text) (last_after past text)).lexemes ≡ front ++ (newline ∷ rest)
-    lexemes past same = sym (ap (λ (o : Outcome). o.lexemes) (outcome_is past text)) ∙ ap (λ (h : History). (outcome_after h text).lexemes) (sym same) ∙ e
+    lexemes : (reading_outcome history text (pieces_after history text) (last_after history text)).lexemes ≡ front ++ (newline ∷ rest)
+    lexemes = sym (ap (λ (o : Outcome). o.lexemes) (outcome_is history text)) ∙ e
 
     by : (none : Bool) → is_nothing history.before ≡ none → NewlineAt history text 0 front newline rest
-    by true none =
-        subst (λ (past : History). NewlineAt past text 0 front newline rest) (sym (starts none))
-        (found_first text (pieces_after nothing text) (last_after nothing text) front newline rest (longest_after nothing text).reads is some (lexemes nothing (starts none)))
-    by false begun = found_later history text (pieces_after history text) (last_after history text) front newline rest begun (longest_after history text).reads is some (lexemes history refl)
+    by true begun = found_first history text (pieces_after history text) (last_after history text) front newline rest begun (longest_after history text).reads is some lexemes
+    by false begun = found_later history text (pieces_after history text) (last_after history text) front newline rest begun (longest_after history text).reads is some lexemes

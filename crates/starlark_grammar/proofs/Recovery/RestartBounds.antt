@@ -3,20 +3,15 @@ use Rattle.std.proofs.Common.{◌≡◌, ◌<◌, ◌≤◌, [], ◌∷◌, leng
 use Rattle.starlark_grammar.proofs.Reading.Faults.{outcome_fault}
 use Rattle.starlark_grammar.proofs.Rows.Shapes.{all_definitions}
 use Rattle.starlark_grammar.specs.Reading.{outcome}
-use Rattle.starlark_grammar.specs.Tokens.{Fault, Newline, Spanned}
+use Rattle.starlark_grammar.specs.Tokens.{Fault, Spanned}
 use Rattle.starlark_grammar.specs.Words.{Text, language}
 use Rattle.starlark_grammar.specs.Recovery.{next_line, restart, stopped_at}
 use Rattle.starlark_grammar.specs.RecoveryLaws.{RestartsLater}
 
 -- the text without bytes has no fault
-pub empty_faultless : (outcome []).fault ≡ None
+empty_faultless : (outcome []).fault ≡ None
 unfolding all_definitions
 empty_faultless = refl
-
--- … and its closing `Newline` alone
-pub empty_lexemes : (outcome []).lexemes ≡ record { begin = 0; node = Newline; end = 0 } ∷ []
-unfolding all_definitions
-empty_lexemes = refl
 
 -- lexing begins again after the first byte, if there is one
 pub restart_later : (text : Text) (fault : Spanned Fault) → 0 < length text → 1 ≤ restart text fault

@@ -12,7 +12,7 @@ use Rattle.std.proofs.Math.Seq.{drop-append_seam}
 use Rattle.starlark_grammar.specs.Words.{Text, language}
 use Rattle.starlark_grammar.specs.Tokens.{Outcome, Fault, Spanned}
 use Rattle.starlark_grammar.specs.Margins.{begins_with_line_end, blanks_len, comment_lines, has_tab, is_blank, is_comment_only, is_lf, lines, margin_of}
-use Rattle.starlark_grammar.specs.Pieces.{Fails, Piece, first_margin}
+use Rattle.starlark_grammar.specs.Pieces.{Piece}
 use Rattle.starlark_grammar.specs.Reading.{outcome, after_all, nothing, pieces_len}
 use Rattle.starlark_grammar.specs.Longest.{IsReading}
 use Rattle.starlark_grammar.proofs.Lists.{drop-sum}
@@ -23,7 +23,7 @@ use Rattle.starlark_grammar.proofs.Joining.FollowedMargins.{has_whole_lines, lin
 use Rattle.starlark_grammar.proofs.Joining.Joined.{margin_step_len, whole_from_ends}
 use Rattle.starlark_grammar.proofs.Joining.Tabs.{first_step}
 use Rattle.starlark_grammar.proofs.Reading.Onward.{StopsAt, outcome_after_nothing, stops_at}
-use Rattle.starlark_grammar.proofs.Recovery.MarginTabs.{BeginsLine, LineFails, TabLater, begins_with_tab, line_end_stands, line_is, margin_tab, no_line_end, tab_first, tab_later, tab_no_line}
+use Rattle.starlark_grammar.proofs.Recovery.MarginTabs.{FirstFails, BeginsLine, LineFails, TabLater, begins_with_tab, line_end_stands, line_is, margin_tab, no_line_end, tab_first, tab_later, tab_no_line}
 use Rattle.starlark_grammar.proofs.Recovery.ShortenedFaults.{none_before}
 use Rattle.starlark_grammar.specs.Recovery.{is_margin_tab, is_tab, line_end_len, next_line, restart, stopped_at}
 use Rattle.starlark_grammar.specs.RecoveryLaws.{IsLfAt, LeadsToTab, RestartsAfterTabs, RestartsAtLines, RestartsAtNextLine}
@@ -308,8 +308,8 @@ module _ (text : Text) (fault : Spanned Fault) (has : (outcome text).fault ≡ S
       by : (none : Bool) → is_nothing (after_all nothing here.pieces).before ≡ none → fault.end ≡ fault.begin
       by true none =
           let zero_len = (none_before nothing text here.pieces here.longest.reads none).0 in
-          let fails : first_margin text ≡ Fails here.found = ap (λ n. first_margin (drop n text)) (sym zero_len) ∙ tab_first (after_all nothing here.pieces) (drop (pieces_len here.pieces) text) here.found none here.longest.stands_last in
-          let margin = margin_tab 0 [] [] (margin_of text) here.found node fails in
+          let fails : FirstFails text here.found = subst (λ n. FirstFails (drop n text) here.found) zero_len (tab_first (after_all nothing here.pieces) (drop (pieces_len here.pieces) text) here.found none here.longest.stands_last) in
+          let margin = margin_tab 0 [] fails.0 (margin_of text) here.found node fails.1 in
           let order = here.order in
           let end = here.end in
           omega (arith, order, end, zero_len, margin.1)
@@ -331,11 +331,11 @@ module _ (text : Text) (fault : Spanned Fault) (has : (outcome text).fault ≡ S
           zero_len : pieces_len here.pieces ≡ 0
           zero_len = (none_before nothing text here.pieces here.longest.reads none).0
 
-          fails : first_margin text ≡ Fails here.found
-          fails = ap (λ n. first_margin (drop n text)) (sym zero_len) ∙ tab_first (after_all nothing here.pieces) left here.found none here.longest.stands_last
+          fails : FirstFails text here.found
+          fails = subst (λ n. FirstFails (drop n text) here.found) zero_len (tab_first (after_all nothing here.pieces) left here.found none here.longest.stands_last)
 
           has_margin : (has_tab (margin_of text) ≡ true) × (here.found.end ≡ 0)
-          has_margin = margin_tab 0 [] [] (margin_of text) here.found node fails
+          has_margin = margin_tab 0 [] fails.0 (margin_of text) here.found node fails.1
 
           found : (found : TabIn text) × (length found.comments ≡ (margin_of text).at)
           found = tab_in text has_margin.0

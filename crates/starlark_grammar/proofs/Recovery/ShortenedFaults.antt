@@ -33,10 +33,10 @@ use Rattle.starlark_grammar.specs.Inner.KeptFaults.{is_in_margin}
 use Rattle.starlark_grammar.specs.Recovery.{is_margin_tab, is_tab, line_end_len, margin_line, next_line, restart, stopped_at}
 use Rattle.starlark_grammar.proofs.Recovery.FollowedStops.{StopInside, body_single}
 use Rattle.starlark_grammar.proofs.Recovery.FollowedFaults.{chunk_same, escape_reads, fault_end, same_fault, unfinished_append}
-use Rattle.starlark_grammar.proofs.Recovery.MarginTabs.{BeginsLine, line_end_stands, line_is, no_line_end, tab_next, word_line}
+use Rattle.starlark_grammar.proofs.Recovery.MarginTabs.{FirstFails, BeginsLine, line_end_stands, line_is, no_line_end, tab_next, word_line}
 use Rattle.starlark_grammar.proofs.Found.FoundItems.{by_keeps, passed_lost}
 use Rattle.starlark_grammar.proofs.KeptLines.KeptFaultPlaces.{kept}
-use Rattle.starlark_grammar.proofs.Reading.Onward.{Starts, StopsAt, after_by, later_some, stops_at}
+use Rattle.starlark_grammar.proofs.Reading.Onward.{StopsAt, after_by, later_some, stops_at}
 use Rattle.starlark_grammar.proofs.Recovery.DecidedFaults.{decided, outcome_stays}
 use Rattle.starlark_grammar.proofs.Joining.ShortenedBodies.{character_shortened}
 use Rattle.starlark_grammar.proofs.Recovery.ShortenedStops.{body_short}
@@ -204,7 +204,7 @@ code_short s (b ∷ bs) more found h e less =
 
 -- the first margin, whose last line begins at the front's end or later
 abbrev FirstBeyond : Before → Text → Text → Spanned Fault → Type 0
-FirstBeyond before text more found = (is_nothing before ≡ true) × (first_margin (text ++ more) ≡ Fails found) × MarginBeyond text more found
+FirstBeyond before text more found = (is_nothing before ≡ true) × FirstFails (text ++ more) found × MarginBeyond text more found
 
 -- What fails in a text, before the end of its front, fails in the front too, but for a tab in a margin that ends later.
 step_short : (s : Situation) (text more : Text) (found : Spanned Fault) → ends_line text ≡ true → step_at language s (text ++ more) ≡ Fails found → found.end < length text
@@ -222,12 +222,12 @@ step_short s text more found h e less = before s.before e
     at AtTop e = code_short s text more found h e less
     at Deeper e = code_short s text more found h e less
 
-    first : first_margin (text ++ more) ≡ Fails found → (first_margin text ≡ Fails found) ⊎ MarginBeyond text more found → (first_margin text ≡ Fails found) ⊎ (FirstBeyond Nothing text more found ⊎ LineBeyond text more found)
+    first : first_margin s.levels (text ++ more) ≡ Fails found → (first_margin s.levels text ≡ Fails found) ⊎ MarginBeyond text more found → (first_margin s.levels text ≡ Fails found) ⊎ (FirstBeyond Nothing text more found ⊎ LineBeyond text more found)
     first e (inl fails) = inl fails
-    first e (inr beyond) = inr (inl (refl, e, beyond))
+    first e (inr beyond) = inr (inl (refl, (s.levels, e), beyond))
 
     before : (before : Before) → by_before language s before (text ++ more) ≡ Fails found → (by_before language s before text ≡ Fails found) ⊎ (FirstBeyond before text more found ⊎ LineBeyond text more found)
-    before Nothing e = first e (margin_short 0 [] [] text more found (whole_from_ends text h) e (omega (arith, less)))
+    before Nothing e = first e (margin_short 0 [] s.levels text more found (whole_from_ends text h) e (omega (arith, less)))
     before Layout e = in_place Layout (at s.mode e)
     before Gap e = in_place Gap (at s.mode e)
     before Other e = in_place Other (at s.mode e)
@@ -287,7 +287,7 @@ module _ (history : History) (text more : Text) (fault : Spanned Fault) (near : 
         let start_is = none_before history (text ++ more) here.pieces here.longest.reads first.0 in
         let none : pieces_len here.pieces ≡ 0 = start_is.0 in
         let begin : fault.begin ≡ 0 = begin_is first.2.0 ∙ none in
-        let fails : first_margin (text ++ more) ≡ Fails here.found = subst (λ n. first_margin (drop n text ++ more) ≡ Fails here.found) none first.1 in
+        let fails : FirstFails (text ++ more) here.found = subst (λ n. FirstFails (drop n text ++ more) here.found) none first.1 in
         let far : length text ≤ (margin_of (text ++ more)).at = subst (λ n. length (drop n text) ≤ (margin_of (drop n text ++ more)).at) none first.2.1 in
         let start : (fault.begin == 0) ≡ true = ap (λ n. n == 0) begin in
         let tab : is_margin_tab (text ++ more) fault ≡ true = rw (node first.2.0, start) refl in
@@ -297,7 +297,7 @@ module _ (history : History) (text more : Text) (fault : Spanned Fault) (near : 
         let margin : is_in_margin history.before (text ++ more) fault.begin ≡ true = rw (start_is.1, start) refl in
         near tab margin (subst (λ k. length text ≤ margin_line (text ++ more) k) (sym line) (omega (arith, far)))
       where
-        by : (line : Bool) → begins_with_line_end (text ++ more) ≡ line → first_margin (text ++ more) ≡ Fails here.found → line_end_len (text ++ more) ≡ 0
+        by : (line : Bool) → begins_with_line_end (text ++ more) ≡ line → FirstFails (text ++ more) here.found → line_end_len (text ++ more) ≡ 0
         by true e fails = absurd (line_end_stands (text ++ more) here.found e fails)
         by false e fails = no_line_end (text ++ more) e
 
@@ -320,10 +320,10 @@ module _ (history : History) (text more : Text) (fault : Spanned Fault) (near : 
         (omega (arith, beyond, at, inside, within, length-drop p text, length-drop n (drop p text))))
 
 -- Where a fault is decided in the front of a text, and what is passed with it ends there, the front has the outcome of the text.
-pub fault_shortened : (history : History) (text more : Text) (fault : Spanned Fault) → Starts history → (outcome_after history (text ++ more)).fault ≡ Some fault → is_decided text fault ≡ true → (passed history (text ++ more) fault).len ≤ length text
+pub fault_shortened : (history : History) (text more : Text) (fault : Spanned Fault) → (outcome_after history (text ++ more)).fault ≡ Some fault → is_decided text fault ≡ true → (passed history (text ++ more) fault).len ≤ length text
     → (outcome_after history text ≡ outcome_after history (text ++ more)) × (history_after history text ≡ history_after history (text ++ more))
-fault_shortened history text [] fault starts has is less = (ap (outcome_after history) (sym (append-nil text)), ap (history_after history) (sym (append-nil text)))
-fault_shortened history text (b ∷ bs) fault starts has is less =
+fault_shortened history text [] fault has is less = (ap (outcome_after history) (sym (append-nil text)), ap (history_after history) (sym (append-nil text)))
+fault_shortened history text (b ∷ bs) fault has is less =
     go (next_short (after_all history here.pieces) (drop (pieces_len here.pieces) text) (b ∷ bs) here.found (ends_line_drop (pieces_len here.pieces) text inside parts.1) fails (omega (arith, parts.0, here_end, length-drop (pieces_len here.pieces) text)))
   where
     here : StopsAt history (text ++ (b ∷ bs)) fault
@@ -351,7 +351,7 @@ fault_shortened history text (b ∷ bs) fault starts has is less =
         let reads = reading_shortened history text (b ∷ bs) here.pieces parts.1 here.longest.reads inside in
         let short = after_by history text here.pieces (Fails here.found) (record { reads = reads; stands_last = e; no_piece = λ piece e. cc }) in
         let found : (outcome_after history text).fault ≡ Some fault = ap (λ (o : Outcome). o.fault) short.0 ∙ ap Some here.same in
-        let same = outcome_stays history text (b ∷ bs) fault starts parts.1 (stops_at history text fault found) parts.0 in
+        let same = outcome_stays history text (b ∷ bs) fault parts.1 (stops_at history text fault found) parts.0 in
         (sym same.0, sym same.1)
 
     go : (next_step language (after_all history here.pieces) (drop (pieces_len here.pieces) text) ≡ Fails here.found) ⊎ (FirstBeyond (after_all history here.pieces).before (drop (pieces_len here.pieces) text) (b ∷ bs) here.found ⊎ LineBeyond (drop (pieces_len here.pieces) text) (b ∷ bs) here.found)

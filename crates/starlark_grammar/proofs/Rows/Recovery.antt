@@ -4,7 +4,7 @@ use Rattle.std.proofs.lemmas.Bool.{both_ways}
 use Rattle.std.specs.Prelude.{⊤, [], ◌∷◌, IfSome, codes, true, false}
 use Rattle.starlark_grammar.proofs.Rows.Shapes.{all_definitions, at, single, utf8, Pass, Fail}
 use Rattle.starlark_grammar.specs.Reading.{History, history_after, nothing, outcome, outcome_after}
-use Rattle.starlark_grammar.specs.Tokens.{Fault, Lexeme, Spanned, Newline, Identifier, Indent, Dedent, Word, Comment, FStringStart, InvalidInput, InvalidTab, Indentation, UnfinishedStringLiteral, ReservedKeyword}
+use Rattle.starlark_grammar.specs.Tokens.{Fault, InvalidEscapeSequence, Lexeme, Spanned, Newline, Identifier, Indent, Dedent, Word, Comment, FStringStart, InvalidInput, InvalidTab, Indentation, UnfinishedStringLiteral, ReservedKeyword}
 use Rattle.starlark_grammar.specs.Words.{Text}
 use Rattle.starlark_grammar.specs.declared.class.Terminal.TheVariants as terminal
 use Rattle.starlark_grammar.specs.AfterFaults.{next_line, restart, stopped_at}
@@ -42,10 +42,26 @@ rows_2 :
     × Recovers (codes "\tx\ny") (at 3 (Identifier (codes "y")) 4 ∷ at 4 Newline 4 ∷ []) (at 0 InvalidTab 0 ∷ [])
     × Recovers (codes "x\n# c\n\ty\nz") (at 0 (Identifier (codes "x")) 1 ∷ at 9 (Identifier (codes "z")) 10 ∷ at 10 Newline 10 ∷ []) (at 1 InvalidTab 1 ∷ [])
     × Recovers (codes "# c\n\ty\nz") (at 0 (Comment (codes " c")) 3 ∷ at 7 (Identifier (codes "z")) 8 ∷ at 8 Newline 8 ∷ []) (at 0 InvalidTab 0 ∷ [])
-    × Recovers (codes "a\n  b\n c\nd") (at 0 (Identifier (codes "a")) 1 ∷ at 1 Newline 2 ∷ at 2 Indent 4 ∷ at 4 (Identifier (codes "b")) 5 ∷ at 9 (Identifier (codes "d")) 10 ∷ at 10 Newline 10 ∷ []) (at 5 Indentation 7 ∷ [])
+    × Recovers (codes "a\n  b\n c\nd") (at 0 (Identifier (codes "a")) 1 ∷ at 1 Newline 2 ∷ at 2 Indent 4 ∷ at 4 (Identifier (codes "b")) 5 ∷ at 9 Dedent 9 ∷ at 9 (Identifier (codes "d")) 10 ∷ at 10 Newline 10 ∷ []) (at 5 Indentation 7 ∷ [])
     × Recovers (utf8 "é\nx") (at 2 Newline 3 ∷ at 3 (Identifier (codes "x")) 4 ∷ at 4 Newline 4 ∷ []) (at 0 (InvalidInput (utf8 "é")) 2 ∷ [])
 unfolding all_recovery
 rows_2 = (refl, refl, refl, refl, refl, refl, refl, refl)
+
+-- Blocks stay open: a bad escape two blocks deep, a width that doesn't fit, and a block that ends after an open quote.
+rows_3 :
+    Recovers (codes "if a:\n  if b:\n    x = '\\xz'\n    y\n  z\n") (
+    at 0 (Word terminal.If) 2 ∷ at 3 (Identifier (codes "a")) 4 ∷ at 4 (Word terminal.Colon) 5 ∷ at 5 Newline 6 ∷
+    at 6 Indent 8 ∷ at 8 (Word terminal.If) 10 ∷ at 11 (Identifier (codes "b")) 12 ∷ at 12 (Word terminal.Colon) 13 ∷ at 13 Newline 14 ∷
+    at 14 Indent 18 ∷ at 18 (Identifier (codes "x")) 19 ∷ at 20 (Word terminal.Equal) 21 ∷ at 32 (Identifier (codes "y")) 33 ∷ at 33 Newline 34 ∷
+    at 34 Dedent 34 ∷ at 36 (Identifier (codes "z")) 37 ∷ at 37 Newline 38 ∷ at 38 Newline 38 ∷ at 38 Dedent 38 ∷ []) (at 23 (InvalidEscapeSequence (codes "xz")) 26 ∷ [])
+    × Recovers (codes "if a:\n    b\n  c\n    d\n") (
+    at 0 (Word terminal.If) 2 ∷ at 3 (Identifier (codes "a")) 4 ∷ at 4 (Word terminal.Colon) 5 ∷ at 5 Newline 6 ∷
+    at 6 Indent 10 ∷ at 10 (Identifier (codes "b")) 11 ∷ at 20 (Identifier (codes "d")) 21 ∷ at 21 Newline 22 ∷ at 22 Newline 22 ∷ at 22 Dedent 22 ∷ []) (at 11 Indentation 14 ∷ [])
+    × Recovers (codes "if a:\n  'b\nc\n") (
+    at 0 (Word terminal.If) 2 ∷ at 3 (Identifier (codes "a")) 4 ∷ at 4 (Word terminal.Colon) 5 ∷ at 5 Newline 6 ∷
+    at 6 Indent 8 ∷ at 11 Dedent 11 ∷ at 11 (Identifier (codes "c")) 12 ∷ at 12 Newline 13 ∷ at 13 Newline 13 ∷ []) (at 8 UnfinishedStringLiteral 10 ∷ [])
+unfolding all_recovery
+rows_3 = (refl, refl, refl)
 
 -- which texts are cuts between lines …
 line_cuts : Pass is_line_cut
@@ -120,12 +136,12 @@ closed_rows :
     × IsClosed (codes "$\n x\n")
 unfolding all_recovery is_between_lines is_line_cut_after is_line_cut is_decided
 closed_rows = (
-  Empty,
+  Empty [],
   Cut nothing (codes "x\n") refl,
   Past nothing (codes "$\n") (at 0 (InvalidInput (codes "$")) 1) refl refl (Cut _ (codes "\n") refl),
-  Past nothing (codes "'a\n") (at 0 UnfinishedStringLiteral 2) refl refl Empty,
-  Past nothing (codes "f'a\nb\n") (at 2 UnfinishedStringLiteral 4) refl refl (Cut nothing (codes "b\n") refl),
-  Past nothing (codes "x\n\ty\n") (at 1 InvalidTab 1) refl refl Empty,
+  Past nothing (codes "'a\n") (at 0 UnfinishedStringLiteral 2) refl refl (Empty (0 ∷ [])),
+  Past nothing (codes "f'a\nb\n") (at 2 UnfinishedStringLiteral 4) refl refl (Cut _ (codes "b\n") refl),
+  Past nothing (codes "x\n\ty\n") (at 1 InvalidTab 1) refl refl (Empty (0 ∷ [])),
   Past nothing (codes "$\n x\n") (at 0 (InvalidInput (codes "$")) 1) refl refl (Cut _ (codes "\n x\n") refl),
 )
 
@@ -135,7 +151,7 @@ IsOpen history text = (0 < length text) × (is_line_cut_after history text ≡ f
 
 -- open by a fault that isn't decided, if there is one
 undecided_open : (history : History) (text : Text) → IsOpen history text → IfSome (outcome_after history text).fault (λ fault. is_decided text fault ≡ false) → IsClosedAfter history text → ⊥
-undecided_open _ _ (some, uncut) undecided Empty = absurd (omega (arith, some))
+undecided_open _ _ (some, uncut) undecided (Empty widths) = absurd (omega (arith, some))
 undecided_open _ _ (some, uncut) undecided (Cut history text cut) = both_ways (is_line_cut_after history text) uncut cut
 undecided_open _ _ (some, uncut) undecided (Past history text fault has is rest) =
     both_ways (is_decided text fault) (subst (λ first. IfSome first (λ other. is_decided text other ≡ false)) has undecided) is
@@ -145,7 +161,7 @@ abbrev StaysOpen : History → Text → Spanned Fault → Type 0
 StaysOpen history text fault = IsClosedAfter (passed history text fault).history (drop (passed history text fault).len text) → ⊥
 
 rest_open : (history : History) (text : Text) → IsOpen history text → IfSome (outcome_after history text).fault (StaysOpen history text) → IsClosedAfter history text → ⊥
-rest_open _ _ (some, uncut) stays Empty = absurd (omega (arith, some))
+rest_open _ _ (some, uncut) stays (Empty widths) = absurd (omega (arith, some))
 rest_open _ _ (some, uncut) stays (Cut history text cut) = both_ways (is_line_cut_after history text) uncut cut
 rest_open _ _ (some, uncut) stays (Past history text fault has is rest) = subst (λ first. IfSome first (StaysOpen history text)) has stays rest
 

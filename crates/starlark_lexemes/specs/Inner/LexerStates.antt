@@ -13,11 +13,9 @@ use Rattle.starlark_grammar.specs.KeptLines.{passed_end}
 use Rattle.starlark_grammar.specs.Tokens as grammar
 use Rattle.starlark_grammar.specs.Tokens.{Fault, Spanned}
 use Rattle.starlark_grammar.specs.Words.{Text, begins, is_name_start}
-use Rattle.starlark_grammar.specs.declared.class.Class.TheVariants as class
-use Rattle.starlark_grammar.specs.declared.class.LiteralKind.TheVariants as literal
 use Rattle.starlark_words.specs.Inner.ScannedWords.{begins_mark, peeked_len}
 use Rattle.starlark_words.specs.declared.scanner.word.Word.{Word}
-use Rattle.starlark_reader.specs.Inner.Reader.{IsAhead, IsAheadAfter, IsAheadPast, IsAtCode, IsAtEnd, IsRaw, IsSomething, IsStateAfter, IsStateAtFault, IsWordHere, From, Origin, Start, begins_with_tab, has_read_none, history_since, is_fault, kept_history, left_to_read, outcome_since}
+use Rattle.starlark_reader.specs.Inner.Reader.{IsAhead, IsAheadAfter, IsAheadPast, IsAtCode, IsAtEnd, IsRaw, IsSomething, IsStateAfter, IsStateAtFault, IsWordHere, From, Origin, Start, begins_with_fault, begins_with_tab, has_read_none, history_since, is_fault, kept_history, left_to_read, outcome_since}
 use Rattle.starlark_reader.specs.Inner.ReadBounds.{HasRead, LeavesPassed}
 use Rattle.starlark_reader.specs.declared.reader.Before.{Before}
 use Rattle.starlark_reader.specs.declared.reader.Before.TheVariants as before
@@ -143,7 +141,7 @@ pub record KeepsOpen (course : Course) (text : Text) (fault : Spanned Fault) (be
   pub ends : end ≡ passed_end text fault
   pub may : may_keep fault.node ≡ true
   pub inside : is_margin_tab text fault ≡ false
-  pub untabbed : course.origin ≡ Start → begins_with_tab text ≡ false
+  pub standing : begins_with_fault course.origin text ≡ false
   pub boundary : IsCharBoundary text end
 
 -- At a fault each byte before it was read, and at most so many, with those that find where lexing begins again.

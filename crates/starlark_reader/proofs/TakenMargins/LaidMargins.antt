@@ -93,34 +93,30 @@ module _ (text : Text) (begin : ℕ) (pending : Pending) (margin : Measured) (ut
     rw (margin_between text begin margin.at utf8 here same.at, none) (sym (append-nil _)),
   )
 
-pub none_open : (levels : List ℕ) → levels ≡ [] → levels ≡ open_widths []
-unfolding open_widths
-none_open levels e = e
-
-module _ (text : Text) (levels now : List ℕ) (margin : Measured) (pending : Pending) (utf8 : IsUtf8 text) (same : IsMargin (margin_of text) margin) (of : IsOfMargin 0 margin.at levels pending) where
-  pub first_taken : levels ≡ [] → IsLaidOut 0 (margin_of text) [] levels now pending.remainder → IsTaken text 0 (first_margin text) [] [] now pending (margin.at + margin.blanks)
-  first_taken none laid =
+module _ (text : Text) (levels now widths : List ℕ) (margin : Measured) (pending : Pending) (open_now : levels ≡ open_widths widths) (utf8 : IsUtf8 text) (same : IsMargin (margin_of text) margin) (of : IsOfMargin 0 margin.at levels pending) where
+  pub first_taken : IsLaidOut 0 (margin_of text) widths levels now pending.remainder → IsTaken text 0 (first_margin (open_widths widths) text) [] widths now pending (margin.at + margin.blanks)
+  first_taken laid =
       let both = waits text 0 pending margin utf8 (IsCharBoundary-start text utf8) same levels of levels laid.those_after in
       record {
-        piece = margin_piece 0 [] [] (margin_of text);
-        stands = rw none at (laid.stands 0 []);
+        piece = margin_piece 0 [] levels (margin_of text);
+        stands = ap (λ ls. margin_step 0 [] ls (margin_of text)) (sym open_now) ∙ laid.stands 0 [];
         whole = omega (arith, same.at, same.blanks.len);
         is_pending = both.0;
-        lexemes = twice 0 0 (margin_lexemes [] (margin_of text)) ∙ ap (λ ls. map (moved 0) (margin_lexemes ls (margin_of text))) (sym none) ∙ both.1;
+        lexemes = twice 0 0 (margin_lexemes levels (margin_of text)) ∙ both.1;
         open_now = laid.open_now;
       }
 
-  pub first_refused : levels ≡ [] → (remainder : AfterComments) → IsLeftOut (margin_of text) levels now remainder pending.remainder → lexemes_after remainder ≡ [] → (error : LexemeError) (end : ℕ) → IsFaultFound (margin_fault 0 (margin_of text)) (error, end)
-      → IsRefused text (first_margin text) (margin_of text).comments [] now pending error end
-  first_refused none remainder left idle error end found =
+  pub first_refused : (remainder : AfterComments) → IsLeftOut (margin_of text) levels now remainder pending.remainder → lexemes_after remainder ≡ [] → (error : LexemeError) (end : ℕ) → IsFaultFound (margin_fault 0 (margin_of text)) (error, end)
+      → IsRefused text (first_margin (open_widths widths) text) (margin_of text).comments widths now pending error end
+  first_refused remainder left idle error end found =
       let both = comments_wait text 0 pending margin utf8 (IsCharBoundary-start text utf8) same levels of (ap lexemes_after left.same ∙ idle) in
       record {
         node = found.0;
         is = found.1;
-        stands = ap (λ ls. margin_step 0 [] ls (margin_of text)) (sym none) ∙ left.stands 0 [] ∙ found.2;
+        stands = ap (λ ls. margin_step 0 [] ls (margin_of text)) (sym open_now) ∙ left.stands 0 [] ∙ found.2;
         is_pending = both.0;
         lexemes = sym (unmoved (margin_of text).comments) ∙ both.1;
-        open_now = left.levels ∙ none_open levels none;
+        open_now = left.levels ∙ open_now;
       }
 
 -- the lexeme of a newline of `len` bytes

@@ -1,18 +1,18 @@
 -- The outcome of the rest of a text, one piece further.
-use Rattle.std.proofs.Common.{◌≡◌, ℕ, ◌+◌, false, List, [], ◌∷◌, ◌++◌, drop, map, length, refl, ap, ◌∙◌, sym, Some, None, arith, append_assoc}
+use Rattle.std.proofs.Common.{◌≡◌, ℕ, ◌+◌, false, List, [], ◌∷◌, ◌++◌, drop, map, length, refl, ap, ◌∙◌, sym, subst, Some, None, arith, append_assoc}
 use Rattle.std.proofs.lemmas.List.{map-append}
 use Rattle.std.proofs.lemmas.List.Sums.{sum_by-cons}
+use Rattle.starlark_grammar.specs.Found.{at_line}
 use Rattle.starlark_grammar.specs.Words.{Text, language}
 use Rattle.starlark_grammar.specs.Tokens.{Dedent, Fault, Newline, Outcome, Spanned, moved}
 use Rattle.starlark_grammar.specs.Margins.{margin_of, open_widths}
-use Rattle.starlark_grammar.specs.Pieces.{Before, Ends, Fails, Gap, Layout, Nothing, Other, Piece, Stands, Step, first_margin, step_at}
-use Rattle.starlark_grammar.specs.Reading.{History, after, after_all, closing, history_after, lexemes_along, lexemes_before, next_step, nothing, outcome, outcome_of, pieces_len, reading_outcome, situation}
+use Rattle.starlark_grammar.specs.Pieces.{Before, Ends, Fails, Gap, Layout, Nothing, Other, Piece, Stands, Step, first_margin}
+use Rattle.starlark_grammar.specs.Reading.{History, after, after_all, closing, history_after, lexemes_along, lexemes_before, next_step, nothing, outcome, outcome_after, pieces_len, reading_outcome}
 use Rattle.starlark_grammar.specs.Longest.{IsLongestReading}
 use Rattle.starlark_reader.specs.Inner.Reader.{moved_outcome, remaining_outcome}
 use Rattle.starlark_grammar.proofs.Joining.CleanCuts.{along_later, map_replicate}
 use Rattle.starlark_grammar.proofs.Joining.Joined.{moved_both}
-use Rattle.starlark_grammar.proofs.Joining.Tabs.{outcome_by}
-use Rattle.starlark_grammar.proofs.Reading.Onward.{after_by, last_after, longest_after, pieces_after}
+use Rattle.starlark_grammar.proofs.Reading.Onward.{after_by, first_step_after, last_after, longest_after, outcome_after_nothing, pieces_after}
 use Rattle.starlark_grammar.proofs.Reading.Readings.{longest_onward, piece_fits, started, stops_here}
 use Rattle.starlark_grammar.proofs.Reading.Steps.{is_nothing}
 
@@ -113,21 +113,36 @@ history_onward history text piece stands =
 pub history_stops : (history : History) (text : Text) (last : Step) → next_step language history text ≡ last → ((piece : Piece) → last ≡ Stands piece → ⊥) → history_after history text ≡ history
 history_stops history text last is none = (after_by history text [] last (stops_here language history text last is none)).1
 
--- The start of the text
+-- The start of a line
 
-pub margin_first : (text : Text) → next_step language nothing text ≡ first_margin text
-unfolding next_step situation step_at
-margin_first text = refl
+pub line_first : (widths : List ℕ) (text : Text) → next_step language (at_line widths) text ≡ first_margin (open_widths widths) text
+line_first widths text = first_step_after (at_line widths) text refl
 
--- from the start of a text its outcome is that of its pieces
-begun_along : (text : Text) (piece : Piece) (pieces : List Piece) (last : Step) → outcome_of text (piece ∷ pieces) last ≡ outcome_along nothing 0 (piece ∷ pieces) last
-begun_along text piece pieces (Fails fault) = let same : pieces_len (piece ∷ pieces) ≡ 0 + pieces_len (piece ∷ pieces) = omega arith in ap (λ n. record { lexemes = lexemes_along 0 (piece ∷ pieces); fault = Some (moved n fault) }) same
-begun_along text piece pieces last = let same : pieces_len (piece ∷ pieces) ≡ 0 + pieces_len (piece ∷ pieces) = omega arith in ap (λ n. record { lexemes = lexemes_along 0 (piece ∷ pieces) ++ closing n (after_all nothing (piece ∷ pieces)); fault = None }) same
+-- from the start of a line its outcome is that of its pieces
+begun_along : (widths : List ℕ) (text : Text) (piece : Piece) (pieces : List Piece) (last : Step) → reading_outcome (at_line widths) text (piece ∷ pieces) last ≡ outcome_along (at_line widths) 0 (piece ∷ pieces) last
+begun_along widths text piece pieces (Fails fault) = let same : pieces_len (piece ∷ pieces) ≡ 0 + pieces_len (piece ∷ pieces) = omega arith in ap (λ n. record { lexemes = lexemes_along 0 (piece ∷ pieces); fault = Some (moved n fault) }) same
+begun_along widths text piece pieces last = let same : pieces_len (piece ∷ pieces) ≡ 0 + pieces_len (piece ∷ pieces) = omega arith in ap (λ n. record { lexemes = lexemes_along 0 (piece ∷ pieces) ++ closing n (after_all (at_line widths) (piece ∷ pieces)); fault = None }) same
 
-pub first_stands : (text : Text) (piece : Piece) → first_margin text ≡ Stands piece → GoesOn 0 piece (outcome text) (remaining_outcome (after nothing piece) (0 + piece.len) (drop piece.len text))
-first_stands text piece e =
-    let stands : next_step language nothing text ≡ Stands piece = margin_first text ∙ e in
-    goes_by nothing 0 text piece (outcome text) stands (outcome_by text _ _ (from_piece nothing text piece stands) ∙ begun_along text piece (pieces_after (after nothing piece) (drop piece.len text)) (last_after (after nothing piece) (drop piece.len text)))
+pub line_stands : (widths : List ℕ) (text : Text) (piece : Piece) → first_margin (open_widths widths) text ≡ Stands piece → GoesOn 0 piece (outcome_after (at_line widths) text) (remaining_outcome (after (at_line widths) piece) (0 + piece.len) (drop piece.len text))
+line_stands widths text piece e =
+    let history = at_line widths in
+    let stands : next_step language history text ≡ Stands piece = line_first widths text ∙ e in
+    goes_by history 0 text piece (outcome_after history text) stands
+    ((after_by history text _ _ (from_piece history text piece stands)).0 ∙ begun_along widths text piece (pieces_after (after history piece) (drop piece.len text)) (last_after (after history piece) (drop piece.len text)))
 
-pub first_fails : (text : Text) (fault : Spanned Fault) → first_margin text ≡ Fails fault → outcome text ≡ record { lexemes = (margin_of text).comments; fault = Some (moved 0 fault) }
-first_fails text fault e = outcome_by text [] (Fails fault) (stops_here language nothing text (Fails fault) (margin_first text ∙ e) (λ piece k. cc))
+pub line_fails : (widths : List ℕ) (text : Text) (fault : Spanned Fault) → first_margin (open_widths widths) text ≡ Fails fault → outcome_after (at_line widths) text ≡ record { lexemes = (margin_of text).comments; fault = Some (moved 0 fault) }
+line_fails widths text fault e = (after_by (at_line widths) text [] (Fails fault) (stops_here language (at_line widths) text (Fails fault) (line_first widths text ∙ e) (λ piece k. cc))).0
+
+-- The start of a text
+
+pub margin_first : (text : Text) → next_step language nothing text ≡ first_margin [] text
+unfolding open_widths
+margin_first text = line_first [] text
+
+pub first_stands : (text : Text) (piece : Piece) → first_margin [] text ≡ Stands piece → GoesOn 0 piece (outcome text) (remaining_outcome (after nothing piece) (0 + piece.len) (drop piece.len text))
+unfolding open_widths
+first_stands text piece e = subst (λ (whole : Outcome). GoesOn 0 piece whole (remaining_outcome (after nothing piece) (0 + piece.len) (drop piece.len text))) (outcome_after_nothing text) (line_stands [] text piece e)
+
+pub first_fails : (text : Text) (fault : Spanned Fault) → first_margin [] text ≡ Fails fault → outcome text ≡ record { lexemes = (margin_of text).comments; fault = Some (moved 0 fault) }
+unfolding open_widths
+first_fails text fault e = sym (outcome_after_nothing text) ∙ line_fails [] text fault e

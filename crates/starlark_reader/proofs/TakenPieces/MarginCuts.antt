@@ -50,7 +50,7 @@ read_more text history at next piece read stands is = record {
   reach = omega (arith, pieces_append read.pieces (piece ∷ []), sum_by-cons (λ (piece : Piece). piece.len) piece [], read.reach, is);
 }
 
-pub read_first : (text : Text) (next : ℕ) (piece : Piece) → first_margin text ≡ Stands piece → next ≡ 0 + piece.len → IsReadTo text (after nothing piece) next
+pub read_first : (text : Text) (next : ℕ) (piece : Piece) → first_margin [] text ≡ Stands piece → next ≡ 0 + piece.len → IsReadTo text (after nothing piece) next
 read_first text next piece stands is = record {
   pieces = piece ∷ [];
   reads = (margin_first text ∙ stands, tt);
@@ -99,7 +99,7 @@ lines_ahead : (text : Text) (begin : ℕ) (levels : List ℕ) (pending : Pending
 lines_ahead text begin levels pending of = search (rules, take-append-drop, margin_lines)
 
 -- The text's first margin was taken.
-pub first_ahead_cut : (text : Text) (levels : List ℕ) (piece : Piece) (pending : Pending) → first_margin text ≡ Stands piece → IsOfMargin 0 (margin_of (drop 0 text)).at levels pending → map (moved 0) piece.lexemes ≡ pending_lexemes text pending
+pub first_ahead_cut : (text : Text) (levels : List ℕ) (piece : Piece) (pending : Pending) → first_margin [] text ≡ Stands piece → IsOfMargin 0 (margin_of (drop 0 text)).at levels pending → map (moved 0) piece.lexemes ≡ pending_lexemes text pending
     → IsMarginAhead text pending (length (pending_lexemes text pending) + length (remaining_outcome (after nothing piece) (0 + piece.len) (drop piece.len text)).lexemes)
 first_ahead_cut text levels piece pending stands of lexemes =
     let goes = first_stands text piece stands in
@@ -284,7 +284,7 @@ cut_of_piece text history at piece read begun stands x remainder is least most =
 
 -- a cut is in a text's first margin if fewer lexemes are after it than in the text, and no fewer
 -- than after the margin
-cut_of_first : (text : Text) (piece : Piece) → first_margin text ≡ Stands piece
+cut_of_first : (text : Text) (piece : Piece) → first_margin [] text ≡ Stands piece
     → (x remainder : ℕ) → IsCutBefore text x remainder → length (left_over text nothing 0 piece).lexemes ≤ remainder → remainder < length piece.lexemes + length (left_over text nothing 0 piece).lexemes → IsInMargin text x []
 cut_of_first text piece stands x remainder is least most =
     let goes = first_stands text piece stands in
@@ -328,7 +328,7 @@ module _ (text : Text) (history : History) (at len : ℕ) (piece : Piece) (read 
           lines_ahead_of text x remainder _ read.pieces n 1 (at + len) levels pending found of (omega (arith, read.reach, ap len_of (sym there ∙ here))) (count_of found.passed found.count)
 
 -- a cut in the first margin of the text
-pub first_cut : (text : Text) (levels : List ℕ) (piece : Piece) (pending : Pending) → first_margin text ≡ Stands piece → IsOfMargin 0 (margin_of (drop 0 text)).at levels pending → map (moved 0) piece.lexemes ≡ pending_lexemes text pending
+pub first_cut : (text : Text) (levels : List ℕ) (piece : Piece) (pending : Pending) → first_margin [] text ≡ Stands piece → IsOfMargin 0 (margin_of (drop 0 text)).at levels pending → map (moved 0) piece.lexemes ≡ pending_lexemes text pending
     → (x remainder : ℕ) → IsCutBefore text x remainder → length (left_over text nothing 0 piece).lexemes ≤ remainder → remainder < length piece.lexemes + length (left_over text nothing 0 piece).lexemes
     → IsAfterLines text pending x remainder (length (pending_lexemes text pending) + length (left_over text nothing 0 piece).lexemes)
 first_cut text levels piece pending stands of lexemes x remainder cut least most =
@@ -351,7 +351,7 @@ none_at_end text history at read begun ends x remainder is most =
     omega (arith, all_lexemes text history at read begun, is.count, most, cut_few text x parts.1 parts.0, ap (λ (ps : List Piece). length (lexemes_along 0 ps)) same.0)
 
 -- no cut is in a text whose first margin has a fault
-pub none_at_fault : (text : Text) (fault : Spanned grammar.Fault) → first_margin text ≡ Fails fault → (x remainder : ℕ) → IsCutBefore text x remainder → ⊥
+pub none_at_fault : (text : Text) (fault : Spanned grammar.Fault) → first_margin [] text ≡ Fails fault → (x remainder : ℕ) → IsCutBefore text x remainder → ⊥
 none_at_fault text fault fails x remainder is =
     let parts = kept_parts text x is.is_kept in
     let none = one_longest language nothing text _ _ _ _ (read_is language text) (stops_here language nothing text (Fails fault) (margin_first text ∙ fails) (λ piece e. let both : Fails fault ≡ Stands piece = e in cc)) in

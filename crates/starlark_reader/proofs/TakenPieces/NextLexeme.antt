@@ -4,13 +4,14 @@ use Rattle.std.specs.Prelude.{Option, nat_lt, sum_by}
 use Rattle.starlark_grammar.specs.Words.{Text, language}
 use Rattle.starlark_grammar.specs.Tokens.{Fault, Lexeme, Outcome, Spanned, moved}
 use Rattle.starlark_grammar.specs.Pieces.{Piece, Step, Fails}
-use Rattle.starlark_grammar.specs.Reading.{History, lexemes_along, nothing, outcome, outcome_after, outcome_in, read, read_after, reading_outcome}
+use Rattle.starlark_grammar.specs.Found.{at_line}
+use Rattle.starlark_grammar.specs.Reading.{History, lexemes_along, outcome_after, read_after, reading_outcome}
 use Rattle.starlark_token.specs.Lexemes.{lexeme_view, shown_lexeme}
 use Rattle.starlark_reader.specs.Inner.MarginCuts.{IsAfterLines, IsCutBefore, IsMarginAhead}
 use Rattle.starlark_reader.specs.Inner.MarginLines.{IsLinePassed, IsPassedLine}
 use Rattle.starlark_reader.specs.Inner.Nesting.{bracket_count}
 use Rattle.starlark_reader.specs.Inner.Pending.{IsFirst, IsFirstPast, IsIdle, lines_between, pending_lexemes}
-use Rattle.starlark_reader.specs.Inner.Reader.{IsAhead, IsAheadAfter, IsAheadPast, IsInFlatMargin, IsLast, IsLeft, IsOver, IsReady, IsSomething, IsStateAfter, Origin, Start, history_since, moved_fault, remaining_outcome}
+use Rattle.starlark_reader.specs.Inner.Reader.{IsAhead, IsAheadAfter, IsAheadPast, IsInFlatMargin, IsLast, IsLeft, IsOver, IsReady, IsSomething, IsStateAfter, From, IsLine, Line, Origin, Start, history_since, moved_fault, outcome_since, remaining_outcome}
 use Rattle.starlark_token.specs.TokenViews.{TokenView}
 use Rattle.starlark_token.specs.declared.lexeme_error.LexemeError.{LexemeError}
 use Rattle.starlark_token.specs.declared.tokens.Token.{Token}
@@ -29,7 +30,7 @@ use Rattle.std.proofs.lemmas.List.Sums.{sum_by-cons}
 pub same_left : (origin : Origin) (text : Text) (old new : Reader) (stage : Stage) (left : Outcome) → IsHere old new → IsLeft origin text old stage left → IsLeft origin text new stage left
 same_left origin text old new stage.Begin left here h = (h.0, here.at ∙ h.1, rw here.nesting h.2, here.levels ∙ h.3, ap bracket_count here.nesting ∙ h.4, here.before ∙ h.5, h.6)
 same_left origin text old new stage.Onward left here h = (h.0, kept_here text h.0 old new here h.1, h.2 ∙ ap (λ at. remaining_outcome h.0 at (drop at text)) (sym here.at))
-same_left origin text old new (stage.Fault begin fault end) left here h = (h.0, h.1, h.2, λ start. rw (here.at, here.before) (h.3 start), rw here.at h.4, λ untabbed. kept_here text (history_since origin text) old new here (h.5 untabbed), rw here.at h.6)
+same_left origin text old new (stage.Fault begin fault end) left here h = (h.0, h.1, h.2, λ start. rw (here.at, here.before) (h.3 start), rw here.at h.4, record { levels = here.levels ∙ h.5.levels; whole = λ standing. kept_here text (history_since origin text) old new here (h.5.whole standing) }, rw here.at h.6)
 same_left origin text old new stage.Closed left here h = (h.0, kept_here text (history_since origin text) old new here h.1)
 
 flat_here : (old new : Reader) (now later : Stage) → IsHere old new → new.pending ≡ old.pending → later ≡ now → IsInFlatMargin old now → IsInFlatMargin new later
@@ -148,12 +149,16 @@ rest_something history at text e none =
     unmoved None e = refl
     unmoved (Some fault) e = cc
 
-whole_something : (text : Text) → map shown_lexeme (outcome text).lexemes ≡ [] → (outcome text).fault ≡ None → ⊥
-unfolding outcome outcome_in
-whole_something text e none = reading_something nothing text (read language text).pieces (read language text).last (none_mapped shown_lexeme _ e) none
+line_something : (origin : Origin) (text : Text) → IsLine origin → map shown_lexeme (outcome_since origin text).lexemes ≡ [] → (outcome_since origin text).fault ≡ None → ⊥
+unfolding outcome_after
+line_something (Line widths) text line e none = reading_something (at_line widths) text (read_after language (at_line widths) text).pieces (read_after language (at_line widths) text).last (none_mapped shown_lexeme _ e) none
+line_something (From history at) text line e none = line
 
 pub begin_something : {origin : Origin} → (text : Text) (reader : Reader) (lexemes : List (Spanned TokenView)) (fault : Option (Spanned Fault)) → IsIdle text reader.pending → reader.stage ≡ stage.Begin → IsAhead origin text reader reader.stage lexemes fault → IsSomething lexemes fault
-begin_something text reader lexemes fault idle e ahead = search (rules, none_before, whole_something)
+begin_something {origin = origin} text reader lexemes fault idle e ahead = λ none faultless.
+    let left = subst (λ (s : Stage). IsLeft origin text reader s ahead.left) e ahead.is_left in
+    let both = none_before text reader reader.stage lexemes fault (outcome_since origin text) idle ahead left.0 in
+    line_something origin text left.6 (sym both.0 ∙ none) (sym both.1 ∙ faultless)
 
 pub onward_something : {origin : Origin} → (text : Text) (reader : Reader) (lexemes : List (Spanned TokenView)) (fault : Option (Spanned Fault)) → IsIdle text reader.pending → reader.stage ≡ stage.Onward → IsAhead origin text reader reader.stage lexemes fault → IsSomething lexemes fault
 onward_something text reader lexemes fault idle e ahead = search (rules, none_before, rest_something)

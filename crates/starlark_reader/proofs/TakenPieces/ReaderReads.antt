@@ -92,5 +92,5 @@ reads_ahead {origin = origin} text reader reads stage lexemes fault ahead =
     by_stage : (stage : Stage) → IsLeft origin text reader stage ahead.left → IsLeft origin text (record reader { reads = reads }) stage ahead.left
     by_stage stages.Begin left = left
     by_stage stages.Onward left = (left.0, state_reads text left.0 reader reads left.1, left.2)
-    by_stage (stages.Fault begin fault end) left = (left.0, left.1, left.2, left.3, left.4, λ untabbed. state_reads text (history_since origin text) reader reads (left.5 untabbed), left.6)
+    by_stage (stages.Fault begin fault end) left = (left.0, left.1, left.2, left.3, left.4, record { levels = left.5.levels; whole = λ standing. state_reads text (history_since origin text) reader reads (left.5.whole standing) }, left.6)
     by_stage stages.Closed left = (left.0, state_reads text (history_since origin text) reader reads left.1)

@@ -75,7 +75,7 @@ module _ (text : Text) (reader over : Reader) where
   over_left : (origin : Origin) (stage : Stage) (left : Outcome) → IsLeft origin text reader stage left → IsLeft origin text (record reader { text = over.text }) stage left
   over_left origin stages.Begin left is = is
   over_left origin stages.Onward left is = (is.0, over_state is.0 is.1, is.2)
-  over_left origin (stages.Fault begin fault end) left is = (is.0, is.1, is.2, is.3, is.4, λ untabbed. over_state (history_since origin text) (is.5 untabbed), is.6)
+  over_left origin (stages.Fault begin fault end) left is = (is.0, is.1, is.2, is.3, is.4, record { levels = is.5.levels; whole = λ standing. over_state (history_since origin text) (is.5.whole standing) }, is.6)
   over_left origin stages.Closed left is = (is.0, over_state (history_since origin text) is.1)
 
   pub over_ahead : {origin : Origin} → (stage : Stage) (lexemes : List (Spanned TokenView)) (fault : Option (Spanned Fault)) → IsAhead origin text reader stage lexemes fault → IsAhead origin text (record reader { text = over.text }) stage lexemes fault

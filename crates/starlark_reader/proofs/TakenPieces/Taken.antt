@@ -11,17 +11,18 @@ use Rattle.starlark_grammar.specs.Words.{Text, language}
 use Rattle.starlark_grammar.specs.Tokens.{Lexeme, Outcome, Spanned, moved}
 use Rattle.starlark_grammar.specs.Tokens as grammar
 use Rattle.starlark_grammar.specs.Margins.{Margin, comment_lines, comments_from, fits, has_tab, indentation, is_content, is_widest, margin_len, margin_of, open_widths, width_of}
-use Rattle.starlark_grammar.specs.Pieces.{Ends, Fails, Layout, Piece, Stands, first_margin, line_end, margin_step}
+use Rattle.starlark_grammar.specs.Found.{at_line}
+use Rattle.starlark_grammar.specs.Pieces.{Ends, Fails, Layout, Piece, Stands, Step, first_margin, line_end, margin_step}
 use Rattle.starlark_grammar.specs.Cuts.{is_layout}
-use Rattle.starlark_grammar.specs.Reading.{History, after, after_all, closing, history_after, next_step, pieces_len, nothing, outcome, tokens_onto}
+use Rattle.starlark_grammar.specs.Reading.{History, after, after_all, closing, history_after, next_step, outcome, outcome_after, pieces_len, nothing, tokens_onto}
 use Rattle.starlark_grammar.specs.Longest.{IsReading}
 use Rattle.starlark_token.specs.Lexemes.{fault_view, lexeme_view, shown_lexeme}
 use Rattle.starlark_reader.specs.Inner.MarginViews.{IsRefused, IsTaken}
 use Rattle.starlark_reader.specs.Inner.Pending.{IsIdle, IsPending, pending_lexemes}
 use Rattle.starlark_reader.specs.Inner.Nesting.{Represents, bracket_count, keeps_nesting}
-use Rattle.starlark_reader.specs.Inner.MarginCuts.{IsAfterLines, IsCutBefore}
+use Rattle.starlark_reader.specs.Inner.MarginCuts.{IsAfterLines, IsCutBefore, IsMarginAhead}
 use Rattle.starlark_reader.specs.Inner.MarginLines.{IsOfMargin}
-use Rattle.starlark_reader.specs.Inner.Reader.{HoldsCuts, IsAhead, IsAheadAfter, IsAheadPast, IsCutAhead, IsInFlatMargin, IsLeft, IsReached, IsRead, IsReadPast, IsReadTo, IsStateAfter, IsStateAtFault, Origin, Start, before_view, begins_with_tab, has_read_none, history_since, left_here, left_to_read, remaining_outcome, step_here}
+use Rattle.starlark_reader.specs.Inner.Reader.{HoldsCuts, IsAhead, IsAheadAfter, IsAheadPast, IsCutAhead, IsInFlatMargin, IsLeft, IsReached, IsRead, IsReadPast, IsReadTo, IsStateAfter, IsStateAtFault, Line, Origin, Start, before_view, begins_with_fault, begins_with_tab, has_read_none, history_since, is_refused, left_here, left_to_read, remaining_outcome, step_here}
 use Rattle.starlark_token.specs.TokenViews.{TokenView, Whole, token_view}
 use Rattle.starlark_token.specs.declared.lexeme_error.LexemeError.{LexemeError}
 use Rattle.starlark_reader.specs.declared.nesting.Nesting.{Nesting}
@@ -36,7 +37,8 @@ use Rattle.starlark_reader.proofs.TakenMargins.Pending.{margin_comments}
 use Rattle.starlark_grammar.proofs.Order.Edges.{boundary_shift}
 use Rattle.starlark_grammar.proofs.Lists.{drop-sum}
 use Rattle.starlark_reader.proofs.TakenPieces.Here.{IsHere, after_some, kept_here}
-use Rattle.starlark_reader.proofs.TakenPieces.LeftOutcomes.{GoesOn, first_fails, first_stands, history_onward, history_stops, margin_first, onward_ends, onward_fails, onward_stands}
+use Rattle.starlark_reader.proofs.TakenPieces.LeftOutcomes.{GoesOn, history_onward, history_stops, line_fails, line_first, line_stands, margin_first, onward_ends, onward_fails, onward_stands}
+use Rattle.starlark_grammar.proofs.Reading.Onward.{outcome_after_nothing}
 use Rattle.starlark_grammar.proofs.Reading.Readings.{one_least, piece_fits, started}
 use Rattle.starlark_grammar.proofs.Joining.Tabs.{margin_tab, tab, tab_of}
 use Rattle.starlark_reader.proofs.OpenBrackets.OpenFStrings.{one_kept}
@@ -107,8 +109,8 @@ margin_is_quiet len line levels text h =
 pub line_is_quiet : (len : ℕ) (levels : List ℕ) (remainder : Text) (piece : Piece) → line_end len levels remainder ≡ Stands piece → IsLayout piece
 line_is_quiet len levels remainder piece e = subst (Each IsLayout (λ fault. ⊤)) e (margin_is_quiet len (record { begin = 0; node = grammar.Newline; end = len } ∷ []) levels remainder (refl, tt))
 
-pub first_is_quiet : (text : Text) (piece : Piece) → first_margin text ≡ Stands piece → IsLayout piece
-first_is_quiet text piece e = subst (Each IsLayout (λ fault. ⊤)) e (margin_is_quiet 0 [] [] text tt)
+pub first_is_quiet : (levels : List ℕ) (text : Text) (piece : Piece) → first_margin levels text ≡ Stands piece → IsLayout piece
+first_is_quiet levels text piece e = subst (Each IsLayout (λ fault. ⊤)) e (margin_is_quiet 0 [] levels text tt)
 
 -- A piece
 
@@ -194,12 +196,27 @@ pub took : {origin : Origin} → (text : Text) (history : History) (old : Reader
     → new.stage ≡ stage.Onward → Hands text given new.pending (map (moved old.at) piece.lexemes) → IsRead origin text (left_here text history old) given new
 took text history old given new piece = took_past text history old (map lexeme_view (option_to_list given)) new piece
 
-took_first : (text : Text) (new : Reader) (piece : Piece) → IsUtf8 text → first_margin text ≡ Stands piece → AreCutsBehind Start text nothing 0 piece new
-    → Represents (tokens_onto [] piece.lexemes) new.nesting → new.levels ≡ open_widths ([] ++ option_to_list piece.width) → before_view new.before ≡ piece.sort → new.at ≡ 0 + piece.len → bracket_count new.nesting ≤ new.at
-    → new.stage ≡ stage.Onward → Hands text None new.pending (map (moved 0) piece.lexemes) → IsRead Start text (outcome text) None new
-took_first text new piece utf8 stands cuts nesting levels before is_at few is_onward hands =
-    read_piece text (outcome text) nothing 0 [] new piece (first_stands text piece stands)
-    (kept_after text nothing 0 new piece utf8 (IsCharBoundary-start text utf8) (margin_first text ∙ stands) nesting levels before is_at few (sym (history_onward nothing text piece (margin_first text ∙ stands))) (λ start. read_first text new.at piece stands is_at)) is_at is_onward hands cuts
+-- at the start of a text no width is open
+none_open : (widths : List ℕ) → Line widths ≡ Start → widths ≡ []
+none_open widths start = cc
+
+flat_start : (widths : List ℕ) → Line widths ≡ Start → open_widths widths ≡ []
+unfolding open_widths
+flat_start widths start = ap open_widths (none_open widths start)
+
+-- its first margin
+start_step : (widths : List ℕ) (text : Text) (step : Step) → first_margin (open_widths widths) text ≡ step → Line widths ≡ Start → first_margin [] text ≡ step
+start_step widths text step is start = ap (λ levels. first_margin levels text) (sym (flat_start widths start)) ∙ is
+
+took_first : (widths : List ℕ) (text : Text) (new : Reader) (piece : Piece) → IsUtf8 text → first_margin (open_widths widths) text ≡ Stands piece → AreCutsBehind (Line widths) text (at_line widths) 0 piece new
+    → Represents (tokens_onto [] piece.lexemes) new.nesting → new.levels ≡ open_widths (widths ++ option_to_list piece.width) → before_view new.before ≡ piece.sort → new.at ≡ 0 + piece.len → bracket_count new.nesting ≤ new.at
+    → new.stage ≡ stage.Onward → Hands text None new.pending (map (moved 0) piece.lexemes) → IsRead (Line widths) text (outcome_after (at_line widths) text) None new
+took_first widths text new piece utf8 stands cuts nesting levels before is_at few is_onward hands =
+    let history = at_line widths in
+    let here = line_first widths text ∙ stands in
+    read_piece text (outcome_after history text) history 0 [] new piece (line_stands widths text piece stands)
+    (kept_after text history 0 new piece utf8 (IsCharBoundary-start text utf8) here nesting levels before is_at few (sym (history_onward history text piece here))
+    (λ start. subst (λ ws. IsReadTo text (after (at_line ws) piece) new.at) (sym (none_open widths start)) (read_first text new.at piece (start_step widths text (Stands piece) stands start) is_at))) is_at is_onward hands cuts
 
 pub piece_inside : {origin : Origin} → (text : Text) (history : History) (old : Reader) (piece : Piece) → IsStateAfter origin text history old → step_here text history old ≡ Stands piece → (old.at < old.at + piece.len) × (old.at + piece.len ≤ length text)
 piece_inside text history old piece kept stands =
@@ -209,7 +226,7 @@ piece_inside text history old piece kept stands =
 -- The text's first margin
 
 -- a first margin without fault has no tab before content
-pub no_tab : (text : Text) (piece : Piece) → first_margin text ≡ Stands piece → begins_with_tab text ≡ false
+pub no_tab : (text : Text) (piece : Piece) → first_margin [] text ≡ Stands piece → begins_with_tab text ≡ false
 no_tab text piece stands = false_from_ne_true (begins_with_tab text) (λ e.
     let parts = and_parts (is_content (margin_of text).remainder) (has_tab (margin_of text)) e in
     let both : Stands piece ≡ Fails tab = sym stands ∙ margin_tab 0 [] [] (margin_of text) (record { content = parts.0; is = parts.1 }) in
@@ -222,7 +239,7 @@ state_begun text history reader kept start = let read = kept.read start in go re
   where
     unread : (piece : Piece) (pieces : List Piece) → IsReading language nothing text (piece ∷ pieces) → after_all nothing (piece ∷ pieces) ≡ history → pieces_len (piece ∷ pieces) ≡ reader.at → has_read_none reader ≡ false
     unread piece [] reads same reach =
-        ap (λ b. reader.at == 0 && not (is_layout b)) (kept.before ∙ ap (λ (h : History). h.before) (sym same) ∙ (first_is_quiet text piece (sym (margin_first text) ∙ reads.0)).sort) ∙ and_right (reader.at == 0) false refl
+        ap (λ b. reader.at == 0 && not (is_layout b)) (kept.before ∙ ap (λ (h : History). h.before) (sym same) ∙ (first_is_quiet [] text piece (sym (margin_first text) ∙ reads.0)).sort) ∙ and_right (reader.at == 0) false refl
     unread piece (next ∷ pieces) reads same reach =
         let least = one_least (after nothing piece).before (started nothing piece (piece_fits language nothing text piece reads.0).sort) in
         let some = (piece_fits language (after nothing piece) (drop piece.len text) next reads.1.0).some in
@@ -241,7 +258,7 @@ same_place old new at before = ap (λ n. n == 0 && not (is_layout (before_view n
 -- a fault was read, by the lexemes before it
 read_fault : {origin : Origin} → (text : Text) (whole : Outcome) (at : ℕ) (lexemes : List Lexeme) (new : Reader) (fault : Spanned grammar.Fault) (error : LexemeError) → whole ≡ record { lexemes = lexemes; fault = Some (moved at fault) }
     → fault_view error ≡ Some fault.node → new.stage ≡ stage.Fault (at + fault.begin) error (at + fault.end) → Hands text None new.pending lexemes → (origin ≡ Start → has_read_none new ≡ begins_with_tab text)
-    → new.at ≤ length text → IsStateAtFault origin text new → new.at ≤ at + fault.begin → ((x remainder : ℕ) → IsCutBefore text x remainder → remainder < length lexemes → ⊥) → IsRead origin text whole None new
+    → new.at ≤ length text → IsStateAtFault origin text new → new.at ≤ at + fault.begin → (origin ≡ Start → (x remainder : ℕ) → IsCutBefore text x remainder → remainder < length lexemes → ⊥) → IsRead origin text whole None new
 read_fault {origin = origin} text whole at lexemes new fault error left view is hands place inside state before none = record {
   lexemes = lexemes;
   left = record { lexemes = []; fault = Some (moved at fault) };
@@ -251,8 +268,12 @@ read_fault {origin = origin} text whole at lexemes new fault error left view is 
   is_pending = hands.0;
   yielded_count = hands.1;
   cut = λ start on. let over : stage.Fault (at + fault.begin) error (at + fault.end) ≡ stage.Onward = sym is ∙ on in cc;
-  cuts = λ start x remainder cut least most. absurd (none x remainder cut (omega (arith, most)));
+  cuts = λ start x remainder cut least most. absurd (none start x remainder cut (omega (arith, most)));
 }
+
+-- after a piece all is stored
+at_fault : {origin : Origin} → (text : Text) (new : Reader) → IsStateAfter origin text (history_since origin text) new → IsStateAtFault origin text new
+at_fault text new now = record { levels = now.levels; whole = λ standing. now }
 
 pub failed : {origin : Origin} → (text : Text) (history : History) (old new : Reader) (fault : Spanned grammar.Fault) (error : LexemeError) → IsStateAfter origin text history old → step_here text history old ≡ Fails fault → fault_view error ≡ Some fault.node
     → new.stage ≡ stage.Fault (old.at + fault.begin) error (old.at + fault.end) → Hands text None new.pending [] → IsHere old new → IsRead origin text (left_here text history old) None new
@@ -260,15 +281,23 @@ failed {origin = origin} text history old new fault error kept fails view is han
     let whole = sym (history_stops history (drop old.at text) (Fails fault) fails (λ piece e. cc)) ∙ kept.onward in
     let now = kept_here text history old new here kept in
     read_fault text (left_here text history old) old.at [] new fault error (onward_fails history old.at (drop old.at text) fault (begun text history old kept) fails) view is hands
-    (λ start. same_place old new here.at here.before ∙ state_begun text history old kept start) now.inside (λ untabbed. subst (λ (h : History). IsStateAfter origin text h new) whole now) (omega (arith, here.at)) (λ x remainder cut most. omega (arith, most))
+    (λ start. same_place old new here.at here.before ∙ state_begun text history old kept start) now.inside (at_fault text new (subst (λ (h : History). IsStateAfter origin text h new) whole now)) (omega (arith, here.at)) (λ start x remainder cut most. omega (arith, most))
 
-pub failed_first : (text : Text) (new : Reader) (fault : Spanned grammar.Fault) (error : LexemeError) → first_margin text ≡ Fails fault → fault_view error ≡ Some fault.node
-    → new.stage ≡ stage.Fault (0 + fault.begin) error (0 + fault.end) → Hands text None new.pending (margin_of text).comments → new.at ≡ 0 → new.before ≡ sort.Other → IsRead Start text (outcome text) None new
-failed_first text new fault error fails view is hands at before =
-    let has = tab_of (margin_of text) fault fails in
-    let tabbed : begins_with_tab text ≡ true = rw (has.content, has.is) refl in
-    let none : has_read_none new ≡ true = rw (at, before) refl in
-    read_fault text (outcome text) 0 (margin_of text).comments new fault error (first_fails text fault fails) view is hands (λ start. none ∙ sym tabbed) (omega (arith, at)) (λ untabbed. absurd (both_ways _ (untabbed refl) tabbed)) (omega (arith, at)) (λ x remainder cut most. none_at_fault text fault fails x remainder cut)
+pub failed_first : (widths : List ℕ) (text : Text) (new : Reader) (fault : Spanned grammar.Fault) (error : LexemeError) → first_margin (open_widths widths) text ≡ Fails fault → fault_view error ≡ Some fault.node
+    → new.stage ≡ stage.Fault (0 + fault.begin) error (0 + fault.end) → Hands text None new.pending (margin_of text).comments → new.at ≡ 0 → new.before ≡ sort.Other → new.levels ≡ open_widths widths
+    → IsRead (Line widths) text (outcome_after (at_line widths) text) None new
+failed_first widths text new fault error fails view is hands at before levels =
+    let stays = history_stops (at_line widths) text (Fails fault) (line_first widths text ∙ fails) (λ piece e. cc) in
+    let refused : begins_with_fault (Line widths) text ≡ true = ap is_refused fails in
+    let state : IsStateAtFault (Line widths) text new = record { levels = levels ∙ ap (λ (h : History). open_widths h.widths) (sym stays); whole = λ standing. absurd (both_ways _ standing refused) } in
+    read_fault text (outcome_after (at_line widths) text) 0 (margin_of text).comments new fault error (line_fails widths text fault fails) view is hands tab (omega (arith, at)) state (omega (arith, at)) (λ start x remainder cut most. none_at_fault text fault (start_step widths text (Fails fault) fails start) x remainder cut)
+  where
+    tab : Line widths ≡ Start → has_read_none new ≡ begins_with_tab text
+    tab start =
+        let has = tab_of (margin_of text) fault (start_step widths text (Fails fault) fails start) in
+        let tabbed : begins_with_tab text ≡ true = rw (has.content, has.is) refl in
+        let unread : has_read_none new ≡ true = rw (at, before) refl in
+        unread ∙ sym tabbed
 
 -- The text's end
 
@@ -394,33 +423,42 @@ module _ {origin : Origin} (text : Text) (history : History) (old : Reader) (len
       failed text history old new (record { begin = 0; node = refused.node; end = end }) error kept (line_here ∙ refused.stands) refused.is is (hands_later text new.pending [] refused.is_pending refused.lexemes)
       (record { at = at; nesting = nesting; levels = refused.open_now ∙ sym kept.levels; before = before })
 
--- a reader that has read nothing
-pub record IsNew (reader : Reader) : Type 0 where
+-- a reader that has read nothing of a line
+pub record IsNew (widths : List ℕ) (reader : Reader) : Type 0 where
   pub at : reader.at ≡ 0
   pub nesting : Represents [] reader.nesting
-  pub levels : reader.levels ≡ []
+  pub levels : reader.levels ≡ open_widths widths
   pub few : bracket_count reader.nesting ≡ 0
   pub before : reader.before ≡ sort.Other
 
-module _ (text : Text) (old new : Reader) (is_new : IsNew old) where
-  pub margin_taken : (whole : ℕ) → IsUtf8 text → IsTaken text 0 (first_margin text) [] [] new.levels new.pending whole
-      → IsOfMargin 0 (margin_of (drop 0 text)).at old.levels new.pending → new.nesting ≡ old.nesting → new.before ≡ sort.Layout → new.at ≡ old.at + whole → new.stage ≡ stage.Onward → IsRead Start text (outcome text) None new
+-- how many lexemes are left after a first piece
+abbrev rest_after : Text → List ℕ → Piece → ℕ
+rest_after text widths piece = length (remaining_outcome (after (at_line widths) piece) (0 + piece.len) (drop piece.len (drop 0 text))).lexemes
+
+module _ (widths : List ℕ) (text : Text) (old new : Reader) (is_new : IsNew widths old) where
+  pub margin_taken : (whole : ℕ) → IsUtf8 text → IsTaken text 0 (first_margin (open_widths widths) text) [] widths new.levels new.pending whole
+      → IsOfMargin 0 (margin_of (drop 0 text)).at old.levels new.pending → new.nesting ≡ old.nesting → new.before ≡ sort.Layout → new.at ≡ old.at + whole → new.stage ≡ stage.Onward → IsRead (Line widths) text (outcome_after (at_line widths) text) None new
   margin_taken whole utf8 taken of nesting before is_at is_onward =
-      let layout = first_is_quiet text taken.piece taken.stands in
+      let layout = first_is_quiet (open_widths widths) text taken.piece taken.stands in
       let few : bracket_count old.nesting ≤ new.at = omega (arith, is_new.few) in
       let end : new.at ≡ 0 + taken.piece.len = omega (arith, is_at, is_new.at, taken.whole) in
-      let cuts : AreCutsBehind Start text nothing 0 taken.piece new = record {
-        cut = λ start on layout_now flat inside. first_ahead_cut text old.levels taken.piece new.pending taken.stands of taken.lexemes;
-        cuts = λ start x remainder cut least most.
-            ((refl, before, of.flat ∙ ap (λ (levels : List ℕ). length levels == 0) is_new.levels), first_cut text old.levels taken.piece new.pending taken.stands of taken.lexemes x remainder cut least most);
-      } in
-      took_first text new taken.piece utf8 taken.stands cuts
+      took_first widths text new taken.piece utf8 taken.stands (record { cut = cut; cuts = cuts })
       (rw nesting (quiet_kept taken.piece.lexemes [] old.nesting layout.tokens is_new.nesting)) taken.open_now (ap before_view before ∙ sym layout.sort) end (rw nesting few) is_onward (hands_later text new.pending _ taken.is_pending taken.lexemes)
+    where
+      cut : Line widths ≡ Start → IsCutAhead text new stage.Onward (length (pending_lexemes text new.pending) + rest_after text widths taken.piece)
+      cut start on layout_now flat inside =
+          subst (λ ws. IsMarginAhead text new.pending (length (pending_lexemes text new.pending) + rest_after text ws taken.piece)) (sym (none_open widths start))
+          (first_ahead_cut text old.levels taken.piece new.pending (start_step widths text _ taken.stands start) of taken.lexemes)
 
-  pub margin_refused : (error : LexemeError) (end : ℕ) → IsRefused text (first_margin text) (margin_of text).comments [] new.levels new.pending error end
-      → new.stage ≡ stage.Fault (old.at + 0) error (old.at + end) → new.at ≡ old.at → new.before ≡ old.before → IsRead Start text (outcome text) None new
+      cuts : Line widths ≡ Start → HoldsCuts text new stage.Onward (rest_after text widths taken.piece) (length taken.piece.lexemes + rest_after text widths taken.piece) (length (pending_lexemes text new.pending) + rest_after text widths taken.piece)
+      cuts start = subst (λ ws. HoldsCuts text new stage.Onward (rest_after text ws taken.piece) (length taken.piece.lexemes + rest_after text ws taken.piece) (length (pending_lexemes text new.pending) + rest_after text ws taken.piece)) (sym (none_open widths start)) (λ x remainder cut least most.
+          ((refl, before, of.flat ∙ ap (λ (levels : List ℕ). length levels == 0) (is_new.levels ∙ flat_start widths start)), first_cut text old.levels taken.piece new.pending (start_step widths text _ taken.stands start) of taken.lexemes x remainder cut least most))
+
+  pub margin_refused : (error : LexemeError) (end : ℕ) → IsRefused text (first_margin (open_widths widths) text) (margin_of text).comments widths new.levels new.pending error end
+      → new.stage ≡ stage.Fault (old.at + 0) error (old.at + end) → new.at ≡ old.at → new.before ≡ old.before → IsRead (Line widths) text (outcome_after (at_line widths) text) None new
   margin_refused error end refused is at before =
-      failed_first text new (record { begin = 0; node = refused.node; end = end }) error refused.stands refused.is (is ∙ ap (λ n. stage.Fault (n + 0) error (n + end)) is_new.at) (hands_later text new.pending _ refused.is_pending refused.lexemes) (at ∙ is_new.at) (before ∙ is_new.before)
+      failed_first widths text new (record { begin = 0; node = refused.node; end = end }) error refused.stands refused.is (is ∙ ap (λ n. stage.Fault (n + 0) error (n + end)) is_new.at) (hands_later text new.pending _ refused.is_pending refused.lexemes) (at ∙ is_new.at) (before ∙ is_new.before)
+      refused.open_now
 
 -- what is ahead where no lexeme is pending
 pub none_before : {origin : Origin} → (text : Text) (reader : Reader) (now : Stage) (lexemes : List (Spanned TokenView)) (fault : Option (Spanned grammar.Fault)) (left : Outcome) → IsIdle text reader.pending → (ahead : IsAhead origin text reader now lexemes fault) → ahead.left ≡ left
@@ -428,10 +466,35 @@ pub none_before : {origin : Origin} → (text : Text) (reader : Reader) (now : S
 none_before text reader now lexemes fault left idle ahead e = search rules
 
 -- the outcome of a text is ahead, where something was read from its start on
-pub first_ahead : {origin : Origin} → (text : Text) (old new : Reader) (lexemes : List (Spanned TokenView)) (fault : Option (Spanned grammar.Fault)) → IsRead Start text (outcome text) None new → IsIdle text old.pending → IsAhead origin text old stage.Begin lexemes fault → IsAhead origin text new new.stage lexemes fault
-first_ahead text old new lexemes fault read idle ahead =
-    let both = none_before text old stage.Begin lexemes fault (outcome text) idle ahead ahead.is_left.0 in
-    subst (λ (o : Origin). IsAhead o text new new.stage lexemes fault) (sym ahead.is_left.6) (read_ahead {origin = Start} text (outcome text) None new lexemes fault read both.0 both.1)
+pub first_ahead : {widths : List ℕ} → (text : Text) (old new : Reader) (lexemes : List (Spanned TokenView)) (fault : Option (Spanned grammar.Fault)) → IsRead (Line widths) text (outcome_after (at_line widths) text) None new → IsIdle text old.pending
+    → IsAhead (Line widths) text old stage.Begin lexemes fault → IsAhead (Line widths) text new new.stage lexemes fault
+first_ahead {widths = widths} text old new lexemes fault read idle ahead =
+    let both = none_before text old stage.Begin lexemes fault (outcome_after (at_line widths) text) idle ahead ahead.is_left.0 in
+    read_ahead text (outcome_after (at_line widths) text) None new lexemes fault read both.0 both.1
 
-pub new_ahead : {origin : Origin} → (text : Text) (old : Reader) (lexemes : List (Spanned TokenView)) (fault : Option (Spanned grammar.Fault)) → IsAhead origin text old stage.Begin lexemes fault → IsNew old
+pub new_ahead : {widths : List ℕ} → (text : Text) (old : Reader) (lexemes : List (Spanned TokenView)) (fault : Option (Spanned grammar.Fault)) → IsAhead (Line widths) text old stage.Begin lexemes fault → IsNew widths old
 new_ahead text old lexemes fault ahead = record { at = ahead.is_left.1; nesting = ahead.is_left.2; levels = ahead.is_left.3; few = ahead.is_left.4; before = ahead.is_left.5 }
+
+-- all of a text is ahead at the start of a line
+pub line_ahead : (widths : List ℕ) (text : Text) (reader : Reader) → reader.stage ≡ stage.Begin → IsNew widths reader → IsPending text reader.pending → pending_lexemes text reader.pending ≡ []
+    → IsAhead (Line widths) text reader reader.stage (map shown_lexeme (outcome_after (at_line widths) text).lexemes) (outcome_after (at_line widths) text).fault
+line_ahead widths text reader now is_new is_pending none =
+    let left = outcome_after (at_line widths) text in
+    record {
+      left = left;
+      is_left = subst (λ (s : Stage). IsLeft (Line widths) text reader s left) (sym now) (refl, is_new.at, is_new.nesting, is_new.levels, is_new.few, is_new.before, tt);
+      is_pending = is_pending;
+      ahead = ap (λ (ls : List Lexeme). map shown_lexeme ls ++ map shown_lexeme left.lexemes) (sym none);
+      those_after = refl;
+      cut = λ start on. let both : stage.Begin ≡ stage.Onward = sym now ∙ on in cc;
+      cuts = λ start x remainder cut least most. absurd (omega (arith, least, most, length-map left.lexemes shown_lexeme));
+    }
+
+pub start_ahead : (text : Text) (reader : Reader) → reader.stage ≡ stage.Begin → IsNew [] reader → IsPending text reader.pending → pending_lexemes text reader.pending ≡ []
+    → IsAhead Start text reader reader.stage (map shown_lexeme (outcome text).lexemes) (outcome text).fault
+start_ahead text reader now is_new is_pending none =
+    subst (λ (found : Outcome). IsAhead Start text reader reader.stage (map shown_lexeme found.lexemes) found.fault) (outcome_after_nothing text) (line_ahead [] text reader now is_new is_pending none)
+
+pub unread : (reader : Reader) → reader.at ≡ 0 → Represents [] reader.nesting → reader.levels ≡ [] → bracket_count reader.nesting ≡ 0 → reader.before ≡ sort.Other → IsNew [] reader
+unfolding open_widths
+unread reader at nesting levels few before = record { at = at; nesting = nesting; levels = levels; few = few; before = before }

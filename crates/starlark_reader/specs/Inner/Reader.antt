@@ -5,13 +5,14 @@ use Rattle.starlark_grammar.specs.Words.{Text, language}
 use Rattle.starlark_grammar.specs.Tokens as grammar
 use Rattle.starlark_grammar.specs.Margins.{has_tab, is_content, margin_of, open_widths}
 use Rattle.starlark_grammar.specs.Cuts.{is_layout}
+use Rattle.starlark_grammar.specs.Found.{at_line}
 use Rattle.starlark_grammar.specs.Depths.{mode_after}
 use Rattle.starlark_grammar.specs.Front.{language_front}
 use Rattle.starlark_grammar.specs.Pieces as pieces
-use Rattle.starlark_grammar.specs.Pieces.{Before, Gap, Layout, Other, Step, Piece, counts, is_bang}
+use Rattle.starlark_grammar.specs.Pieces.{Before, Fails, Gap, Layout, Other, Step, Piece, counts, first_margin, is_bang}
 use Rattle.starlark_words.specs.Inner.ScannedWords.{word_view}
 use Rattle.starlark_words.specs.declared.scanner.word.Word.{Word}
-use Rattle.starlark_grammar.specs.Reading.{History, after_all, history_after, nothing, pieces_len, next_step, outcome, outcome_after}
+use Rattle.starlark_grammar.specs.Reading.{History, after_all, history_after, nothing, pieces_len, next_step, outcome_after}
 use Rattle.starlark_grammar.specs.Longest.{IsReading}
 use Rattle.starlark_token.specs.Lexemes.{fault_view, lexeme_view, shown_lexeme}
 use Rattle.starlark_reader.specs.Inner.MarginCuts.{IsAfterLines, IsCutBefore, IsMarginAhead}
@@ -45,23 +46,28 @@ moved_outcome at found = record { lexemes = map (grammar.moved at) found.lexemes
 unfoldable pub remaining_outcome : History → ℕ → Text → grammar.Outcome
 remaining_outcome history at text = moved_outcome at (outcome_after history text)
 
--- Where the reading of a text began: at its start, or at an offset, where what was read before is a history.
+-- Where the reading of a text began: at its start, which is that of a line, with blocks of these widths open; or at an offset,
+-- where what was read before is a history.
 pub data Origin : Type 0 where
-  Start : Origin
+  Line : (widths : List ℕ) → Origin
   From : (history : History) (at : ℕ) → Origin
+
+-- the start of a text of its own
+abbrev pub Start : Origin
+Start = Line []
 
 -- what was read before, and where the rest begins
 abbrev pub history_before : Origin → History
-history_before Start = nothing
+history_before (Line widths) = at_line widths
 history_before (From history at) = history
 
 abbrev pub begin_of : Origin → ℕ
-begin_of Start = 0
+begin_of (Line widths) = 0
 begin_of (From history at) = at
 
 -- the outcome of a text from there on
 abbrev pub outcome_since : Origin → Text → grammar.Outcome
-outcome_since Start text = outcome text
+outcome_since (Line widths) text = outcome_after (at_line widths) text
 outcome_since (From history at) text = remaining_outcome history at (drop at text)
 
 -- the history after all pieces from there on
@@ -102,9 +108,20 @@ pub record IsStateAfter (origin : Origin) (text : Text) (history : History) (rea
 abbrev pub begins_with_tab : Text → Bool
 begins_with_tab text = is_content (margin_of text).remainder && has_tab (margin_of text)
 
--- at a fault the reader stores what the history of all pieces says, unless the fault is in the first margin
-abbrev pub IsStateAtFault : Origin → Text → Reader → Type 0
-IsStateAtFault origin text reader = (origin ≡ Start → begins_with_tab text ≡ false) → IsStateAfter origin text (history_since origin text) reader
+-- whether the first margin of a text is a fault
+abbrev pub is_refused : Step → Bool
+is_refused (Fails fault) = true
+is_refused step = false
+
+abbrev pub begins_with_fault : Origin → Text → Bool
+begins_with_fault (Line widths) text = is_refused (first_margin (open_widths widths) text)
+begins_with_fault (From history at) text = false
+
+-- at a fault the reader stores the open widths; and all that the history of all pieces says, unless the fault is in the first
+-- margin
+pub record IsStateAtFault (origin : Origin) (text : Text) (reader : Reader) : Type 0 where
+  pub levels : reader.levels ≡ open_widths (history_since origin text).widths
+  pub whole : begins_with_fault origin text ≡ false → IsStateAfter origin text (history_since origin text) reader
 
 -- the history after a fault that keeps its line: all stays open, and its last piece is neither a margin nor a gap
 abbrev pub kept_history : History → History
@@ -114,10 +131,15 @@ kept_history history = record history { before = Other }
 abbrev pub has_read_none : Reader → Bool
 has_read_none reader = reader.at == 0 && not (is_layout (before_view reader.before))
 
+-- reading began at the start of a line
+abbrev pub IsLine : Origin → Type 0
+IsLine (Line widths) = ⊤
+IsLine (From history at) = ⊥
+
 -- what is still to be read at a stage: the whole text, the rest from the reader's offset on, a
 -- fault, or nothing; the offset is in the text
 abbrev pub IsLeft : Origin → Text → Reader → Stage → grammar.Outcome → Type 0
-IsLeft origin text reader stage.Begin left = (left ≡ outcome text) × (reader.at ≡ 0) × (Represents [] reader.nesting) × (reader.levels ≡ []) × (bracket_count reader.nesting ≡ 0) × (reader.before ≡ before.Other) × (origin ≡ Start)
+IsLeft origin text reader stage.Begin left = (left ≡ outcome_since origin text) × (reader.at ≡ 0) × (Represents [] reader.nesting) × (reader.levels ≡ open_widths (history_before origin).widths) × (bracket_count reader.nesting ≡ 0) × (reader.before ≡ before.Other) × IsLine origin
 IsLeft origin text reader stage.Onward left = (history : History) × IsStateAfter origin text history reader × (left ≡ remaining_outcome history reader.at (drop reader.at text))
 IsLeft origin text reader (stage.Fault begin fault end) left =
     (node : grammar.Fault) × (fault_view fault ≡ Some node) × (left ≡ record { lexemes = []; fault = Some (record { begin = begin; node = node; end = end }) }) × (origin ≡ Start → has_read_none reader ≡ begins_with_tab text) × (reader.at ≤ length text) × IsStateAtFault origin text reader × (reader.at ≤ begin)

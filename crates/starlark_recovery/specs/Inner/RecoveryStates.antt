@@ -14,7 +14,7 @@ use Rattle.starlark_errors.specs.Exceptions.{IsException}
 use Rattle.starlark_lexemes.specs.Inner.LexerStates.{AreReadsTo, Course, HasFound, IsAtFault, IsLexingIn, course_of}
 use Rattle.starlark_lexemes.specs.Inner.RawItems.{OffsetsHold}
 use Rattle.starlark_lexemes.specs.Lexer.{LexerItem, is_ended_by, yielded_by}
-use Rattle.starlark_reader.specs.Inner.Reader.{From, Origin, Start, begin_of, history_before}
+use Rattle.starlark_reader.specs.Inner.Reader.{From, Line, Origin, begin_of, history_before}
 use Rattle.starlark_recovery.specs.RecoveringLexer.{AreReadsOn, RecoveringView, most_reads_on, shown_item}
 use Rattle.starlark_errors.specs.declared.error.kinds.ErrorKind.{ErrorKind}
 use Rattle.starlark_recovery.specs.declared.recovery_state.RecoveryState.{RecoveryState}
@@ -80,15 +80,15 @@ pub record HasReadBefore (begin to fault_count reads : ℕ) : Type 0 where
 
 -- lexing began again after a fault that keeps its line
 abbrev pub IsBegun : Origin → Type 0
-IsBegun Start = ⊤
+IsBegun (Line widths) = ⊤
 IsBegun (From history at) = (0 < at) × (history.before ≡ Other)
 
--- What is left of a part: it is in the part, each byte before it opened one width at most, and a fault of it is in a part
--- that has more bytes.
-pub record IsRest (part : Text) (origin : Origin) : Type 0 where
+-- What is left of a part that begins at a byte: it is in the part, each byte before it opened one width at most, and a fault of
+-- it is in a part that has more bytes.
+pub record IsRest (begin : ℕ) (part : Text) (origin : Origin) : Type 0 where
   pub begun : IsBegun origin
   pub inside : begin_of origin ≤ length part
-  pub widths : length (open_widths (history_before origin).widths) ≤ begin_of origin
+  pub widths : length (open_widths (history_before origin).widths) ≤ begin + begin_of origin
   pub fault : IfSome (course_of origin part).fault (λ fault. begin_of origin < length part)
 
 -- whether a fault of it keeps its line
@@ -109,7 +109,7 @@ IsLeftOf state origin = after_faults state.fault_count (items.found state.text.n
 -- lexing goes on in the part
 pub record IsOnward (state : RecoveryState) : Type 0 where
   pub origin : Origin
-  pub rest : IsRest (part_of state) origin
+  pub rest : IsRest state.begin (part_of state) origin
   pub lexing : IsLexingIn (course_of origin (part_of state)) (part_of state) state.state
   pub left : IsLeftOf state origin
   pub comment : (at : ℕ) → ends_by_comment at (take state.state.yielded_count (course_of origin (part_of state)).lexemes) ≡ is_end state.comment state.state.yielded_count at
@@ -140,7 +140,7 @@ pub record IsStopped (state : RecoveryState) (fault : Spanned Fault) : Type 0 wh
   pub is_part : IsPart state
   pub lexing : (course : Course) × IsLexingIn course (part_of state) state.state
   pub origin : Origin
-  pub rest : IsRest (part_of state) origin
+  pub rest : IsRest state.begin (part_of state) origin
   pub here : IsAtFault (course_of origin (part_of state)) (part_of state) fault state.state
   pub ended : state.state.has_ended ≡ true
   pub left : IsLeftOf state origin

@@ -1,4 +1,4 @@
-use Rattle.std.proofs.Common.{Some, ◌≡◌, ◌<◌, ◌+◌, ◌*◌, ◌-◌, ◌≤◌, ◌^◌, ap, arith, rules, false, refl, subst, ◌∙◌}
+use Rattle.std.proofs.Common.{◌≡◌, ◌<◌, ◌+◌, ◌*◌, ◌-◌, ◌≤◌, ◌^◌, ap, arith, rules, false, refl, subst, ◌∙◌}
 use Rattle.starlark_grammar.specs.declared.class.Class.TheVariants as class
 use Rattle.starlark_lexemes.specs.Inner.LexerStates.{Course, HasGoneOn, IsAtWord, IsLexing, left_to_pass}
 use Rattle.starlark_lexemes.specs.declared.lexer_state.LexerState.{LexerState}

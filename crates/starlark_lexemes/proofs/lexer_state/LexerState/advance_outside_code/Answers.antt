@@ -2,7 +2,6 @@ use Rattle.std.proofs.Common.{◌≡◌, false, refl, subst, sym}
 use Rattle.starlark_reader.specs.Inner.ReadBounds.{HasRead}
 use Rattle.starlark_lexemes.specs.Inner.LexerStates.{HasGoneOn, IsLexing}
 use Rattle.starlark_lexemes.specs.declared.lexer_state.LexerState.{LexerState}
-use Rattle.starlark_lexemes.specs.declared.passed.Kind.TheVariants as kind
 use Rattle.starlark_lexemes.proofs.FoundWords.{first_margin}
 use Rattle.starlark_lexemes.proofs.lexer_state.LexerState.advance_outside_code.Goals as goal
 

@@ -1,16 +1,14 @@
-use Rattle.std.proofs.Common.{rules, ◌^◌, ◌∙◌, refl, ◌≤◌, ◌+◌, ◌*◌, ◌-◌, ap, arith, drop, map, subst, sym}
-use Rattle.starlark_grammar.specs.Reading.{outcome}
+use Rattle.std.proofs.Common.{rules, ◌^◌, ◌∙◌, refl, ◌≤◌, ◌+◌, ◌*◌, ◌-◌, ap, arith, drop, subst, sym}
 use Rattle.starlark_grammar.specs.Words.{Text}
-use Rattle.starlark_reader.specs.Inner.Lookaheads.{HasPeeked, most_peeked}
+use Rattle.starlark_reader.specs.Inner.Lookaheads.{most_peeked}
 use Rattle.starlark_reader.specs.Inner.Pending.{comment_lexeme}
-use Rattle.starlark_reader.specs.Inner.Reader.{IsAhead, IsAheadPast, IsText, left_to_read}
+use Rattle.starlark_reader.specs.Inner.Reader.{IsAhead, IsAheadPast, left_to_read}
 use Rattle.starlark_reader.specs.declared.reader.Reader.{Reader}
 use Rattle.starlark_reader.proofs.TakenPieces.WordsPassed.{comment_stepped, gap_passed, step_in_code, step_taken, word_inside_text}
 use Rattle.starlark_reader.proofs.TakenPieces.SameTexts.{keeps_passes}
 use Rattle.starlark_lexemes.specs.Inner.LexerStates.{left_in}
 use Rattle.starlark_lexemes.specs.declared.passed.Kind.TheVariants as kind
 use Rattle.starlark_lexemes.proofs.PlainLexemes.{next_advances, plain_inside, reader_boundary}
-use Rattle.starlark_token.specs.Lexemes.{shown_lexeme}
 use Rattle.starlark_words.specs.Inner.ScannedWords.{peeked_len}
 use Rattle.starlark_lexemes.proofs.FoundWords.{gone_from, left_on, one_more_fits, past_lexing, slow_here, word_passed, wordless_here}
 use Rattle.starlark_lexemes.proofs.LexerReads.{peeked_len_few, peeked_more, peeked_taken, slow_word, word_inside}

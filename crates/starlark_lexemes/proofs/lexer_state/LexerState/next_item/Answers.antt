@@ -1,8 +1,7 @@
-use Rattle.std.proofs.Common.{◌≡◌, arith, length, ap, refl, subst, sym, ◌∙◌, IfSome, Option, Some, Ok, Err}
+use Rattle.std.proofs.Common.{arith, ap, refl, subst, sym, ◌∙◌, IfSome, Option, Some, Ok, Err}
 use Rattle.std.specs.Option.{is_some}
 use Rattle.starlark_grammar.specs.Laws.{AtBoundaries}
 use Rattle.starlark_grammar.specs.Tokens.{Fault, Spanned}
-use Rattle.starlark_grammar.specs.Words.{Text}
 use Rattle.starlark_lexemes.specs.Inner.LexerStates.{HasAnswered}
 use Rattle.starlark_lexemes.proofs.LexerItems.{course_between}
 use Rattle.starlark_lexemes.proofs.LexerStates.{answers_read, answers_within, fault_going, fault_inside, none_at_end, none_same, refused_something}

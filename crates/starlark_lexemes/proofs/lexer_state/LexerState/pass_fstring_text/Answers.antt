@@ -1,9 +1,6 @@
-use Rattle.std.proofs.Common.{◌≡◌, ◌<◌, Some, ap, drop, map, ◌∙◌, ◌+◌, ◌*◌, ◌≤◌, ◌^◌, arith, refl, rules, subst, sym}
-use Rattle.starlark_grammar.specs.Reading.{outcome}
+use Rattle.std.proofs.Common.{◌≡◌, ◌<◌, Some, ap, ◌∙◌, ◌+◌, ◌*◌, ◌≤◌, ◌^◌, arith, refl, rules, subst}
 use Rattle.starlark_grammar.specs.Tokens.{Spanned}
-use Rattle.starlark_grammar.specs.Words.{Text}
-use Rattle.starlark_reader.specs.Inner.Lookaheads.{HasPeeked}
-use Rattle.starlark_reader.specs.Inner.Reader.{IsAhead, IsAheadPast, IsText, fstring_text_lexeme}
+use Rattle.starlark_reader.specs.Inner.Reader.{IsAheadPast, fstring_text_lexeme}
 use Rattle.starlark_lexemes.specs.Inner.LexerStates.{left_in}
 use Rattle.starlark_lexemes.proofs.FoundWords.{one_more_fits, past_lexing, run_here}
 use Rattle.starlark_reader.proofs.TakenPieces.WordsPassed.{text_edges, text_end_here, text_end_taken, text_here_step, text_stepped}
@@ -12,7 +9,6 @@ use Rattle.starlark_lexemes.proofs.LexerStates.{lexing_sound, next_same}
 use Rattle.starlark_lexemes.proofs.LexerReads.{peeked_first, peeked_taken}
 use Rattle.starlark_lexemes.proofs.PlainLexemes.{fstring_text_shown, next_advances, plain_advances, plain_counts, plain_inside, valueless_passed}
 use Rattle.starlark_lexemes.specs.declared.passed.Kind.TheVariants as kind
-use Rattle.starlark_token.specs.Lexemes.{shown_lexeme}
 use Rattle.starlark_token.specs.TokenViews.{TokenView}
 use Rattle.starlark_lexemes.proofs.lexer_state.LexerState.pass_fstring_text.Goals as goal
 

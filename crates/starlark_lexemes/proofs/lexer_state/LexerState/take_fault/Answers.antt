@@ -1,4 +1,4 @@
-use Rattle.std.proofs.Common.{◌≡◌, false, arith, ap, subst, Some, rules, sym, ◌∙◌}
+use Rattle.std.proofs.Common.{false, arith, ap, subst, rules}
 use Rattle.starlark_grammar.specs.AfterFaults.{restart}
 use Rattle.starlark_grammar.specs.Tokens.{Fault, Spanned}
 use Rattle.starlark_reader.proofs.NextLines.{restart_inside}
