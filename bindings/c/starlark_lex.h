@@ -338,8 +338,8 @@ bool starlark_fault_is_final(const uint8_t *front, size_t front_len,
  *
  * A reserved word, an integer with a leading 0, a character that begins no token, and a tab in code
  * keep their lines: lexing goes on after them, with all brackets, f-strings and blocks open. After
- * any other fault it begins again at the next line, as if that began a text of its own. Each such
- * fault but the tab names its text: so a caller may take a reserved word as a name.
+ * any other fault it begins again at the next line, with the blocks alone open. Each fault that
+ * keeps its line, but the tab, names its text: so a caller may take a reserved word as a name.
  *
  * With STARLARK_STATUS_FULL one of the buffers has no room for all. A next call with buffers of the
  * wanted sizes has room. So one call with empty buffers tells how much a text needs. The buffers

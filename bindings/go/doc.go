@@ -27,7 +27,7 @@
 // Recover goes on after faults. It returns all tokens, and an ErrorList. A reserved word, an integer
 // with a leading 0, a character that begins no token, and a tab in code keep their lines: lexing goes
 // on after them with all brackets, f-strings and blocks open. After any other fault it begins again
-// at the next line, as if that began a text.
+// at the next line, with the blocks alone open.
 //
 // # Edited texts
 //

@@ -237,12 +237,12 @@ IN_THE_MAKING = "starlark_tokens/src/reporting/reporter.rt"
 MOST_LINES = {
     "the grammar": 660,
     "`Lexer::next`": 896,
-    "`RecoveringLexer`": 961,
+    "`RecoveringLexer`": 963,
     "`LexedText`": 881,
     "`run`, `run_edits`": 1052,
-    "the calls from C": 1502,
-    "reports, `starlark_tokens`": 2280,
-    "`Document`": 978,
+    "the calls from C": 1504,
+    "reports, `starlark_tokens`": 2348,
+    "`Document`": 980,
     "checks": 391,
 }
 

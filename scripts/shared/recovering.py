@@ -1,7 +1,7 @@
 """All that is found in a text that is lexed on after its faults, by the plain lexer.
 
 A fault that keeps its line is passed as a token is, and so reading goes on in what was open. After any other fault lexing begins again
-at the next line.
+at the next line, where the blocks are still open.
 """
 
 import re
@@ -25,9 +25,9 @@ def passed_end(text, lexemes, fault):
     return end if kind in ("ReservedKeyword", "StartsZero") else None
 
 
-def part_of(text):
+def part_of(text, situation):
     """The lexemes and the faults up to the first fault that ends its line, each with what it is, and that fault or None."""
-    situation, items = Situation(), []
+    items = []
     lexemes, offset = comment_lines(text, 0)
     try:
         layout, offset = indentation(text, offset, 0, situation.widths)
@@ -67,10 +67,11 @@ def moved_item(what, item, base):
 
 def items_of(text):
     """All lexemes and all faults of a text, in order, each with what it is."""
-    base = 0
+    base, widths = 0, []
     while True:
-        rest = text[base:]
-        items, last = part_of(rest)
+        rest, situation = text[base:], Situation()
+        situation.widths = widths
+        items, last = part_of(rest, situation)
         yield from (moved_item(what, item, base) for what, item in items)
         if not last:
             return

@@ -279,7 +279,7 @@ fn all_faults_of_a_text() {
         Token::Newline,
         Token::Newline,
     ];
-    // The line `b` begins a text of its own. The fault of a tab is at the line end before its line.
+    // At the line `b` no bracket is open. The fault of a tab is at the line end before its line.
     // The last fault keeps its line.
     let kinds = [
         ("'a", FaultKind::UnfinishedStringLiteral),
