@@ -60,7 +60,7 @@ try_part() {
     recovered) try oracles/recovered_texts.py --count 2000 --stored ;;
     documents) try oracles/document_edits.py --edits 2000 ;;
     status) try oracles/exit_status.py ;;
-    reports) try oracles/token_reports.py --count 100 ;;
+    reports) try oracles/token_reports.py --count 40 ;;
     refused) try oracles/refused_memory.py ;;
     pages) try checks/pages.py ;;
     esac
