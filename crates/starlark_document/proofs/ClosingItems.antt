@@ -6,7 +6,8 @@ use Rattle.std.proofs.lemmas.List.{map-append}
 use Rattle.starlark_document.specs.Inner.LexedFronts.{BeginUndented, IsLineEnd, ItemsAreFound, ItemsClose, ItemsCut, given_of, is_dedent_item, is_dedent_view, refused_of}
 use Rattle.starlark_grammar.specs.Cuts.{is_newline}
 use Rattle.starlark_grammar.specs.Found as grammar_found
-use Rattle.starlark_grammar.specs.Found.{IsClosed, Item, faults_in, found, given, lexemes_in}
+use Rattle.starlark_grammar.specs.ClosedTexts.{IsClosed}
+use Rattle.starlark_grammar.specs.Found.{Item, faults_in, found, given, lexemes_in}
 use Rattle.starlark_grammar.specs.FoundLaws.{begin_undented}
 use Rattle.starlark_grammar.specs.Joining.{begins_plainly, has_newline, is_dedent, without_last_newline}
 use Rattle.starlark_grammar.specs.Tokens as grammar

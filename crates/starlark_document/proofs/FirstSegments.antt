@@ -16,7 +16,8 @@ use Rattle.starlark_document.proofs.SegmentLaws.{items_are_found, items_close, i
 use Rattle.starlark_document.proofs.LineEndings.{without_shown}
 use Rattle.starlark_grammar.specs.Words.{Text}
 use Rattle.starlark_grammar.specs.Joining.{begins_plainly, without_last_newline}
-use Rattle.starlark_grammar.specs.Found.{Empty, IsClosed, faults_in, found, lexemes_in}
+use Rattle.starlark_grammar.specs.ClosedTexts.{Empty, IsClosed}
+use Rattle.starlark_grammar.specs.Found.{faults_in, found, lexemes_in}
 use Rattle.starlark_recovery.specs.RecoveringLexer.{all_items}
 use Rattle.starlark_token.specs.Lexemes.{lexeme_view, shown_lexeme}
 use Rattle.starlark_token.specs.TextItems.{LexerItem, Given, Refused}

@@ -16,7 +16,8 @@ use Rattle.starlark_grammar.proofs.Found.JoinedTexts.{found_joins}
 use Rattle.starlark_grammar.proofs.Found.Order.{found_faults_in_order, found_lexemes_in_order}
 use Rattle.starlark_grammar.proofs.Recovery.Order.{order_inside}
 use Rattle.starlark_grammar.specs.Joining.{begins_plainly, has_newline, recovered_joined, without_last_newline}
-use Rattle.starlark_grammar.specs.Found.{faults_in, found, lexemes_in, parted}
+use Rattle.starlark_grammar.specs.ClosedTexts.{parted}
+use Rattle.starlark_grammar.specs.Found.{faults_in, found, lexemes_in}
 use Rattle.starlark_grammar.specs.Recovery.{Recovered}
 use Rattle.starlark_grammar.specs.RecoveryLaws.{AreInOrder, IsInside}
 use Rattle.starlark_token.specs.Lexemes.{lexeme_view, shown_lexeme}

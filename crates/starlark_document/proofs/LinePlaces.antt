@@ -22,7 +22,7 @@ use Rattle.starlark_document.proofs.LaidSegments.{laid_around}
 use Rattle.starlark_document.proofs.SegmentOffsets.{HaveLens-laid, IsUtf8-text_of, all_at, len_at, text_of-at, text_of-more}
 use Rattle.starlark_grammar.specs.Words.{Text}
 use Rattle.starlark_grammar.proofs.Joining.Followed.{ends_line, ends_line_of}
-use Rattle.starlark_grammar.specs.Found.{IsClosed}
+use Rattle.starlark_grammar.specs.ClosedTexts.{IsClosed}
 use Rattle.starlark_grammar.specs.Reading.{nothing}
 use Rattle.starlark_grammar.proofs.Found.ClosedTexts.{closed_ends}
 use Rattle.starlark_base.specs.Positions.{pairs_before, pairs_in_line, position_at}

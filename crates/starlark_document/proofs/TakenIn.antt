@@ -12,7 +12,8 @@ use Rattle.starlark_document.specs.declared.segments.Segment.{Segment}
 use Rattle.starlark_document.proofs.FoundInSegments.{all_without, lexemes_inside, map_shown, plain_append}
 use Rattle.starlark_document.proofs.Splices.{IsLexing, lexing_rest, some_plain, taken}
 use Rattle.starlark_grammar.proofs.Found.JoinedTexts.{found_joins}
-use Rattle.starlark_grammar.specs.Found.{IsClosed, found, lexemes_in}
+use Rattle.starlark_grammar.specs.ClosedTexts.{IsClosed}
+use Rattle.starlark_grammar.specs.Found.{found, lexemes_in}
 use Rattle.starlark_grammar.specs.Joining.{begins_plainly, without_last_newline}
 use Rattle.starlark_grammar.specs.Recovery.{Recovered}
 use Rattle.starlark_grammar.specs.RecoveryLaws.{IsInside}

@@ -3,6 +3,7 @@ pub mod CommentEnds
 pub mod FoundItems
 pub mod PassedFaults
 pub mod Order
+pub mod Apart
 pub mod JoinedTexts
 pub mod ClosedTexts
 pub mod Cuts

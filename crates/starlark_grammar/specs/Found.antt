@@ -1,14 +1,12 @@
 -- All that is found in a text that is lexed on after its faults: within the line where they keep it, and else from the next
 -- line on.
-use Rattle.std.specs.Prelude.{◌≡◌, ℕ, zero, suc, true, if◌then◌else◌, List, [], ◌∷◌, ◌++◌, length, map, drop, Option, Some, None}
+use Rattle.std.specs.Prelude.{ℕ, zero, suc, if◌then◌else◌, List, [], ◌∷◌, ◌++◌, length, map, drop, Option, Some, None}
 use Rattle.starlark_grammar.specs.Words.{Text}
 use Rattle.starlark_grammar.specs.AfterFaults.{restart}
 use Rattle.starlark_grammar.specs.Tokens.{Lexeme, Spanned, moved, Fault}
-use Rattle.starlark_grammar.specs.Joining.{is_decided, is_line_cut_after}
 use Rattle.starlark_grammar.specs.KeptLines.{keeps_line, passed_end}
 use Rattle.starlark_grammar.specs.Pieces.{Nothing, Other}
 use Rattle.starlark_grammar.specs.Reading.{History, history_after, nothing, outcome_after}
-use Rattle.starlark_grammar.specs.Recovery.{Recovered}
 
 -- what is found in a text: a lexeme or a fault
 pub data Item : Type 0 where
@@ -70,15 +68,3 @@ abbrev pub faults_in : List Item → List (Spanned Fault)
 faults_in [] = []
 faults_in (Given lexeme ∷ items) = faults_in items
 faults_in (Refused fault ∷ items) = fault ∷ faults_in items
-
-abbrev pub parted : List Item → Recovered
-parted items = record { lexemes = lexemes_in items; faults = faults_in items }
-
--- A closed text: all its faults are decided, and what is left of it after the last of them is empty or a cut between lines.
-pub data IsClosedAfter : History → Text → Type 0 where
-  Empty : (widths : List ℕ) → IsClosedAfter (at_line widths) []
-  Cut : (history : History) (text : Text) → is_line_cut_after history text ≡ true → IsClosedAfter history text
-  Past : (history : History) (text : Text) (fault : Spanned Fault) → (outcome_after history text).fault ≡ Some fault → is_decided text fault ≡ true → IsClosedAfter (passed history text fault).history (drop (passed history text fault).len text) → IsClosedAfter history text
-
-abbrev pub IsClosed : Text → Type 0
-IsClosed text = IsClosedAfter nothing text

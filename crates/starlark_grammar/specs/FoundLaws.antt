@@ -1,9 +1,11 @@
 -- What the laws of all that is found in a text say.
-use Rattle.std.specs.Prelude.{◌≡◌, ◌<◌, Bool, true, not, List, [], ◌∷◌, ◌++◌, length, map, drop, take, Some, None}
-use Rattle.std.specs.List.{list_all}
+use Rattle.std.specs.Prelude.{◌≡◌, ◌<◌, ◌≤◌, Bool, true, false, not, List, [], ◌∷◌, ◌++◌, length, map, drop, take, Some, None, ⊤}
+use Rattle.std.specs.List.{AllByRecursion, list_all}
 use Rattle.starlark_grammar.specs.Words.{Text}
-use Rattle.starlark_grammar.specs.Found.{Given, IsClosed, Item, Refused, faults_in, found, found_after, given, lexemes_in, moved_item, parted, passed}
+use Rattle.starlark_grammar.specs.ClosedTexts.{IsClosed, parted}
+use Rattle.starlark_grammar.specs.Found.{Given, Item, Refused, faults_in, found, found_after, given, lexemes_in, moved_item, passed}
 use Rattle.starlark_grammar.specs.RecoveryLaws.{AreInOrder}
+use Rattle.starlark_grammar.specs.KeptLines.{is_comment}
 use Rattle.starlark_grammar.specs.Reading.{History, nothing, outcome, outcome_after}
 use Rattle.starlark_grammar.specs.Joining.{begins_plainly, has_newline, is_dedent, recovered_joined, without_last_newline}
 use Rattle.starlark_grammar.specs.Cuts.{is_newline}
@@ -37,6 +39,20 @@ FoundLexemesInOrder = (text : Text) → AreInOrder 0 (lexemes_in (found text)) (
 -- … and so do all faults.
 abbrev pub FoundFaultsInOrder : Type 0
 FoundFaultsInOrder = (text : Text) → AreInOrder 0 (faults_in (found text)) (length text)
+
+-- a lexeme ends before a fault, unless it is a comment, which may be in the margin that has the fault
+abbrev pub EndsBefore : Lexeme → Spanned Fault → Type 0
+EndsBefore lexeme fault = is_comment lexeme.node ≡ false → lexeme.end ≤ fault.begin
+
+-- each lexeme ends before all later faults, and begins after all earlier ones
+abbrev pub AreApart : List Item → Type 0
+AreApart [] = ⊤
+AreApart (Given lexeme ∷ items) = AllByRecursion (EndsBefore lexeme) (faults_in items) × AreApart items
+AreApart (Refused fault ∷ items) = AllByRecursion (λ (lexeme : Lexeme). fault.end ≤ lexeme.begin) (lexemes_in items) × AreApart items
+
+-- No lexeme that is found lies in the span of a fault, but for comments.
+abbrev pub FoundApart : Type 0
+FoundApart = (text : Text) → AreApart (found text)
 
 -- A `Newline` of some bytes that is found in a text, and after which a line begins plainly, closes the text up to there, …
 abbrev pub NewlinesClose : Type 0

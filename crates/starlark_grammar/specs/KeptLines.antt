@@ -8,12 +8,12 @@ use Rattle.starlark_grammar.specs.Margins.{begins_with_line_end}
 use Rattle.starlark_grammar.specs.Pieces.{Before, is_nothing}
 use Rattle.starlark_grammar.specs.Tokens.{Token, Comment, Lexeme, Spanned, Fault, InvalidInput, InvalidTab, ReservedKeyword, StartsZero}
 
+abbrev pub is_comment : Token → Bool
+is_comment (Comment text) = true
+is_comment token = false
+
 abbrev pub is_comment_to : ℕ → Lexeme → Bool
 is_comment_to at lexeme = is_comment lexeme.node && lexeme.end == at
-  where
-    is_comment : Token → Bool
-    is_comment (Comment text) = true
-    is_comment token = false
 
 -- whether the last of some lexemes is a comment that ends at an offset
 abbrev pub ends_by_comment : ℕ → List Lexeme → Bool

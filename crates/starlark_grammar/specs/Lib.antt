@@ -27,4 +27,5 @@ pub mod Joining
 pub mod KeptLines
 pub mod KeptLineLaws
 pub mod Found
+pub mod ClosedTexts
 pub mod FoundLaws

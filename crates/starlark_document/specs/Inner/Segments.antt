@@ -8,7 +8,8 @@ use Rattle.starlark_document.specs.declared.segments.Segment.{Segment}
 use Rattle.starlark_grammar.specs.Tokens as grammar
 use Rattle.starlark_grammar.specs.Words.{Text}
 use Rattle.starlark_grammar.specs.Joining.{begins_plainly, without_last_newline}
-use Rattle.starlark_grammar.specs.Found.{IsClosed, faults_in, found, lexemes_in}
+use Rattle.starlark_grammar.specs.ClosedTexts.{IsClosed}
+use Rattle.starlark_grammar.specs.Found.{faults_in, found, lexemes_in}
 use Rattle.starlark_token.specs.Lexemes.{lexeme_view, shown_lexeme}
 use Rattle.starlark_token.specs.TokenViews.{TokenView}
 use Rattle.starlark_token.specs.declared.tokens.Token.{Token}

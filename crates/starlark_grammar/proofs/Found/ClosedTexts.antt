@@ -7,7 +7,8 @@ use Rattle.std.proofs.lemmas.Bool.Decides.{nat_tests}
 use Rattle.std.proofs.lemmas.List.{drop-append-le}
 use Rattle.std.proofs.Math.Seq.{drop-append-add}
 use Rattle.starlark_grammar.specs.Cuts.{is_faultless}
-use Rattle.starlark_grammar.specs.Found.{Cut, Empty, at_line, IsClosed, IsClosedAfter, Passed, Past, passed}
+use Rattle.starlark_grammar.specs.ClosedTexts.{Cut, Empty, IsClosed, IsClosedAfter, Past}
+use Rattle.starlark_grammar.specs.Found.{at_line, Passed, passed}
 use Rattle.starlark_grammar.specs.FoundLaws.{ClosedJoin}
 use Rattle.starlark_grammar.specs.Joining.{begins_plainly, is_between_lines, is_decided, is_line_cut_after}
 use Rattle.starlark_grammar.specs.Reading.{history_after, History, after_all, nothing, outcome_after}

@@ -5,7 +5,8 @@ use Rattle.std.specs.Prelude.{◌&&◌, ◌||◌, ⊤}
 use Rattle.std.proofs.lemmas.Bool.{both_ways}
 use Rattle.std.proofs.lemmas.List.{append-nil, map-append}
 use Rattle.starlark_grammar.specs.Cuts.{is_newline}
-use Rattle.starlark_grammar.specs.Found.{Given, IsClosedAfter, Item, Refused, found, found_after, found_by, found_within, given, moved_item, passed}
+use Rattle.starlark_grammar.specs.ClosedTexts.{IsClosedAfter}
+use Rattle.starlark_grammar.specs.Found.{Given, Item, Refused, found, found_after, found_by, found_within, given, moved_item, passed}
 use Rattle.starlark_grammar.specs.FoundLaws.{NewlinesCutFound, begin_undented}
 use Rattle.starlark_grammar.specs.Joining.{begins_plainly, begins_undented, has_newline, is_dedent, without_last_newline}
 use Rattle.starlark_grammar.specs.Reading.{History, nothing, outcome_after}

@@ -5,7 +5,8 @@ use Rattle.std.specs.Prelude.{◌&&◌, codes, nat_eq, not}
 use Rattle.std.proofs.lemmas.Bool.{lt-ltb}
 use Rattle.std.proofs.lemmas.List.{drop-take, length-drop, length-take-le, take-append-drop, take_all, append-nil}
 use Rattle.starlark_grammar.specs.Cuts.{is_newline}
-use Rattle.starlark_grammar.specs.Found.{Cut, Given, IsClosedAfter, Item, Past, Passed, Refused, found, found_after, found_by, found_within, given, lexemes_in, moved_item, passed}
+use Rattle.starlark_grammar.specs.ClosedTexts.{Cut, IsClosedAfter, Past}
+use Rattle.starlark_grammar.specs.Found.{Given, Item, Passed, Refused, found, found_after, found_by, found_within, given, lexemes_in, moved_item, passed}
 use Rattle.starlark_grammar.specs.FoundLaws.{LastNewlinesClose, NewlinesClose}
 use Rattle.starlark_grammar.specs.Joining.{begins_plainly, begins_undented, is_decided, is_dedent}
 use Rattle.starlark_grammar.specs.Reading.{History, nothing, outcome_after}

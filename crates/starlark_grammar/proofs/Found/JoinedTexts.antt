@@ -5,7 +5,8 @@ use Rattle.std.proofs.lemmas.Bool.Decides.{nat_tests}
 use Rattle.std.proofs.lemmas.List.{drop-append-le, length-drop, map-append}
 use Rattle.std.proofs.Math.Seq.{drop-append-add}
 use Rattle.starlark_grammar.specs.AfterFaults.{is_tab}
-use Rattle.starlark_grammar.specs.Found.{Cut, Empty, at_line, Given, IsClosedAfter, Item, Passed, Past, Refused, found, found_after, found_by, found_within, given, lexemes_in, moved_item, parted, passed}
+use Rattle.starlark_grammar.specs.ClosedTexts.{Cut, Empty, IsClosedAfter, Past, parted}
+use Rattle.starlark_grammar.specs.Found.{at_line, Given, Item, Passed, Refused, found, found_after, found_by, found_within, given, lexemes_in, moved_item, passed}
 use Rattle.starlark_grammar.specs.FoundLaws.{FoundJoins}
 use Rattle.starlark_grammar.specs.Joining.{begins_plainly, has_newline, is_decided, recovered_joined, without_last_newline}
 use Rattle.starlark_grammar.specs.KeptLines.{ends_by_comment, is_comment_to, keeps_line}

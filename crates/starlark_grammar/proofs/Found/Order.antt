@@ -23,16 +23,16 @@ lexemes_append : (lexemes : List Lexeme) (items : List Item) → lexemes_in (giv
 lexemes_append [] items = refl
 lexemes_append (lexeme ∷ lexemes) items = ap (λ l. lexeme ∷ l) (lexemes_append lexemes items)
 
-faults_append : (lexemes : List Lexeme) (items : List Item) → faults_in (given lexemes ++ items) ≡ faults_in items
+pub faults_append : (lexemes : List Lexeme) (items : List Item) → faults_in (given lexemes ++ items) ≡ faults_in items
 faults_append [] items = refl
 faults_append (lexeme ∷ lexemes) items = faults_append lexemes items
 
-lexemes_moved : (n : ℕ) (items : List Item) → lexemes_in (map (moved_item n) items) ≡ map (moved n) (lexemes_in items)
+pub lexemes_moved : (n : ℕ) (items : List Item) → lexemes_in (map (moved_item n) items) ≡ map (moved n) (lexemes_in items)
 lexemes_moved n [] = refl
 lexemes_moved n (Given lexeme ∷ items) = ap (λ l. moved n lexeme ∷ l) (lexemes_moved n items)
 lexemes_moved n (Refused fault ∷ items) = lexemes_moved n items
 
-faults_moved : (n : ℕ) (items : List Item) → faults_in (map (moved_item n) items) ≡ map (moved n) (faults_in items)
+pub faults_moved : (n : ℕ) (items : List Item) → faults_in (map (moved_item n) items) ≡ map (moved n) (faults_in items)
 faults_moved n [] = refl
 faults_moved n (Given lexeme ∷ items) = faults_moved n items
 faults_moved n (Refused fault ∷ items) = ap (λ l. moved n fault ∷ l) (faults_moved n items)
@@ -41,7 +41,7 @@ pub none_lexemes : (lexemes : List Lexeme) → lexemes_in (given lexemes) ≡ le
 none_lexemes [] = refl
 none_lexemes (lexeme ∷ lexemes) = ap (λ l. lexeme ∷ l) (none_lexemes lexemes)
 
-none_faults : (lexemes : List Lexeme) → faults_in (given lexemes) ≡ []
+pub none_faults : (lexemes : List Lexeme) → faults_in (given lexemes) ≡ []
 none_faults [] = refl
 none_faults (lexeme ∷ lexemes) = none_faults lexemes
 

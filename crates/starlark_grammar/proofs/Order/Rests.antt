@@ -1,5 +1,5 @@
 -- The rest of a text, after a history: its lexemes and its fault lie in it, between characters, and are few.
-use Rattle.std.proofs.Common.{◌≡◌, ℕ, ◌+◌, ◌*◌, ◌≤◌, false, List, [], ◌∷◌, ◌++◌, length, drop, refl, ap, ◌∙◌, sym, subst, Some, None, IfSome, arith, length-append}
+use Rattle.std.proofs.Common.{◌≡◌, ◌+◌, ◌*◌, ◌≤◌, false, List, [], ◌∷◌, ◌++◌, length, drop, refl, ap, sym, subst, None, IfSome, arith, length-append}
 use Rattle.std.specs.List.{AllByRecursion}
 use Rattle.std.specs.Str.{IsCharBoundary, IsUtf8}
 use Rattle.std.proofs.lemmas.Str.{IsCharBoundary-start, IsUtf8-drop}
@@ -9,7 +9,7 @@ use Rattle.starlark_grammar.specs.Longest.{IsLongestReading, IsReading}
 use Rattle.starlark_grammar.specs.Margins.{margin_of, open_widths}
 use Rattle.starlark_grammar.specs.Pieces.{Before, Ends, Fails, Gap, Layout, Nothing, Other, Piece, Situation, Stands, Step, by_before, by_mode, step_at}
 use Rattle.starlark_grammar.specs.Reading.{History, after_all, closing, lexemes_along, lexemes_before, next_step, outcome_after, pieces_len, reading_outcome, situation}
-use Rattle.starlark_grammar.specs.Tokens.{Fault, Lexeme, Outcome, Spanned, moved}
+use Rattle.starlark_grammar.specs.Tokens.{Lexeme, Outcome}
 use Rattle.starlark_grammar.specs.Words.{Text, language}
 use Rattle.starlark_grammar.proofs.Indentation.Balance.{margin_quiet}
 use Rattle.starlark_grammar.proofs.Indentation.LayoutTotals.{along_balances, closing_dedents}

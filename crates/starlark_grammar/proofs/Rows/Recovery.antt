@@ -8,7 +8,8 @@ use Rattle.starlark_grammar.specs.Tokens.{Fault, InvalidEscapeSequence, Lexeme, 
 use Rattle.starlark_grammar.specs.Words.{Text}
 use Rattle.starlark_grammar.specs.declared.class.Terminal.TheVariants as terminal
 use Rattle.starlark_grammar.specs.AfterFaults.{next_line, restart, stopped_at}
-use Rattle.starlark_grammar.specs.Found.{Cut, Empty, IsClosed, IsClosedAfter, Past, found, found_after, found_within, parted, passed}
+use Rattle.starlark_grammar.specs.ClosedTexts.{Cut, Empty, IsClosed, IsClosedAfter, Past, parted}
+use Rattle.starlark_grammar.specs.Found.{found, found_after, found_within, passed}
 use Rattle.starlark_grammar.specs.Joining.{begins_plainly, is_between_lines, is_decided, is_line_cut, is_line_cut_after, without_last_newline}
 use Rattle.starlark_grammar.specs.KeptLines.{keeps_line}
 

@@ -1,13 +1,14 @@
 //! Laws of all that is found in a text that is lexed on after its faults. Each function here has a law
 //! as its contract and nothing to do; programs don't call them.
 
-ghost use Rattle.starlark_grammar.specs.FoundLaws.{ClosedJoin, FaultlessFound, FoundAfterFaults, FoundFaultsInOrder, FoundJoins, FoundLexemesInOrder, LastNewlinesClose, NewlinesClose, NewlinesCutFound, OutcomeAfterNothing};
+ghost use Rattle.starlark_grammar.specs.FoundLaws.{ClosedJoin, FaultlessFound, FoundAfterFaults, FoundApart, FoundFaultsInOrder, FoundJoins, FoundLexemesInOrder, LastNewlinesClose, NewlinesClose, NewlinesCutFound, OutcomeAfterNothing};
 
 /// In a text are found its lexemes, then its fault if it has one, and then what is found in the rest
 /// after that, by what was read before it. What is read after nothing is the text's outcome.
 ///
 /// A closed text and one after it that begins plainly are lexed each by itself, and two closed texts
-/// are one. All lexemes lie in the text, in order, and so do all faults.
+/// are one. All lexemes lie in the text, in order, and so do all faults. No lexeme but a comment lies in
+/// the span of a fault.
 pub fn found_in_order()
     ensures faultless { FaultlessFound }
     ensures after { FoundAfterFaults }
@@ -16,6 +17,7 @@ pub fn found_in_order()
     ensures closed { ClosedJoin }
     ensures lexemes { FoundLexemesInOrder }
     ensures faults { FoundFaultsInOrder }
+    ensures apart { FoundApart }
 {}
 
 /// A `Newline` of some bytes, after which a line begins plainly, closes the text up to there.

@@ -1,5 +1,5 @@
 use Rattle.std.proofs.Common.{length}
-use Rattle.starlark_grammar.specs.Found.{IsClosed}
+use Rattle.starlark_grammar.specs.ClosedTexts.{IsClosed}
 use Rattle.starlark_document.proofs.FirstSegments.{empty_closed, line_closed, unended, whole_last, whole_open, whole_uncut, zero_of}
 use Rattle.starlark_document.proofs.segment_lexing.whole_segment.Goals as goal
 use Rattle.starlark_document.proofs.segment_lexing.whole_segment.Goals.{then-is_empty-via-then-is_empty, then-is_empty-via-else-is_empty+then-front-text}

@@ -1,3 +1,4 @@
+use Rattle.starlark_grammar.proofs.Found.Apart.{found_apart}
 use Rattle.starlark_grammar.proofs.Found.ClosedTexts.{closed_join}
 use Rattle.starlark_grammar.proofs.Found.FoundItems.{faultless_found, found_after_faults}
 use Rattle.starlark_grammar.proofs.Found.JoinedTexts.{found_joins}
@@ -25,3 +26,6 @@ returns-clause-lexemes c = found_lexemes_in_order
 
 pub returns-clause-faults : goal.returns-clause-faults
 returns-clause-faults c = found_faults_in_order
+
+pub returns-clause-apart : goal.returns-clause-apart
+returns-clause-apart c = found_apart
