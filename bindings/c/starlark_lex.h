@@ -337,8 +337,9 @@ bool starlark_fault_is_final(const uint8_t *front, size_t front_len,
  * text.
  *
  * A reserved word, an integer with a leading 0, a character that begins no token, and a tab in code
- * keep their lines: lexing goes on after them, with all brackets, f-strings and blocks open. After
- * any other fault it begins again at the next line, with the blocks alone open. Each fault that
+ * keep their lines: lexing goes on after them, with all brackets, f-strings and blocks open. So it
+ * does after a literal with a bad escape, if that is closed. After any other fault it begins again
+ * at the next line, with the blocks alone open. Each fault that
  * keeps its line, but the tab, names its text: so a caller may take a reserved word as a name.
  *
  * With STARLARK_STATUS_FULL one of the buffers has no room for all. A next call with buffers of the

@@ -237,12 +237,12 @@ IN_THE_MAKING = "starlark_tokens/src/reporting/reporter.rt"
 MOST_LINES = {
     "the grammar": 660,
     "`Lexer::next`": 896,
-    "`RecoveringLexer`": 963,
+    "`RecoveringLexer`": 993,
     "`LexedText`": 881,
     "`run`, `run_edits`": 1052,
-    "the calls from C": 1504,
-    "reports, `starlark_tokens`": 2348,
-    "`Document`": 980,
+    "the calls from C": 1534,
+    "reports, `starlark_tokens`": 2378,
+    "`Document`": 1010,
     "checks": 391,
 }
 

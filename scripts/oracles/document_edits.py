@@ -33,7 +33,7 @@ SPAN = re.compile(rb"(fault )?([0-9]+)-([0-9]+)(.*)")
 READS = re.compile(rb"(?<=[0-9]) [0-9]+(?=, same$)")
 
 # What is typed in turn into a stored document, and deleted again: literals, brackets and blocks that open and close.
-TYPED = [b'"""', b"(", b")", b"'", b"f'{", b"\\", b"#", b"if x:\n  ", b"\n", b" ", b"\t", b"$", b"is ", b"f'\n"]
+TYPED = [b'"""', b'"""\\x', b"'\\x", b"(", b")", b"'", b"f'{", b"\\", b"#", b"if x:\n  ", b"\n", b" ", b"\t", b"$", b"is ", b"f'\n"]
 STORED = b'load("a", "b")\nx = [\n  1,\n]\n\ndef f(x):\n  # c\n  return f"{x}"\n\n# d\ny = \'\'\'e\n\'\'\'\nz = 2\n'
 
 PLACED = "# é \N{GRINNING FACE} e\nx = 'é\N{GRINNING FACE}\N{GRINNING FACE}' # é\n\nif x:\n  y = '''\N{GRINNING FACE}\n\N{GRINNING FACE}'''\nz = 'é'\n# \N{GRINNING FACE} é".encode()

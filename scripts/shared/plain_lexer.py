@@ -114,6 +114,7 @@ class Fault(Exception):
     def __init__(self, kind, begin, end, named=b""):
         super().__init__(kind)
         self.begin, self.end = begin, end
+        self.last = None  # of a bad escape, where its literal ends
         self.message = "Parse error: " + MESSAGES[kind].replace("%s", named.decode())
 
 

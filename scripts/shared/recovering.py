@@ -1,13 +1,15 @@
 """All that is found in a text that is lexed on after its faults, by the plain lexer.
 
-A fault that keeps its line is passed as a token is, and so reading goes on in what was open. After any other fault lexing begins again
-at the next line, where the blocks are still open.
+A fault that keeps its line is passed as a token is, and so reading goes on in what was open. So is a whole literal that has a bad
+escape. After any other fault, and after a literal that isn't closed, lexing begins again at the next line, where the blocks are
+still open.
 """
 
 import re
 
 from shared.plain_lexer import (
-    LINE_END, Fault, Lexeme, Situation, comment_lines, fault_line, indentation, lexeme_line, moved_lexeme, restart, step,
+    LINE_END, Fault, Lexeme, Situation, body_at, comment_lines, fault_line, indentation, lexeme_line, longest_word, moved_lexeme,
+    next_line, opening_at, restart, step,
 )
 
 TABS = re.compile(rb"\t*")
@@ -23,6 +25,20 @@ def passed_end(text, lexemes, fault):
         follows_comment = lexemes and lexemes[-1].kind == "Comment" and lexemes[-1].end == begin
         return None if follows_comment or text[begin:end] == b"}" else end
     return end if kind in ("ReservedKeyword", "StartsZero") else None
+
+
+def literal_end(text, offset, fault):
+    """Where the literal at an offset ends, which is raw from its bad escape on, and whether it is closed."""
+    opening = opening_at(text, offset, longest_word(text, offset)[0])
+    _, stop, end = body_at(text, fault.begin, opening._replace(is_raw=True))
+    if stop == "Closing":
+        return end + len(opening.quotes), True
+    return max(fault.end, end if stop == "Line" else len(text)), False
+
+
+def restart_after(text, fault):
+    """Where lexing begins again after a fault that ends its line."""
+    return next_line(text, fault.last - 1) if fault.last else restart(text, fault)
 
 
 def part_of(text, situation):
@@ -43,10 +59,14 @@ def part_of(text, situation):
 
 def pass_piece(text, offset, situation, items):
     """Takes the piece at an offset, or the fault there if it keeps its line. Returns where it ends."""
+    is_code = situation.where() != "Text"
     try:
         piece, end = step(text, offset, situation)
     except Fault as fault:
         end = passed_end(text, [item for what, item in items[-1:] if what == "lexeme"], fault)
+        if fault.args[0] == "InvalidEscapeSequence" and is_code:
+            fault.last, is_closed = literal_end(text, offset, fault)
+            end = fault.last if is_closed else None
         if end is None:
             raise
         items.append(("fault", fault))
@@ -75,7 +95,7 @@ def items_of(text):
         yield from (moved_item(what, item, base) for what, item in items)
         if not last:
             return
-        later = restart(rest, last)
+        later = restart_after(rest, last)
         yield moved_item("fault", last, base)
         base += later
 

@@ -4,7 +4,7 @@ use Rattle.std.specs.Prelude.{ℕ, zero, suc, if◌then◌else◌, List, [], ◌
 use Rattle.starlark_grammar.specs.Words.{Text}
 use Rattle.starlark_grammar.specs.AfterFaults.{restart}
 use Rattle.starlark_grammar.specs.Tokens.{Lexeme, Spanned, moved, Fault}
-use Rattle.starlark_grammar.specs.KeptLines.{keeps_line, passed_end}
+use Rattle.starlark_grammar.specs.KeptLines.{passed_end, stays_open, with_literal}
 use Rattle.starlark_grammar.specs.Pieces.{Nothing, Other}
 use Rattle.starlark_grammar.specs.Reading.{History, history_after, nothing, outcome_after}
 
@@ -30,13 +30,13 @@ pub record Passed : Type 0 where
 abbrev pub at_line : List ℕ → History
 at_line widths = record { tokens = []; widths = widths; before = Nothing }
 
--- A fault that keeps its line is passed with all that is open; after any other fault the next line begins, with the blocks
--- open.
+-- A fault that keeps its line is passed with all that is open, and so is a literal with a bad escape that is closed; after any
+-- other fault, and a literal that isn't, the next line begins, with the blocks open.
 unfoldable pub passed : History → Text → Spanned Fault → Passed
 passed history text fault =
-    if keeps_line history.before text (outcome_after history text).lexemes fault
-    then record { len = passed_end text fault; history = record (history_after history text) { before = Other } }
-    else record { len = restart text fault; history = at_line (history_after history text).widths }
+    if stays_open history text fault
+    then record { len = passed_end text (with_literal history text fault); history = record (history_after history text) { before = Other } }
+    else record { len = restart text (with_literal history text fault); history = at_line (history_after history text).widths }
 
 -- the lexemes of a text, and then its fault if there is one, and what is found after that
 abbrev pub found_by : History → Text → Option (Spanned Fault) → (History → Text → List Item) → List Item

@@ -1,12 +1,15 @@
--- Faults that keep their lines: lexing goes on after their bytes, with all that was open.
-use Rattle.std.specs.Prelude.{ℕ, ◌+◌, Bool, true, false, ◌&&◌, ◌||◌, not, ◌==◌, if◌then◌else◌, nat_eq, List, [], ◌∷◌, drop, codes}
-use Rattle.std.specs.List.{prefix_len}
+-- Faults that keep their lines: lexing goes on after their bytes, with all that was open. So it does after a literal with a
+-- bad escape that is closed.
+use Rattle.std.specs.Prelude.{ℕ, ◌+◌, Bool, true, false, ◌&&◌, ◌||◌, not, ◌==◌, if◌then◌else◌, max, nat_eq, List, [], ◌∷◌, drop, length, take, codes}
+use Rattle.std.specs.List.{prefix_len, starts_with}
 use Rattle.std.specs.Str.{byte, bytes_eq}
-use Rattle.starlark_grammar.specs.Words.{Text}
+use Rattle.starlark_grammar.specs.Words.{Text, SingleQuote, DoubleQuote}
+use Rattle.starlark_grammar.specs.Items.{closing_quotes, quote_byte}
 use Rattle.starlark_grammar.specs.AfterFaults.{is_tab}
 use Rattle.starlark_grammar.specs.Margins.{begins_with_line_end}
-use Rattle.starlark_grammar.specs.Pieces.{Before, is_nothing}
-use Rattle.starlark_grammar.specs.Tokens.{Token, Comment, Lexeme, Spanned, Fault, InvalidInput, InvalidTab, ReservedKeyword, StartsZero}
+use Rattle.starlark_grammar.specs.Pieces.{Before, is_nothing, opening_of}
+use Rattle.starlark_grammar.specs.Reading.{History, outcome_after, read_len}
+use Rattle.starlark_grammar.specs.Tokens.{Token, Comment, Lexeme, Opening, Spanned, Fault, InvalidEscapeSequence, InvalidInput, InvalidTab, ReservedKeyword, StartsZero}
 
 abbrev pub is_comment : Token → Bool
 is_comment (Comment text) = true
@@ -37,3 +40,55 @@ keeps_line before text lexemes fault = go fault.node
 -- where lexing goes on after such a fault: after its bytes, or after all tabs from that of a tab on
 abbrev pub passed_end : Text → Spanned Fault → ℕ
 passed_end text fault = if is_tab fault.node then fault.begin + prefix_len (nat_eq (byte "\t")) (drop fault.begin text) else fault.end
+
+-- Literals with a bad escape
+
+-- The opening of a literal by its first bytes, as that of a raw one: its quote is the first of these that is a quote.
+abbrev pub raw_opening : Text → Opening
+raw_opening [] = opening_of true DoubleQuote []
+raw_opening (b ∷ bs) = if b == quote_byte SingleQuote then opening_of true SingleQuote bs else (if b == quote_byte DoubleQuote then opening_of true DoubleQuote bs else raw_opening bs)
+
+-- what is left of a literal: how many bytes, and whether quotes close it
+pub record LiteralRest : Type 0 where
+  pub len : ℕ
+  pub is_closed : Bool
+
+-- with so many bytes more in front
+abbrev pub longer_rest : ℕ → LiteralRest → LiteralRest
+longer_rest n rest = record rest { len = n + rest.len }
+
+-- What is left of a literal at the front of a text, if each backslash only takes the byte after it: up to its closing quotes,
+-- or up to a line end that it may not have, or the text's end.
+unfoldable pub rest_from : Opening → (is_taken : Bool) → Text → LiteralRest
+rest_from opening is_taken [] = record { len = 0; is_closed = false }
+rest_from opening true (b ∷ bs) = longer_rest 1 (rest_from opening false bs)
+rest_from opening false (b ∷ bs) =
+    if starts_with nat_eq (b ∷ bs) (closing_quotes opening) then record { len = length (closing_quotes opening); is_closed = true }
+    else (if b == byte "\n" && not opening.is_triple then record { len = 0; is_closed = false }
+    else longer_rest 1 (rest_from opening (b == byte "\\") bs))
+
+-- A bad escape in a literal of text or bytes. One in the text of an f-string names its backslash alone; and one that is missing
+-- is at the text's end.
+abbrev pub is_bad_escape : Fault → Bool
+is_bad_escape (InvalidEscapeSequence text) = not (bytes_eq text (codes "\\"))
+is_bad_escape fault = false
+
+-- what is left of the literal from byte `at` on at its bad escape, which begins at an offset; an opening has at most five bytes
+unfoldable pub literal_rest : (at : ℕ) → Text → ℕ → LiteralRest
+literal_rest at text begin = rest_from (raw_opening (take 5 (drop at (take begin text)))) false (drop begin text)
+
+-- A fault with all of its literal, if it is a bad escape in that from byte `at` on.
+unfoldable pub with_literal_at : (at : ℕ) → Text → Spanned Fault → Spanned Fault
+with_literal_at at text fault = if is_bad_escape fault.node then record fault { end = max fault.end (fault.begin + (literal_rest at text fault.begin).len) } else fault
+
+-- whether it is a bad escape in a literal that is closed
+abbrev pub closes_literal : (at : ℕ) → Text → Spanned Fault → Bool
+closes_literal at text fault = is_bad_escape fault.node && (literal_rest at text fault.begin).is_closed
+
+-- The fault of a text after a history, with all of its literal, …
+abbrev pub with_literal : History → Text → Spanned Fault → Spanned Fault
+with_literal history text fault = with_literal_at (read_len history text) text fault
+
+-- … and whether all stays open after it.
+abbrev pub stays_open : History → Text → Spanned Fault → Bool
+stays_open history text fault = keeps_line history.before text (outcome_after history text).lexemes fault || closes_literal (read_len history text) text fault

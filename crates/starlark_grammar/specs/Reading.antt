@@ -115,3 +115,7 @@ outcome_after history text = reading_outcome history text (read_after language h
 -- what was read once such a rest is read, or up to its fault
 unfoldable pub history_after : History → Text → History
 history_after history text = after_all history (read_after language history text).pieces
+
+-- how many bytes of such a rest are read, up to its end or its fault
+unfoldable pub read_len : History → Text → ℕ
+read_len history text = pieces_len (read_after language history text).pieces

@@ -664,12 +664,12 @@ impl<'a> LexerState<'a> {
         }
     }
 
-    /// Goes on after the fault that was taken: its bytes, between two offsets, are passed, and all that
-    /// was open stays open. Lexemes are counted anew.
-    pub fn go_on(&mut self, begin: usize, end: usize)
-        requires order { begin ≤ end }
+    /// Goes on at byte `end` after the fault that was taken: all that was open stays open. Lexemes are
+    /// counted anew. `looked` reads, and one more, found that byte.
+    pub fn go_on(&mut self, end: usize, looked: usize)
         requires fits { end < 2 ^ 32 }
-        ensures lexing { (course : Course) (text : Text) (fault : Spanned Fault) → IsAtFault course text fault self.old → KeepsOpen course text fault begin end → IsCourse (course_past course end text) text → IsLexingIn (course_past course end text) text self.new }
+        requires few { looked < 2 ^ 64 - 1 }
+        ensures lexing { (course : Course) (text : Text) (fault : Spanned Fault) → IsAtFault course text fault self.old → KeepsOpen course text fault end (self.old.reader.reads + looked + 1) → IsCourse (course_past course end text) text → IsLexingIn (course_past course end text) text self.new }
         ensures count { self.new.yielded_count ≡ 0 }
         ensures going { self.new.has_ended ≡ false }
         ensures text { self.new.reader.text ≡ self.old.reader.text }
@@ -677,7 +677,7 @@ impl<'a> LexerState<'a> {
         self.yielded_count = 0;
         self.has_ended = false;
         self.is_at_code = false;
-        self.reader.go_on(begin, end);
+        self.reader.go_on(end, looked);
     }
 
     /// Whether a fault is left after the last lexeme.

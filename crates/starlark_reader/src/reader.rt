@@ -488,19 +488,16 @@ impl<'a> Reader<'a> {
         }
     }
 
-    /// Goes on after the fault that was taken: its bytes, between two offsets, are passed, and
-    /// brackets, f-strings and indents stay open.
-    ///
-    /// Each of these bytes counts as read once more, and the byte after them.
-    pub fn go_on(&mut self, begin: usize, end: usize)
-        requires order { begin ≤ end }
-        requires fits { end < 2 ^ 64 - 1 }
+    /// Goes on at byte `end` after the fault that was taken: brackets, f-strings and indents stay open.
+    /// `looked` reads, and one more, found that byte.
+    pub fn go_on(&mut self, end: usize, looked: usize)
+        requires fits { looked < 2 ^ 64 - 1 }
         ensures text { self.new.text ≡ self.old.text }
         ensures ahead { (origin : Origin) (text : Text) (history : History) → IsStateAfter origin text history self.old → self.old.at ≤ end → IsCharBoundary text end →
             IsAhead (From (kept_history history) end) text self.new self.new.stage (map shown_lexeme (remaining_outcome (kept_history history) end (drop end text)).lexemes) (remaining_outcome (kept_history history) end (drop end text)).fault }
-        ensures reads { (text : Text) → more_reads 0 begin ≤ self.old.reads → self.old.reads + (end - begin) + 1 ≤ 10 * end + 2 → HasRead text self.new }
+        ensures reads { (text : Text) → more_reads 0 end ≤ self.old.reads + looked + 1 → self.old.reads + looked + 1 ≤ 10 * end + 2 → HasRead text self.new }
     {
-        self.reads.count_run(end - begin);
+        self.reads.count_run(looked);
         self.at = end;
         self.before = Before::Other;
         self.pending = Pending::nothing();

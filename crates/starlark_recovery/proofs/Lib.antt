@@ -5,6 +5,8 @@
 -- RecoveryStates: a lexer that goes on: what is left to it after each fault.
 -- RecoverySteps: its answers.
 -- Passes: a fault that was passed, and whether it keeps its line.
+-- LiteralBytes: literals with a bad escape: what is left of one, byte by byte.
+pub mod LiteralBytes
 pub mod PartRests
 pub mod RecoveredItems
 pub mod RestartPlaces

@@ -1,6 +1,6 @@
 -- What is left of a part: its outcome, by that of the rest after what was read before; its fault; where that is passed.
 use Rattle.std.proofs.Common.{◌≡◌, ◌≤◌, ◌<◌, ◌+◌, ◌-◌, ◌==◌, ℕ, suc, Bool, true, false, List, [], ◌∷◌, ◌++◌, cond, map, length, drop, refl, ap, sym, subst, ◌∙◌, arith, None, Some, IfSome, inl, inr, ◌⊎◌}
-use Rattle.std.proofs.lemmas.Bool.{both_ways, eqb-true}
+use Rattle.std.proofs.lemmas.Bool.{and_parts, both_ways, cases_lt, eqb-true}
 use Rattle.std.proofs.lemmas.Bool.Decides.{nat_tests}
 use Rattle.std.proofs.lemmas.List.{length-drop, length-map}
 use Rattle.std.proofs.lemmas.Str.{IsCharBoundary-from_drop, IsCharBoundary-from_rest, IsUtf8-drop, IsUtf8-past_char, encode_ascii}
@@ -9,7 +9,7 @@ use Rattle.std.specs.Prelude.{◌^◌, ◌&&◌, ◌||◌, Option, if◌then◌e
 use Rattle.std.specs.Str.{IsCharBoundary, IsUtf8}
 use Rattle.starlark_grammar.specs.AfterFaults.{is_margin_tab, is_tab, line_end_len, margin_line, next_line, restart, stopped_at}
 use Rattle.starlark_grammar.specs.Inner.KeptFaults.{is_in_margin, may_keep}
-use Rattle.starlark_grammar.specs.KeptLines.{ends_by_comment, keeps_line, passed_end}
+use Rattle.starlark_grammar.specs.KeptLines.{closes_literal, ends_by_comment, is_bad_escape, keeps_line, literal_rest, passed_end, with_literal_at}
 use Rattle.starlark_grammar.specs.Laws.{AtBoundaries}
 use Rattle.starlark_grammar.specs.Margins.{begins_with_line_end, fits, has_tab, is_content, margin_of, open_widths, width_of}
 use Rattle.starlark_grammar.specs.Pieces.{Before, Ends, Fails, Stands, Step, first_margin, margin_step}
@@ -18,9 +18,9 @@ use Rattle.starlark_grammar.specs.Tokens.{Fault, InvalidInput, InvalidTab, Lexem
 use Rattle.starlark_grammar.specs.Words.{Text}
 use Rattle.starlark_grammar.specs.Found.{at_line}
 use Rattle.starlark_grammar.proofs.Choices.{either}
-use Rattle.starlark_grammar.proofs.Found.FoundItems.{keeps}
 use Rattle.starlark_grammar.proofs.Joining.Joined.{unmoved}
 use Rattle.starlark_grammar.proofs.KeptLines.KeptFaultPlaces.{IsKept}
+use Rattle.starlark_grammar.proofs.KeptLines.LiteralRests.{closed_boundary, whole_bad}
 use Rattle.starlark_grammar.proofs.Lists.{drop-sum}
 use Rattle.starlark_grammar.proofs.Order.Edges.{edges_shift}
 use Rattle.starlark_grammar.proofs.Order.Rests.{rest_edges, rest_fault_edges, rest_few, rest_within}
@@ -32,6 +32,7 @@ use Rattle.starlark_lexemes.proofs.MovedFaults.{unmoved as unmoved_fault}
 use Rattle.starlark_reader.specs.Inner.Reader.{From, Line, Origin, begin_of, begins_with_fault, history_before, is_refused, moved_fault, moved_outcome, outcome_since, remaining_outcome}
 use Rattle.starlark_reader.proofs.NextLines.{next_line_drop}
 use Rattle.starlark_reader.proofs.TakenPieces.LeftOutcomes.{line_fails}
+use Rattle.starlark_recovery.specs.Inner.Passed.{up_to}
 use Rattle.starlark_recovery.specs.Inner.RecoveryStates.{IsBegun, rest_keeps}
 
 -- The outcome of what is left
@@ -154,7 +155,7 @@ module _ (origin : Origin) (part : Text) (begun : IsBegun origin) where
       by InvalidTab = ap not (in_part fault.begin ∙ sym (in_margin fault.begin))
       by node = refl
 
-  pub keeps_rest : (fault : Spanned Fault) (in_rest : RestFault origin part fault) → rest_keeps origin part fault ≡ keeps (history_before origin) (drop from part) in_rest.inner
+  pub keeps_rest : (fault : Spanned Fault) (in_rest : RestFault origin part fault) → rest_keeps origin part fault ≡ keeps_line before (drop from part) (outcome_after (history_before origin) (drop from part)).lexemes in_rest.inner
   keeps_rest fault in_rest =
       ap (λ ls. keeps_line before part ls fault) (ap (λ (o : Outcome). o.lexemes) (since_is origin part))
       ∙ ap (keeps_line before part (map (moved from) (outcome_after (history_before origin) (drop from part)).lexemes)) (sym in_rest.same)
@@ -225,7 +226,52 @@ stands_first (Line widths) part fault has may inside = by (first_margin (open_wi
     by (Stands piece) e = refl
     by Ends e = refl
 
+-- nor is a bad escape in it
+good_first : (levels : List ℕ) (text : Text) → Each (λ piece. ⊤) (λ fault. is_bad_escape fault.node ≡ false) (first_margin levels text)
+unfolding margin_step
+good_first levels text =
+    either (Each (λ piece. ⊤) (λ fault. is_bad_escape fault.node ≡ false)) (not (is_content (margin_of text).remainder)) _ _ tt
+    (either (Each (λ piece. ⊤) (λ fault. is_bad_escape fault.node ≡ false)) (has_tab (margin_of text)) _ _ refl
+    (either (Each (λ piece. ⊤) (λ fault. is_bad_escape fault.node ≡ false)) (fits (width_of (margin_of text)) levels) _ _ tt refl))
+
+pub stands_escape : (origin : Origin) (part : Text) (fault : Spanned Fault) → (course_of origin part).fault ≡ Some fault → is_bad_escape fault.node ≡ true → begins_with_fault origin part ≡ false
+stands_escape (From history at) part fault has bad = refl
+stands_escape (Line widths) part fault has bad = by (first_margin (open_widths widths) part) refl
+  where
+    by : (step : Step) → first_margin (open_widths widths) part ≡ step → is_refused step ≡ false
+    by (Fails first) e =
+        let both : Some (moved 0 first) ≡ Some fault = sym (ap (λ (o : Outcome). o.fault) (line_fails widths part first e)) ∙ has in
+        let same : moved 0 first ≡ fault = cc in
+        let good = subst (Each (λ piece. ⊤) (λ fault. is_bad_escape fault.node ≡ false)) e (good_first (open_widths widths) part) in
+        absurd (both_ways _ (sym (ap (λ (f : Spanned Fault). is_bad_escape f.node) same) ∙ good) bad)
+    by (Stands piece) e = refl
+    by Ends e = refl
+
 -- Where it is passed
+
+-- a literal that is closed ends between characters
+pub literal_boundary : (at : ℕ) (text : Text) (fault : Spanned Fault) → closes_literal at text fault ≡ true → IsUtf8 text → fault.begin ≤ length text → IsCharBoundary text fault.end → IsCharBoundary text (with_literal_at at text fault).end
+literal_boundary at text fault closes utf8 inside ends = by (cases_lt fault.end (fault.begin + (literal_rest at text fault.begin).len))
+  where
+    parts : (is_bad_escape fault.node ≡ true) × ((literal_rest at text fault.begin).is_closed ≡ true)
+    parts = and_parts (is_bad_escape fault.node) _ closes
+
+    by : (fault.end < fault.begin + (literal_rest at text fault.begin).len) ⊎ (fault.begin + (literal_rest at text fault.begin).len ≤ fault.end) → IsCharBoundary text (with_literal_at at text fault).end
+    by (inl less) =
+        let last : fault.begin + (literal_rest at text fault.begin).len ≡ (with_literal_at at text fault).end = omega (arith, less, whole_bad at text fault parts.0) in
+        subst (IsCharBoundary text) last (closed_boundary at text fault.begin utf8 inside parts.1)
+    by (inr over) =
+        let last : fault.end ≡ (with_literal_at at text fault).end = omega (arith, over, whole_bad at text fault parts.0) in
+        subst (IsCharBoundary text) last ends
+
+-- a fault up to the end of its literal
+pub whole_up_to : (at : ℕ) (text : Text) (fault : Spanned Fault) → up_to (with_literal_at at text fault).end fault ≡ with_literal_at at text fault
+unfolding with_literal_at
+whole_up_to at text fault = by (is_bad_escape fault.node) _
+  where
+    by : (bad : Bool) (end : ℕ) → up_to (if bad then up_to end fault else fault).end fault ≡ (if bad then up_to end fault else fault)
+    by true end = refl
+    by false end = refl
 
 tabs_utf8 : (text : Text) → IsUtf8 text → IsUtf8 (drop (prefix_len (nat_eq 9) text) text)
 tabs_utf8 [] utf8 = utf8

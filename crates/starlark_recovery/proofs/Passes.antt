@@ -5,7 +5,7 @@ use Rattle.std.specs.Prelude.{◌&&◌, ◌||◌, Bool, Option, codes, if◌then
 use Rattle.std.specs.Str.{IsCharBoundary, bytes_eq}
 use Rattle.starlark_grammar.specs.Margins.{begins_with_line_end}
 use Rattle.starlark_grammar.specs.Inner.KeptFaults.{is_in_margin}
-use Rattle.starlark_grammar.specs.KeptLines.{ends_by_comment, keeps_line, passed_end}
+use Rattle.starlark_grammar.specs.KeptLines.{ends_by_comment, is_bad_escape, keeps_line, passed_end}
 use Rattle.starlark_grammar.specs.Tokens.{Fault, Spanned}
 use Rattle.starlark_grammar.specs.Tokens as grammar
 use Rattle.std.proofs.lemmas.Str.{IsCharBoundary-from_rest}
@@ -16,7 +16,7 @@ use Rattle.starlark_lexemes.specs.Inner.LexerStates.{course_of}
 use Rattle.starlark_reader.specs.Inner.Reader.{IsRaw, Origin, begin_of, history_before}
 use Rattle.starlark_recovery.specs.Inner.RecoveryStates.{IsBegun, rest_keeps}
 use Rattle.starlark_recovery.proofs.PartRests.{in_part}
-use Rattle.starlark_recovery.specs.Inner.Passed.{HasPassed, error_keeps_line, is_tab_error}
+use Rattle.starlark_recovery.specs.Inner.Passed.{HasPassed, error_keeps_line, is_bad_escape_error, is_tab_error, up_to}
 use Rattle.starlark_grammar.specs.Recovery.{is_tab, restart}
 use Rattle.starlark_recovery.specs.Restarts.{IsPlaceOf}
 use Rattle.starlark_lexemes.specs.Lexer.{search_reads}
@@ -39,19 +39,30 @@ pub tab_kind : (error : LexemeError) (node : Fault) → fault_view error ≡ Som
 tab_kind error.InvalidTab node is = ap (λ found. is_tab (fault_of found)) is
 tab_kind it node is = ap (λ found. is_tab (fault_of found)) is
 
--- what passing a fault leaves, by what was found out for it
-pub passes : (file : SourceFile) (text part : Text) (begin at : ℕ) (fault : Spanned Fault) (found : ℕ × LexemeError × ℕ) (tab : Bool) (reads : ℕ) (given : Diagnosed ErrorKind)
+-- a bad escape is that of the code
+pub bad_kind : (error : LexemeError) (node : Fault) → fault_view error ≡ Some node → is_bad_escape_error error ≡ is_bad_escape node
+bad_kind (error.InvalidEscapeSequence text) node is = ap (λ found. is_bad_escape (fault_of found)) is
+bad_kind it node is = ap (λ found. is_bad_escape (fault_of found)) is
+
+-- of two faults that the code has as one
+pub one_raw : (one other : Spanned Fault) (found : ℕ × LexemeError × ℕ) → IsRaw one found → IsRaw other found → one ≡ other
+one_raw one other found is there =
+    let node : one.node ≡ other.node = ap fault_of (sym is.1 ∙ there.1) in
+    rw (sym is.0 ∙ there.0, node, sym is.2 ∙ there.2) refl
+
+-- what passing a fault up to an offset leaves, by what was found out for it
+pub passes : (file : SourceFile) (text part : Text) (begin at end : ℕ) (fault : Spanned Fault) (found : ℕ × LexemeError × ℕ) (tab : Bool) (reads : ℕ) (given : Diagnosed ErrorKind)
     → IsRaw fault found → tab ≡ is_tab_error found.1
-    → part ≡ drop begin text → ((fault : Spanned Fault) → IsPlaceOf fault found.0 found.2 tab → at ≡ restart part fault) → ((fault : Spanned Fault) → IsPlaceOf fault found.0 found.2 tab → AreReads 1 (search_reads part fault) 0 reads) → IsCharBoundary part at → IsCharBoundary text begin
+    → part ≡ drop begin text → ((fault : Spanned Fault) → IsPlaceOf fault found.0 end tab → at ≡ restart part fault) → ((fault : Spanned Fault) → IsPlaceOf fault found.0 end tab → AreReads 1 (search_reads part fault) 0 reads) → IsCharBoundary part at → IsCharBoundary text begin
     → given ≡ with_span (unplaced (Parser (message.Lexeme found.1))) (place_in file (record { begin = begin + found.0; end = begin + found.2 }))
-    → HasPassed file text begin fault (record { fault = given; begin = begin + at; reads = reads })
-passes file text part begin at fault found tab reads given raw tab_is part_is restarts searches boundary start given_is =
-    let its_place : IsPlaceOf fault found.0 found.2 tab = record { begins = raw.0; ends = raw.2; is_tab = (tab_is ∙ tab_kind found.1 fault.node raw.1) } in
+    → HasPassed file text begin fault end (record { fault = given; begin = begin + at; reads = reads })
+passes file text part begin at end fault found tab reads given raw tab_is part_is restarts searches boundary start given_is =
+    let its_place : IsPlaceOf (up_to end fault) found.0 end tab = record { begins = raw.0; ends = refl; is_tab = (tab_is ∙ tab_kind found.1 fault.node raw.1) } in
     record {
       exception = raw_thrown file begin fault found given raw given_is;
-      from = ap (λ n. begin + n) (restarts fault its_place ∙ ap (λ (t : Text). restart t fault) part_is);
+      from = ap (λ n. begin + n) (restarts (up_to end fault) its_place ∙ ap (λ (t : Text). restart t (up_to end fault)) part_is);
       boundary = IsCharBoundary-from_rest text begin at start.0 (subst (λ (t : Text). IsCharBoundary t at) part_is boundary);
-      reads = subst (λ (t : Text). AreReads 1 (search_reads t fault) 0 reads) part_is (searches fault its_place);
+      reads = subst (λ (t : Text). AreReads 1 (search_reads t (up_to end fault)) 0 reads) part_is (searches (up_to end fault) its_place);
     }
 
 -- where lexing goes on after a fault that keeps its line

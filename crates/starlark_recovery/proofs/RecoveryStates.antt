@@ -1,24 +1,25 @@
 -- A lexer that goes on after faults: what is left to it after each fault.
 use Rattle.std.proofs.Common.{◌≡◌, ◌≤◌, ◌<◌, ◌+◌, ◌-◌, ◌*◌, ℕ, true, false, List, [], ◌∷◌, map, length, drop, take, refl, ap, sym, subst, ◌∙◌, arith, None, Some, IfSome, rules, inl, inr, ◌⊎◌}
-use Rattle.std.proofs.lemmas.Bool.{cases_lt}
-use Rattle.std.proofs.lemmas.List.{drop_all, length-drop}
+use Rattle.std.proofs.lemmas.Bool.{and_parts, cases_lt}
+use Rattle.std.proofs.lemmas.List.{drop_all, length-drop, length-take-le, take-append-drop}
 use Rattle.std.proofs.lemmas.Str.{IsCharBoundary-start, IsUtf8-drop}
-use Rattle.std.specs.Prelude.{◌^◌, Option}
+use Rattle.std.specs.Prelude.{◌^◌, ◌||◌, Bool, Option, ◌++◌, max}
 use Rattle.std.specs.Str.{IsCharBoundary, IsUtf8}
 use Rattle.starlark_base.specs.Diagnostics.{Diagnosed}
 use Rattle.starlark_grammar.specs.AfterFaults.{is_margin_tab, restart}
 use Rattle.starlark_grammar.specs.Found.{Item, Passed as PassedOver, at_line, found, found_after, moved_item, passed as passed_by}
 use Rattle.starlark_grammar.specs.Inner.KeptFaults.{may_keep}
 use Rattle.starlark_grammar.specs.KeptLineLaws.{KeepsLine}
-use Rattle.starlark_grammar.specs.KeptLines.{ends_by_comment, passed_end}
+use Rattle.starlark_grammar.specs.KeptLines.{LiteralRest, closes_literal, ends_by_comment, is_bad_escape, keeps_line, literal_rest, passed_end, stays_open, with_literal, with_literal_at}
 use Rattle.starlark_grammar.specs.Margins.{open_widths}
 use Rattle.starlark_grammar.specs.Depths.{mode_after}
-use Rattle.starlark_grammar.specs.Reading.{History, history_after, outcome_after}
+use Rattle.starlark_grammar.specs.Reading.{History, history_after, outcome_after, read_len}
 use Rattle.starlark_grammar.specs.Tokens.{Fault, Outcome, Spanned, moved}
 use Rattle.starlark_grammar.specs.Words.{Text}
-use Rattle.starlark_grammar.proofs.Found.FoundItems.{keeps, passed_kept, passed_lost}
+use Rattle.starlark_grammar.proofs.Found.FoundItems.{passed_kept, passed_lost}
 use Rattle.starlark_grammar.proofs.KeptLines.Faults.{is_in_text}
-use Rattle.starlark_grammar.proofs.KeptLines.KeptFaultPlaces.{IsKept, kept, kept_faults_have_bytes, place}
+use Rattle.starlark_grammar.proofs.KeptLines.KeptFaultPlaces.{IsKept, kept, kept_faults_have_bytes, kept_other, open_place, or_none, passed_literal, whole_untabbed}
+use Rattle.starlark_grammar.proofs.KeptLines.LiteralRests.{closed_later, whole_bad, whole_ends, whole_moved, whole_other, whole_same}
 use Rattle.starlark_grammar.proofs.Lists.{drop-sum}
 use Rattle.starlark_grammar.proofs.Order.Rests.{rest_ends, rest_levels}
 use Rattle.starlark_grammar.proofs.Reading.Onward.{outcome_after_nothing, stops_at}
@@ -26,21 +27,23 @@ use Rattle.starlark_grammar.proofs.Recovery.LineCuts.{AtLine, before_faultless}
 use Rattle.starlark_grammar.proofs.Recovery.RestartBounds.{restart_bounds}
 use Rattle.starlark_errors.specs.Exceptions.{IsException}
 use Rattle.starlark_errors.specs.declared.error.kinds.ErrorKind.{ErrorKind}
-use Rattle.starlark_lexemes.specs.Inner.LexerStates.{IsCourse, IsLexing, IsLexingIn, KeepsOpen, course_of, whole}
+use Rattle.starlark_lexemes.specs.Inner.LexerStates.{AreReadsTo, IsCourse, IsLexing, IsLexingIn, KeepsOpen, course_of, whole}
 use Rattle.starlark_lexemes.specs.declared.lexer_state.LexerState.{LexerState}
 use Rattle.starlark_lexemes.proofs.LexerStates.{lexing_read_in}
-use Rattle.starlark_reader.specs.Inner.Reader.{From, Line, Origin, Start, begin_of, history_before, history_since, kept_history, moved_fault, remaining_outcome}
-use Rattle.starlark_reader.proofs.NextLines.{next_line_least, next_line_later, restart_inside, restart_line}
+use Rattle.starlark_reader.specs.Inner.Reader.{From, Line, Origin, Start, begin_of, begins_with_fault, history_before, history_since, kept_history, moved_fault, remaining_outcome}
+use Rattle.starlark_reader.proofs.NextLines.{next_line_least, next_line_later, restart_inside, restart_line, stopped_end}
+use Rattle.starlark_reader.proofs.TakenPieces.SearchReads.{other_search}
 use Rattle.starlark_reader.proofs.TakenPieces.KeptReads.{moved_passed}
-use Rattle.starlark_recovery.specs.Inner.Passed.{HasPassed}
-use Rattle.starlark_recovery.specs.Inner.RecoveryStates.{HasPassedOn, HasReadBefore, IsLeftOf, IsOnward, IsPart, IsRest, IsStopped, after_faults, items_since, part_of, rest_keeps}
+use Rattle.starlark_recovery.specs.Inner.Passed.{HasPassed, up_to}
+use Rattle.starlark_recovery.specs.Inner.RecoveryStates.{HasPassedOn, HasReadBefore, IsLeftOf, IsOnward, IsPaidTo, IsPart, IsRest, IsStopped, after_faults, items_since, part_of, rest_keeps, stays_open_here, with_literal_here}
 use Rattle.starlark_recovery.specs.RecoveringLexer.{AreReadsOn}
 use Rattle.starlark_recovery.specs.declared.passed_faults.Passed.{Passed}
 use Rattle.starlark_recovery.specs.declared.recovery_state.RecoveryState.{RecoveryState}
-use Rattle.starlark_recovery.proofs.PartRests.{RestFault, is_course, keeps_rest, kept_no_margin, lost_tab, passed_boundary, rest_fault, restart_rest, stands_first}
+use Rattle.starlark_recovery.proofs.PartRests.{RestFault, is_course, keeps_rest, kept_no_margin, literal_boundary, lost_tab, passed_boundary, rest_fault, restart_rest, stands_escape, stands_first, whole_up_to}
 use Rattle.starlark_recovery.proofs.RecoveredItems.{after_fault, all_moved_by_none, all_moved_twice, items_past}
 use Rattle.starlark_text.specs.declared.or_memory.OrMemory.TheVariants.{Error}
-use Rattle.starlark_words.specs.Inner.Reads.{more_reads}
+use Rattle.starlark_lexemes.specs.Lexer.{search_reads}
+use Rattle.starlark_words.specs.Inner.Reads.{AreReads, more_reads}
 
 -- The part
 
@@ -61,11 +64,11 @@ module _ (state : RecoveryState) (is : IsPart state) where
 pub on_reads : (text : Text) (begin to n earlier reads : ℕ) → begin + to ≤ length text → length text < 2 ^ 32 → HasReadBefore begin to n earlier → reads ≤ 16 * (length text - begin + 1) → AreReadsOn text n (more_reads earlier reads)
 on_reads text begin to n earlier reads inside fits before few = search rules
 
--- a fault that keeps its line is in code
+-- a fault at which all stays open is in code
 kept_in_code : (history : History) (text : Text) (fault : Spanned Fault) → KeepsLine history text fault → is_in_text (mode_after (history_after history text).tokens) ≡ false
 kept_in_code history text fault keeps =
-    let is = place history text fault keeps in
-    ap (λ (h : History). is_in_text (mode_after h.tokens)) is.here.past ∙ is.code.in_code
+    let is = open_place history text fault keeps in
+    ap (λ (h : History). is_in_text (mode_after h.tokens)) is.here.past ∙ is.in_code
 
 -- What is left of the part
 
@@ -141,45 +144,152 @@ module _ (old : RecoveryState) (fault : Spanned Fault) (stopped : IsStopped old 
   left_past : after_faults (old.fault_count + 1) (found old.text.now) ≡ map (moved_item old.begin) (items_past origin part (passed_by history rest in_rest.inner))
   left_past = after_fault old.fault_count old.begin origin part (found old.text.now) in_rest.inner stopped.left in_rest.has
 
-  -- A fault that keeps its line
+  -- its literal, in the part and in what is left of that
 
-  module _ (line : rest_keeps origin part fault ≡ true) where
+  bad_place : is_bad_escape fault.node ≡ true → old.state.reader.at ≡ at + read_len history rest
+  bad_place bad = stopped.here.stores.at (stands_escape origin part fault stopped.here.has bad)
+
+  literal_moved : (n : ℕ) → (with_literal_at (at + n) part (moved at in_rest.inner) ≡ moved at (with_literal_at n rest in_rest.inner)) × (closes_literal (at + n) part (moved at in_rest.inner) ≡ closes_literal n rest in_rest.inner)
+  literal_moved n =
+      let len : length (take at part) ≡ at = length-take-le at part stopped.rest.inside in
+      subst (λ (t : Text). (with_literal_at (at + n) t (moved at in_rest.inner) ≡ moved at (with_literal_at n rest in_rest.inner)) × (closes_literal (at + n) t (moved at in_rest.inner) ≡ closes_literal n rest in_rest.inner)) (take-append-drop at part)
+      (subst (λ m. (with_literal_at (m + n) (take at part ++ rest) (moved m in_rest.inner) ≡ moved m (with_literal_at n rest in_rest.inner)) × (closes_literal (m + n) (take at part ++ rest) (moved m in_rest.inner) ≡ closes_literal n rest in_rest.inner)) len (whole_moved n (take at part) rest in_rest.inner))
+
+  literal_here : (with_literal_here old fault ≡ moved at (with_literal history rest in_rest.inner)) × (closes_literal old.state.reader.at part fault ≡ closes_literal (read_len history rest) rest in_rest.inner)
+  literal_here = by (is_bad_escape fault.node) refl
+    where
+      inner_bad : is_bad_escape in_rest.inner.node ≡ is_bad_escape fault.node
+      inner_bad = ap (λ (f : Spanned Fault). is_bad_escape f.node) in_rest.same
+
+      by : (bad : Bool) → is_bad_escape fault.node ≡ bad
+          → (with_literal_here old fault ≡ moved at (with_literal history rest in_rest.inner)) × (closes_literal old.state.reader.at part fault ≡ closes_literal (read_len history rest) rest in_rest.inner)
+      by true e =
+          subst (λ n. (with_literal_at n part fault ≡ moved at (with_literal history rest in_rest.inner)) × (closes_literal n part fault ≡ closes_literal (read_len history rest) rest in_rest.inner)) (sym (bad_place e))
+          (subst (λ (f : Spanned Fault). (with_literal_at (at + read_len history rest) part f ≡ moved at (with_literal history rest in_rest.inner)) × (closes_literal (at + read_len history rest) part f ≡ closes_literal (read_len history rest) rest in_rest.inner)) in_rest.same (literal_moved (read_len history rest)))
+      by false e = (whole_other old.state.reader.at part fault e ∙ sym in_rest.same ∙ ap (moved at) (sym (whole_other (read_len history rest) rest in_rest.inner (inner_bad ∙ e))), rw (e, inner_bad ∙ e) refl)
+
+  stays_is : stays_open_here old origin fault ≡ stays_open history rest in_rest.inner
+  stays_is =
+      ap (λ keeps. keeps || closes_literal old.state.reader.at part fault) (keeps_rest origin part stopped.rest.begun fault in_rest)
+      ∙ ap (λ closes. keeps_line history.before rest (outcome_after history rest).lexemes in_rest.inner || closes) literal_here.1
+
+  -- with it the fault ends no sooner, and in the part
+  pub literal_ends : (fault.end ≤ (with_literal_here old fault).end) × ((with_literal_here old fault).end ≤ length part)
+  literal_ends = whole_ends old.state.reader.at part fault stopped.within.0 stopped.within.1
+
+  -- any other fault has no literal
+  pub other_here : is_bad_escape fault.node ≡ false → (stays_open_here old origin fault ≡ rest_keeps origin part fault) × (with_literal_here old fault ≡ fault)
+  other_here good = (rw good (or_false (rest_keeps origin part fault)), whole_other old.state.reader.at part fault good)
+    where
+      or_false : (test : Bool) → (test || false) ≡ test
+      or_false true = refl
+      or_false false = refl
+
+  -- A bad escape
+
+  module _ (bad : is_bad_escape fault.node ≡ true) where
+    abbrev left : LiteralRest
+    left = literal_rest old.state.reader.at part fault.begin
+
+    pub literal_end : (with_literal_here old fault).end ≡ max fault.end (fault.begin + left.len)
+    literal_end = whole_bad old.state.reader.at part fault bad
+
+    literal_kind : closes_literal old.state.reader.at part fault ≡ left.is_closed
+    literal_kind = rw bad refl
+
+    bad_loses : rest_keeps origin part fault ≡ false
+    bad_loses = by (rest_keeps origin part fault) refl
+      where
+        by : (keeps : Bool) → rest_keeps origin part fault ≡ keeps → keeps ≡ false
+        by true e = let good = kept_other (history_before origin).before part (course_of origin part).lexemes fault e in cc
+        by false e = refl
+
+    pub literal_open : stays_open_here old origin fault ≡ left.is_closed
+    literal_open = ap (λ keeps. keeps || closes_literal old.state.reader.at part fault) bad_loses ∙ literal_kind
+
+    reads_few : old.state.reader.reads ≤ 10 * fault.begin + (fault.end - fault.begin) + 8
+    reads_few = stopped.here.leaves.1 bad
+
+    pub literal_paid : left.is_closed ≡ true → IsPaidTo old fault (with_literal_here old fault).end ((with_literal_here old fault).end - fault.begin + left.len)
+    literal_paid closed =
+        let some = closed_later old.state.reader.at part fault (literal_kind ∙ closed) in
+        (omega arith, omega (arith, reads_few, literal_ends.0, literal_end, some, stopped.within.0))
+
+    pub literal_lost_paid : AreReadsTo part (with_literal_here old fault) (old.state.reader.reads + ((with_literal_here old fault).end - fault.begin + left.len + 1 + 5))
+    literal_lost_paid =
+        let same = whole_same old.state.reader.at part fault in
+        let bounds = restart_bounds part (with_literal_here old fault) literal_ends.1 in
+        let stop = stopped_end part (with_literal_here old fault) in
+        let search = other_search part (with_literal_here old fault) (whole_untabbed old.state.reader.at part fault bad) in
+        let least = stopped.paid.0 in
+        (omega (arith, least, same.0), omega (arith, reads_few, literal_ends.0, literal_end, bounds.0, stop, search, stopped.within.0))
+
+  -- A fault that keeps its line by itself
+
+  module _ (own : rest_keeps origin part fault ≡ true) where
+    own_kept : IsKept history.before rest in_rest.inner
+    own_kept = kept history.before rest (outcome_after history rest).lexemes in_rest.inner (sym (keeps_rest origin part stopped.rest.begun fault in_rest) ∙ own)
+
+    own_may : may_keep fault.node ≡ true
+    own_may = ap (λ (f : Spanned Fault). may_keep f.node) (sym in_rest.same) ∙ own_kept.may
+
+    own_margin : is_margin_tab part fault ≡ false
+    own_margin = ap (is_margin_tab part) (sym in_rest.same) ∙ kept_no_margin origin part stopped.rest.begun in_rest.inner own_kept
+
+    pub own_paid : IsPaidTo old fault (passed_end part fault) (passed_end part fault - fault.begin)
+    own_paid = (omega arith, stopped.here.leaves.0 own_may own_margin)
+
+  -- A fault after which all stays open
+
+  module _ (line : stays_open_here old origin fault ≡ true) where
     abbrev last : ℕ
-    last = passed_end part fault
+    last = passed_end part (with_literal_here old fault)
 
-    keeps_line : KeepsLine history rest in_rest.inner
-    keeps_line = (in_rest.has, sym (keeps_rest origin part stopped.rest.begun fault in_rest) ∙ line)
+    keeps_line_here : KeepsLine history rest in_rest.inner
+    keeps_line_here = (in_rest.has, sym stays_is ∙ line)
 
-    is_kept : IsKept history.before rest in_rest.inner
-    is_kept = kept history.before rest (outcome_after history rest).lexemes in_rest.inner keeps_line.1
+    by_kind : {A : Type 0} → (rest_keeps origin part fault ≡ true → A) → (closes_literal old.state.reader.at part fault ≡ true → A) → A
+    by_kind {A} own literal = go (rest_keeps origin part fault) refl line
+      where
+        go : (keeps : Bool) → rest_keeps origin part fault ≡ keeps → (keeps || closes_literal old.state.reader.at part fault) ≡ true → A
+        go true e is = own e
+        go false e is = literal is
 
-    last_is : last ≡ at + passed_end rest in_rest.inner
-    last_is = ap (passed_end part) (sym in_rest.same) ∙ moved_passed part at in_rest.inner.begin in_rest.inner.end in_rest.inner.node
+    last_is : last ≡ at + passed_end rest (with_literal history rest in_rest.inner)
+    last_is =
+        let literal = with_literal history rest in_rest.inner in
+        ap (passed_end part) literal_here.0 ∙ moved_passed part at literal.begin literal.end literal.node
 
     pub has_bytes : (fault.begin < last) × (last ≤ length part)
     has_bytes =
-        let bytes = kept_faults_have_bytes history rest in_rest.inner keeps_line in
+        let bytes = kept_faults_have_bytes history rest in_rest.inner keeps_line_here in
         (omega (arith, bytes.0, last_is, begins), omega (arith, bytes.1, last_is, stopped.rest.inside, length-drop at part))
 
     pub last_fits : last < 2 ^ 32
     last_fits = omega (arith, has_bytes.1, part_fits old stopped.is_part)
 
-    no_margin : is_margin_tab part fault ≡ false
-    no_margin = ap (is_margin_tab part) (sym in_rest.same) ∙ kept_no_margin origin part stopped.rest.begun in_rest.inner is_kept
-
     part_end : IsCharBoundary part last
-    part_end = passed_boundary part fault has_bytes.1 (part_utf8 old stopped.is_part) stopped.begins stopped.ends
+    part_end = by_kind
+        (λ own.
+        let other = kept_other history.before rest (outcome_after history rest).lexemes in_rest.inner (sym (keeps_rest origin part stopped.rest.begun fault in_rest) ∙ own) in
+        let same : with_literal_here old fault ≡ fault = whole_other old.state.reader.at part fault (sym (ap (λ (f : Spanned Fault). is_bad_escape f.node) in_rest.same) ∙ other) in
+        subst (λ (f : Spanned Fault). IsCharBoundary part (passed_end part f)) (sym same) (passed_boundary part fault (subst (λ (f : Spanned Fault). passed_end part f ≤ length part) same has_bytes.1) (part_utf8 old stopped.is_part) stopped.begins stopped.ends))
+        (λ closes.
+        let bad = (and_parts (is_bad_escape fault.node) _ closes).0 in
+        let begins_inside = stopped.begins in
+        subst (IsCharBoundary part) (sym (passed_literal old.state.reader.at part fault bad)) (literal_boundary old.state.reader.at part fault closes (part_utf8 old stopped.is_part) begins_inside.0 stopped.ends))
 
-    may : may_keep fault.node ≡ true
-    may = ap (λ (f : Spanned Fault). may_keep f.node) (sym in_rest.same) ∙ is_kept.may
+    standing : begins_with_fault origin part ≡ false
+    standing = by_kind
+        (λ own. stands_first origin part fault stopped.here.has (own_may own) (own_margin own))
+        (λ closes. stands_escape origin part fault stopped.here.has (and_parts (is_bad_escape fault.node) _ closes).0)
 
-    pub keeps_open : KeepsOpen (course_of origin part) part fault fault.begin last
-    keeps_open = record {
-      begins = refl;
-      ends = refl;
-      may = may;
-      inside = no_margin;
-      standing = stands_first origin part fault stopped.here.has may no_margin;
+    pub keeps_open : (looked : ℕ) → IsPaidTo old fault last looked → KeepsOpen (course_of origin part) part fault last (old.state.reader.reads + looked + 1)
+    keeps_open looked paid = record {
+      later = omega (arith, has_bytes.0);
+      least = omega (arith, stopped.here.least, paid.0, last_fits);
+      most = paid.1;
+      standing = standing;
       boundary = part_end;
     }
 
@@ -204,7 +314,7 @@ module _ (old : RecoveryState) (fault : Spanned Fault) (stopped : IsStopped old 
         by : (last < length part) ⊎ (length part ≤ last) → IfSome (moved_fault last (outcome_after opened (drop last part)).fault) (λ later. last < length part)
         by (inl less) = each _ less
         by (inr whole) =
-            let none : (outcome_after opened (drop last part)).fault ≡ None = ap (λ (t : Text). (outcome_after opened t).fault) (drop_all last part whole) ∙ rest_ends opened refl (kept_in_code history rest in_rest.inner keeps_line) in
+            let none : (outcome_after opened (drop last part)).fault ≡ None = ap (λ (t : Text). (outcome_after opened t).fault) (drop_all last part whole) ∙ rest_ends opened refl (kept_in_code history rest in_rest.inner keeps_line_here) in
             rw none tt
 
     pub is_again : IsRest old.begin part again
@@ -218,11 +328,11 @@ module _ (old : RecoveryState) (fault : Spanned Fault) (stopped : IsStopped old 
     left_kept : after_faults (old.fault_count + 1) (found old.text.now) ≡ map (moved_item old.begin) (items_since again part)
     left_kept =
         left_past
-        ∙ ap (λ (p : PassedOver). map (moved_item old.begin) (items_past origin part p)) (passed_kept history rest in_rest.inner keeps_line.1)
+        ∙ ap (λ (p : PassedOver). map (moved_item old.begin) (items_past origin part p)) (passed_kept history rest in_rest.inner keeps_line_here.1)
         ∙ ap (λ n. map (moved_item old.begin) (items_since (From opened n) part)) (sym last_is)
 
     module _ (state : LexerState) (earlier : ℕ) (lexing : IsLexingIn (course_of again part) part state) (count : state.yielded_count ≡ 0) (going : state.has_ended ≡ false) (text : state.reader.text ≡ old.state.reader.text)
-        (reads : earlier ≡ more_reads old.earlier_reads 2) where
+        (peeked : ℕ) (some : 1 ≤ peeked) (few : peeked ≤ 16) (reads : earlier ≡ more_reads old.earlier_reads peeked) where
       abbrev on : RecoveryState
       on = record old { state = state; comment = None; fault_count = old.fault_count + 1; earlier_reads = earlier }
 
@@ -233,8 +343,8 @@ module _ (old : RecoveryState) (fault : Spanned Fault) (stopped : IsStopped old 
           record {
             few = omega (arith, before.few, place.0, has_bytes.0);
             first = λ none. absurd (omega (arith, none));
-            least = omega (arith, before.least, before.few, place.0, has_bytes, part_begins old stopped.is_part, stopped.is_part.fits, part_len old stopped.is_part, reads);
-            most = omega (arith, before.most, reads);
+            least = omega (arith, before.least, before.few, place.0, has_bytes, part_begins old stopped.is_part, stopped.is_part.fits, part_len old stopped.is_part, some, reads);
+            most = omega (arith, before.most, reads, few);
           }
 
       onward_on : IsOnward on
@@ -263,18 +373,28 @@ module _ (old : RecoveryState) (fault : Spanned Fault) (stopped : IsStopped old 
 
   -- A fault that ends its line
 
-  module _ (passed : Passed) (has : HasPassed old.code_map old.text.now old.begin fault passed) where
+  module _ (end : ℕ) (end_is : end ≡ (with_literal_here old fault).end) (passed : Passed) (has : HasPassed old.code_map old.text.now old.begin fault end passed) where
+    -- the fault with all of its literal
+    abbrev ended : Spanned Fault
+    ended = with_literal_here old fault
+
+    ended_is : up_to end fault ≡ ended
+    ended_is = ap (λ n. up_to n fault) end_is ∙ whole_up_to old.state.reader.at part fault
+
+    ended_begin : ended.begin ≡ fault.begin
+    ended_begin = (whole_same old.state.reader.at part fault).0
+
     abbrev from : ℕ
-    from = restart part fault
+    from = restart part ended
 
     begins_at : passed.begin ≡ old.begin + from
-    begins_at = has.from
+    begins_at = has.from ∙ ap (λ (f : Spanned Fault). old.begin + restart part f) ended_is
 
     -- the line begins after all that was passed
     after : (at + 1 ≤ from) × (from ≤ length part)
     after = let place = later in (
-      omega (arith, next_line_least part at place.1, next_line_later part at fault.begin place.0, restart_line part fault),
-      restart_inside part fault,
+      omega (arith, next_line_least part at place.1, next_line_later part at ended.begin (omega (arith, place.0, ended_begin)), restart_line part ended),
+      restart_inside part ended,
     )
 
     abbrev next : Text
@@ -283,9 +403,9 @@ module _ (old : RecoveryState) (fault : Spanned Fault) (stopped : IsStopped old 
     -- the blocks that are open at the fault began before the line
     open_before : length (open_widths open_now) ≤ passed.begin
     open_before =
-        let bounds = restart_bounds part fault stopped.within.1 in
+        let bounds = restart_bounds part ended literal_ends.1 in
         let order = stopped.within in
-        omega (arith, widths_before, bounds.0, order.0, begins_at)
+        omega (arith, widths_before, bounds.0, literal_ends.0, order.0, begins_at)
 
     passed_inside : passed.begin ≤ length old.text.now
     passed_inside = let boundary = has.boundary in boundary.0
@@ -298,8 +418,8 @@ module _ (old : RecoveryState) (fault : Spanned Fault) (stopped : IsStopped old 
         is_course (Line open_now) next (IsCharBoundary-start next next_utf8) next_utf8 (omega (arith, open_before, passed_inside, stopped.is_part.fits))
         (omega (arith, length-drop passed.begin old.text.now, stopped.is_part.fits))
 
-    module _ (loses : rest_keeps origin part fault ≡ false) (state : LexerState) (earlier : ℕ) (own : state.reader.text.now ≡ next) (lexing : IsLexingIn (course_of (Line open_now) next) next state)
-        (count : state.yielded_count ≡ 0) (going : state.has_ended ≡ false) (unread : state.reader.reads ≡ 0) (reads : earlier ≡ more_reads old.earlier_reads (more_reads old.state.reader.reads passed.reads)) where
+    module _ (loses : stays_open_here old origin fault ≡ false) (looked : ℕ) (paid : AreReadsTo part ended (old.state.reader.reads + looked)) (state : LexerState) (earlier : ℕ) (own : state.reader.text.now ≡ next) (lexing : IsLexingIn (course_of (Line open_now) next) next state)
+        (count : state.yielded_count ≡ 0) (going : state.has_ended ≡ false) (unread : state.reader.reads ≡ 0) (reads : earlier ≡ more_reads old.earlier_reads (more_reads old.state.reader.reads (more_reads passed.reads looked))) where
       abbrev restarted : RecoveryState
       restarted = record old { begin = passed.begin; state = state; comment = None; fault_count = old.fault_count + 1; earlier_reads = earlier }
 
@@ -310,20 +430,32 @@ module _ (old : RecoveryState) (fault : Spanned Fault) (stopped : IsStopped old 
       reads_again =
           let line = begins_at in
           let past = after in
-          let paid = stopped.paid in
-          search rules
+          let before = stopped.reads in
+          let few : AreReads 1 (search_reads part ended) 0 passed.reads = subst (λ (f : Spanned Fault). AreReads 1 (search_reads part f) 0 passed.reads) ended_is has.reads in
+          record {
+            few = omega (arith, before.few, later.0, past.0, line);
+            first = λ none. absurd (omega (arith, none));
+            least = omega (arith, before.least, before.few, paid.0, few.0, reads, ended_begin, later.0, passed_inside, stopped.is_part.fits);
+            most = omega (arith, before.most, paid.1, few.1, reads, line);
+          }
 
-      lost_so : keeps history rest in_rest.inner ≡ false
-      lost_so = sym (keeps_rest origin part stopped.rest.begun fault in_rest) ∙ loses
+      lost_so : stays_open history rest in_rest.inner ≡ false
+      lost_so = sym stays_is ∙ loses
 
-      from_is : restart part fault ≡ at + restart rest in_rest.inner
-      from_is =
-          ap (restart part) (sym in_rest.same)
-          ∙ restart_rest part at in_rest.inner
-          (lost_tab origin part stopped.rest.begun (outcome_after history rest).lexemes in_rest.inner lost_so) stopped.rest.inside
+      -- its tab is in a margin of both
+      same_tab : is_margin_tab part (moved at (with_literal history rest in_rest.inner)) ≡ is_margin_tab rest (with_literal history rest in_rest.inner)
+      same_tab = by (is_bad_escape in_rest.inner.node) refl
+        where
+          by : (bad : Bool) → is_bad_escape in_rest.inner.node ≡ bad → is_margin_tab part (moved at (with_literal history rest in_rest.inner)) ≡ is_margin_tab rest (with_literal history rest in_rest.inner)
+          by true e = rw (whole_untabbed (read_len history rest) rest in_rest.inner e) refl
+          by false e = subst (λ (f : Spanned Fault). is_margin_tab part (moved at f) ≡ is_margin_tab rest f) (sym (whole_other (read_len history rest) rest in_rest.inner e))
+              (lost_tab origin part stopped.rest.begun (outcome_after history rest).lexemes in_rest.inner (or_none (keeps_line history.before rest (outcome_after history rest).lexemes in_rest.inner) _ lost_so).0)
 
-      next_is : drop (restart part fault) part ≡ next
-      next_is = sym (drop-sum old.begin (restart part fault) old.text.now) ∙ ap (λ n. drop n old.text.now) (sym begins_at)
+      from_is : restart part ended ≡ at + restart rest (with_literal history rest in_rest.inner)
+      from_is = ap (restart part) literal_here.0 ∙ restart_rest part at (with_literal history rest in_rest.inner) same_tab stopped.rest.inside
+
+      next_is : drop (restart part ended) part ≡ next
+      next_is = sym (drop-sum old.begin (restart part ended) old.text.now) ∙ ap (λ n. drop n old.text.now) (sym begins_at)
 
       abbrev found_next : Text → List Item
       found_next = found_after (at_line open_now)
@@ -333,8 +465,8 @@ module _ (old : RecoveryState) (fault : Spanned Fault) (stopped : IsStopped old 
           left_past
           ∙ ap (λ (p : PassedOver). map (moved_item old.begin) (items_past origin part p)) (passed_lost history rest in_rest.inner lost_so)
           ∙ ap (λ n. map (moved_item old.begin) (map (moved_item n) (found_next (drop n part)))) (sym from_is)
-          ∙ ap (λ (t : Text). map (moved_item old.begin) (map (moved_item (restart part fault)) (found_next t))) next_is
-          ∙ all_moved_twice old.begin (restart part fault) (found_next next) ∙ ap (λ n. map (moved_item n) (found_next next)) (sym begins_at)
+          ∙ ap (λ (t : Text). map (moved_item old.begin) (map (moved_item (restart part ended)) (found_next t))) next_is
+          ∙ all_moved_twice old.begin (restart part ended) (found_next next) ∙ ap (λ n. map (moved_item n) (found_next next)) (sym begins_at)
           ∙ ap (map (moved_item passed.begin)) (sym (line_items open_now next))
 
       onward_again : IsOnward restarted

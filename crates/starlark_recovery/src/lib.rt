@@ -2,6 +2,7 @@
 #![tactic(auto)]
 
 mod kept_lines;
+mod literal_rests;
 mod passed_faults;
 pub mod recovering_lexer;
 mod recovery_state;

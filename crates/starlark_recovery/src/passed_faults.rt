@@ -33,25 +33,29 @@ pub(crate) fn is_tab(fault: &LexemeError) -> bool
     matches!(fault, LexemeError::InvalidTab)
 }
 
-/// Passes the fault of a text's part from byte `begin` on. The fault's offsets count from there.
+/// Passes the fault of a text's part from byte `begin` on, up to the line after byte `end`, which is
+/// its own end, or that of its literal. The offsets count from the part's begin.
 pub(crate) fn pass(
     alloc: Global,
     text: &str,
     begin: usize,
     fault: (usize, LexemeError, usize),
+    end: usize,
     code_map: &CodeMap,
 ) -> Result<Passed, AllocError>
     requires boundary { IsCharBoundary text.now begin }
     requires fits { length text.now < 2 ^ 32 }
     requires within { IsWithin (drop begin text.now) fault.0 fault.2 }
     requires between { IsCharBoundary (drop begin text.now) fault.0 }
-    ensures passed { IfOk result (λ passed. (found : Spanned Fault) → IsRaw found fault → HasPassed code_map.now text.now begin found passed) }
+    requires order { fault.2 ≤ end }
+    requires inside { end ≤ length (drop begin text.now) }
+    ensures passed { IfOk result (λ passed. (found : Spanned Fault) → IsRaw found fault → HasPassed code_map.now text.now begin found end passed) }
     ensures order { IfOk result (λ passed. begin ≤ passed.begin) }
 {
     let (fault_begin, fault, fault_end) = fault;
     let is_tab = is_tab(&fault);
     let mut reads = ReadCounter::new();
-    let restart = counted_restart(&mut reads, &text[begin..], fault_begin, fault_end, is_tab);
+    let restart = counted_restart(&mut reads, &text[begin..], fault_begin, end, is_tab);
     let fault = exception(
         alloc,
         begin + fault_begin,

@@ -17,10 +17,11 @@ use std::marker::Model;
 ///
 /// It yields what `Lexer` yields up to the first fault. A reserved word, an integer with a leading 0,
 /// a character that begins no token, and a tab in code keep their lines: it goes on after them, with
-/// all brackets, f-strings and blocks open. After any other fault it begins again at the next line,
-/// with the blocks alone open. Only out of memory ends it before the end of the text. In a contract it
-/// is its text, its code map, the items that are left, how many faults it has yielded,
-/// whether out of memory has ended it, and how often it has read bytes.
+/// all brackets, f-strings and blocks open. So it does after a literal with a bad escape, if that is
+/// closed. After any other fault it begins again at the next line, with the blocks alone open. Only
+/// out of memory ends it before the end of the text. In a contract it is its text, its code map, the
+/// items that are left, how many faults it has yielded, whether out of memory has ended it, and how
+/// often it has read bytes.
 #[derive(Drop)]
 pub struct RecoveringLexer<'a> {
     state: RecoveryState<'a>,

@@ -2,15 +2,17 @@
 
 ghost use Rattle.std.specs.Prelude.{◌≡◌, ◌≤◌, ◌<◌, ◌+◌, ◌^◌, ◌||◌, None, false, length, true};
 ghost use Rattle.std.specs.Str.{IsCharBoundary};
-ghost use Rattle.starlark_grammar.specs.KeptLines.{passed_end};
+ghost use Rattle.starlark_grammar.specs.KeptLines.{is_bad_escape, passed_end};
 ghost use Rattle.starlark_grammar.specs.Tokens.{Fault, Spanned};
 ghost use Rattle.starlark_reader.specs.Inner.Reader.{IsRaw};
 ghost use Rattle.starlark_recovery.specs.Inner.Passed.{is_tab_error};
-ghost use Rattle.starlark_recovery.specs.Inner.RecoveryStates.{HasPassedOn, IsAdvanced, IsRecovering, IsStopped, is_end, last_comment, part_of, rest_keeps, view_of};
+ghost use Rattle.starlark_lexemes.specs.Inner.LexerStates.{AreReadsTo};
+ghost use Rattle.starlark_recovery.specs.Inner.RecoveryStates.{HasPassedOn, IsAdvanced, IsPaidTo, IsRecovering, IsStopped, is_end, last_comment, part_of, stays_open_here, view_of, with_literal_here};
 ghost use Rattle.starlark_recovery.specs.RecoveringLexer.{IsNextOf, all_items};
 ghost use Rattle.starlark_token.specs.TokenViews.{token_view};
 
 use crate::kept_lines::{keeps_line, passed_end};
+use crate::literal_rests::{OPENING_LEN, is_bad_escape, literal_rest};
 use crate::passed_faults::{is_tab, pass};
 use starlark_base::codemap::{CodeMap, OrMemory};
 use starlark_errors::eval_exception::EvalException;
@@ -70,10 +72,19 @@ impl<'a> RecoveryState<'a> {
         }
     }
 
-    /// Passes a fault that keeps its line: lexing goes on at a byte of the part.
-    fn keep(&mut self, fault: (usize, LexemeError, usize), end: usize) -> OrMemory<EvalException>
-        requires { (found : Spanned Fault) × (stopped : IsStopped self.old found) × IsRaw found fault × (rest_keeps stopped.origin (part_of self.old) found ≡ true) × (end ≡ passed_end (part_of self.old) found) }
-        ensures { (found : Spanned Fault) (stopped : IsStopped self.old found) → IsRaw found fault → rest_keeps stopped.origin (part_of self.old) found ≡ true → HasPassedOn self.old found result self.new }
+    /// Passes a fault with all that is open: lexing goes on at a byte of the part. `looked` reads found
+    /// that byte, and `peeked` others what the fault is.
+    fn keep(
+        &mut self,
+        fault: (usize, LexemeError, usize),
+        end: usize,
+        looked: usize,
+        peeked: u64,
+    ) -> OrMemory<EvalException>
+        requires fault { (found : Spanned Fault) × (stopped : IsStopped self.old found) × IsRaw found fault × (stays_open_here self.old stopped.origin found ≡ true) × (end ≡ passed_end (part_of self.old) (with_literal_here self.old found)) × IsPaidTo self.old found end looked }
+        requires some { 1 ≤ peeked }
+        requires few { peeked ≤ 16 }
+        ensures { (found : Spanned Fault) (stopped : IsStopped self.old found) → IsRaw found fault → stays_open_here self.old stopped.origin found ≡ true → HasPassedOn self.old found result self.new }
     {
         let begin = self.begin;
         let (from, error, to) = fault;
@@ -81,29 +92,59 @@ impl<'a> RecoveryState<'a> {
         else {
             return OrMemory::Memory;
         };
-        self.state.go_on(from, end);
+        self.state.go_on(end, looked);
         self.comment = None;
         self.fault_count += 1;
-        // The first two bytes of the fault were looked at.
-        self.earlier_reads = self.earlier_reads.saturating_add(2);
+        self.earlier_reads = self.earlier_reads.saturating_add(peeked);
         OrMemory::Error(given)
     }
 
-    /// Passes a fault that ends its line: lexing begins again at the next one.
-    fn restart(&mut self, fault: (usize, LexemeError, usize)) -> OrMemory<EvalException>
-        requires { (found : Spanned Fault) × (stopped : IsStopped self.old found) × IsRaw found fault × (rest_keeps stopped.origin (part_of self.old) found ≡ false) }
-        ensures { (found : Spanned Fault) (stopped : IsStopped self.old found) → IsRaw found fault → rest_keeps stopped.origin (part_of self.old) found ≡ false → HasPassedOn self.old found result self.new }
+    /// Passes a fault that ends its line: lexing begins again at the next one after byte `end` of the
+    /// part, which `looked` reads found.
+    fn restart(
+        &mut self,
+        fault: (usize, LexemeError, usize),
+        end: usize,
+        looked: u64,
+    ) -> OrMemory<EvalException>
+        requires { (found : Spanned Fault) × (stopped : IsStopped self.old found) × IsRaw found fault × (stays_open_here self.old stopped.origin found ≡ false) × (end ≡ (with_literal_here self.old found).end) × AreReadsTo (part_of self.old) (with_literal_here self.old found) (self.old.state.reader.reads + looked) }
+        ensures { (found : Spanned Fault) (stopped : IsStopped self.old found) → IsRaw found fault → stays_open_here self.old stopped.origin found ≡ false → HasPassedOn self.old found result self.new }
     {
-        let Ok(passed) = pass(self.alloc, self.text, self.begin, fault, &self.code_map) else {
+        let Ok(passed) = pass(
+            self.alloc,
+            self.text,
+            self.begin,
+            fault,
+            end,
+            &self.code_map,
+        ) else {
             return OrMemory::Memory;
         };
-        let reads = self.state.reader.reads.count().saturating_add(passed.reads);
+        let searched = passed.reads.saturating_add(looked);
+        let reads = self.state.reader.reads.count().saturating_add(searched);
         self.earlier_reads = self.earlier_reads.saturating_add(reads);
         self.fault_count += 1;
         self.begin = passed.begin;
         self.state.begin_line(&self.text[passed.begin..]);
         self.comment = None;
         OrMemory::Error(passed.fault)
+    }
+
+    /// Passes a bad escape with all of its literal. Where that isn't closed, lexing begins again at the
+    /// line after it.
+    fn pass_literal(&mut self, fault: (usize, LexemeError, usize)) -> OrMemory<EvalException>
+        requires { (found : Spanned Fault) × (stopped : IsStopped self.old found) × IsRaw found fault × (is_bad_escape found.node ≡ true) }
+        ensures { (found : Spanned Fault) → IsStopped self.old found → IsRaw found fault → is_bad_escape found.node ≡ true → HasPassedOn self.old found result self.new }
+    {
+        let part = &self.text[self.begin..];
+        let rest = literal_rest(part, self.state.reader.at, fault.0);
+        let end = fault.2.max(fault.0 + rest.len);
+        let looked = end - fault.0 + rest.len;
+        if rest.is_closed {
+            self.keep(fault, end, looked, OPENING_LEN as u64)
+        } else {
+            self.restart(fault, end, (looked + 1 + OPENING_LEN) as u64)
+        }
     }
 
     /// Passes the fault of the part that was taken.
@@ -116,11 +157,17 @@ impl<'a> RecoveryState<'a> {
         let part = &self.text[self.begin..];
         let lexemes = self.state.yielded_count - 1;
         let follows_comment = is_end(self.comment, lexemes, fault.0);
-        if !keeps_line(part, fault.0, &fault.1, follows_comment) {
-            return self.restart(fault);
+        if is_bad_escape(&fault.1) {
+            return self.pass_literal(fault);
         }
-        let end = passed_end(part, fault.0, fault.2, is_tab(&fault.1));
-        self.keep(fault, end)
+        let end = fault.2;
+        if !keeps_line(part, fault.0, &fault.1, follows_comment) {
+            return self.restart(fault, end, 0);
+        }
+        let end = passed_end(part, fault.0, end, is_tab(&fault.1));
+        let looked = end - fault.0;
+        // The first two bytes of the fault were looked at.
+        self.keep(fault, end, looked, 2)
     }
 
     /// Records a lexeme that was yielded, if it is a comment.

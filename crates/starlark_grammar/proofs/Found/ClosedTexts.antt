@@ -11,12 +11,13 @@ use Rattle.starlark_grammar.specs.ClosedTexts.{Cut, Empty, IsClosed, IsClosedAft
 use Rattle.starlark_grammar.specs.Found.{at_line, Passed, passed}
 use Rattle.starlark_grammar.specs.FoundLaws.{ClosedJoin}
 use Rattle.starlark_grammar.specs.Joining.{begins_plainly, is_between_lines, is_decided, is_line_cut_after}
+use Rattle.starlark_grammar.specs.KeptLines.{with_literal}
 use Rattle.starlark_grammar.specs.Reading.{history_after, History, after_all, nothing, outcome_after}
 use Rattle.starlark_grammar.specs.Tokens.{Fault, Outcome, Spanned, moved}
 use Rattle.starlark_grammar.specs.Words.{Text}
 use Rattle.starlark_grammar.proofs.Found.FoundItems.{by_keeps, passed_bounds, passed_kept, passed_lost}
-use Rattle.starlark_grammar.proofs.Found.JoinedTexts.{fault_is, passed_alike, passed_moved}
-use Rattle.starlark_grammar.proofs.Found.PassedFaults.{has_both, passed_stays}
+use Rattle.starlark_grammar.proofs.Found.JoinedTexts.{fault_is, passed_alike, passed_moved, whole_alike, whole_joined}
+use Rattle.starlark_grammar.proofs.Found.PassedFaults.{has_both, passed_stays, whole_both}
 use Rattle.starlark_grammar.proofs.Joining.Laws.{ends_after}
 use Rattle.starlark_grammar.proofs.Reading.Onward.{last_after, pieces_after}
 use Rattle.starlark_grammar.proofs.Reading.Steps.{is_nothing}
@@ -31,7 +32,7 @@ pub closed_ends : (history : History) (text : Text) → IsClosedAfter history te
 unfolding is_line_cut_after history_after
 closed_ends _ _ (Empty widths) some = absurd (omega (arith, some))
 closed_ends _ _ (Cut history text cut) some = (and_parts (is_faultless (last_after history text) && is_between_lines (after_all history (pieces_after history text))) _ cut).1
-closed_ends _ _ (Past history text fault has is rest) some = decided_ends text fault is
+closed_ends _ _ (Past history text fault has is rest) some = decided_ends text (with_literal history text fault) is
 
 decided_moved : (first second : Text) → begins_plainly second ≡ true → (fault : Spanned Fault) → is_decided (first ++ second) (moved (length first) fault) ≡ is_decided second fault
 unfolding is_decided
@@ -66,7 +67,7 @@ closed_alike one _ _ alike line (Empty widths) =
 closed_alike one _ _ alike line (Cut other text cut) = Cut one text (alike_line_cut one other text alike ∙ cut)
 closed_alike one _ _ alike line (Past other text fault has is rest) =
     let next = passed_alike one other text fault alike in
-    Past one text fault (ap (λ (o : Outcome). o.fault) (alike_outcome one other text alike) ∙ has) is
+    Past one text fault (ap (λ (o : Outcome). o.fault) (alike_outcome one other text alike) ∙ has) (ap (is_decided text) (whole_alike one other text fault alike) ∙ is)
     (subst (λ n. IsClosedAfter (passed one text fault).history (drop n text)) (sym next.0)
     (closed_alike (passed one text fault).history (passed other text fault).history (drop (passed other text fault).len text) next.1 (passed_line one text fault) rest))
 
@@ -75,11 +76,12 @@ line_closed history first line _ _ e (Empty widths) plain = let some = plain_som
 line_closed history first line _ _ e (Cut start second is) plain =
     Cut history (first ++ second) (cut_of_joined history first second line plain ∙ ap (λ (h : History). is_line_cut_after h second) (sym e) ∙ is)
 line_closed history first line _ _ e (Past start second fault has is rest) plain =
+    let decides = ap (λ (h : History). is_decided second (with_literal h second fault)) (sym e) ∙ is in
     let found = ap (λ (h : History). (outcome_after h second).fault) (sym e) ∙ has in
     let next = passed_moved history first second line plain fault found in
     let place : drop (passed history (first ++ second) (moved (length first) fault)).len (first ++ second) ≡ drop (passed nothing second fault).len second =
     ap (λ n. drop n (first ++ second)) next.0 ∙ drop-append-add first second (passed nothing second fault).len in
-    Past history (first ++ second) (moved (length first) fault) (fault_is history first second line plain (Some fault) found) (decided_moved first second plain fault ∙ is)
+    Past history (first ++ second) (moved (length first) fault) (fault_is history first second line plain (Some fault) found) (ap (is_decided (first ++ second)) (whole_joined history first second line plain fault) ∙ decided_moved first second plain (with_literal nothing second fault) ∙ decides)
     (subst (IsClosedAfter (passed history (first ++ second) (moved (length first) fault)).history) (sym place)
     (closed_alike (passed history (first ++ second) (moved (length first) fault)).history (passed nothing second fault).history (drop (passed nothing second fault).len second) next.1 (passed_line history (first ++ second) (moved (length first) fault))
     (subst (λ (h : History). IsClosedAfter (passed h second fault).history (drop (passed h second fault).len second)) e rest)))
@@ -90,7 +92,7 @@ closed_append second plain closed _ _ (Cut history first cut) = line_closed hist
 closed_append second plain closed _ _ (Past history first fault has is rest) =
     let inside = (passed_bounds history first fault has).1 in
     let left : drop (passed history first fault).len (first ++ second) ≡ drop (passed history first fault).len first ++ second = drop-append-le (passed history first fault).len first second inside in
-    Past history (first ++ second) fault (has_both history first second fault has is) (decided_both first second plain fault is closed)
+    Past history (first ++ second) fault (has_both history first second fault has is) (ap (is_decided (first ++ second)) (whole_both history first second fault has is) ∙ decided_both first second plain (with_literal history first fault) is closed)
     (subst (λ (p : Passed). IsClosedAfter p.history (drop p.len (first ++ second))) (sym (passed_stays history first second fault has is))
     (subst (IsClosedAfter (passed history first fault).history) (sym left) (closed_append second plain closed (passed history first fault).history (drop (passed history first fault).len first) rest)))
 

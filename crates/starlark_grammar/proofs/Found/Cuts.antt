@@ -9,16 +9,20 @@ use Rattle.starlark_grammar.specs.ClosedTexts.{Cut, IsClosedAfter, Past}
 use Rattle.starlark_grammar.specs.Found.{Given, Item, Passed, Refused, found, found_after, found_by, found_within, given, lexemes_in, moved_item, passed}
 use Rattle.starlark_grammar.specs.FoundLaws.{LastNewlinesClose, NewlinesClose}
 use Rattle.starlark_grammar.specs.Joining.{begins_plainly, begins_undented, is_decided, is_dedent}
-use Rattle.starlark_grammar.specs.Reading.{History, nothing, outcome_after}
+use Rattle.starlark_grammar.specs.KeptLines.{with_literal, with_literal_at}
+use Rattle.starlark_grammar.specs.Reading.{History, nothing, outcome_after, read_len}
 use Rattle.starlark_grammar.specs.RecoveryLaws.{AreInOrder}
 use Rattle.starlark_grammar.specs.Tokens.{Fault, Lexeme, Outcome, Spanned, moved}
 use Rattle.starlark_grammar.specs.Words.{Text}
 use Rattle.starlark_grammar.proofs.Found.ClosedTexts.{closed_ends}
-use Rattle.starlark_grammar.proofs.Found.FoundItems.{found_after_faults, passed_bounds}
+use Rattle.starlark_grammar.proofs.Found.FoundItems.{found_after_faults, passed_bounds, whole_bounds}
 use Rattle.starlark_grammar.proofs.Found.Order.{good_within}
 use Rattle.starlark_grammar.proofs.Found.PassedFaults.{passed_stays}
 use Rattle.starlark_grammar.proofs.Joining.Laws.{ends_after}
+use Rattle.starlark_grammar.proofs.KeptLines.LiteralRests.{whole_stays}
 use Rattle.starlark_grammar.proofs.Lists.{drop-sum}
+use Rattle.starlark_grammar.proofs.Reading.Onward.{StopsAt, stops_at}
+use Rattle.starlark_grammar.proofs.Recovery.DecidedFaults.{decided, read_stays}
 use Rattle.starlark_grammar.proofs.Recovery.NewlineCuts.{last_newline_cuts_after, newlines_cut_after}
 use Rattle.starlark_grammar.proofs.Recovery.Order.{order_reach}
 use Rattle.starlark_grammar.proofs.Recovery.ShortenedFaults.{fault_shortened}
@@ -51,18 +55,40 @@ module _ (history : History) (text : Text) (fault : Spanned Fault) (has : (outco
       ∙ ap (λ (t : Text). ends_with nat_eq t (codes "\n")) rest_is
       ∙ closed_ends (passed history text fault).history (take n (drop at text)) closed (subst (λ (t : Text). 0 < length t) rest_is left)
 
-  front_decided : is_decided so_far fault ≡ true
+  reaches : (with_literal history text fault).end < length so_far
+  reaches = omega (arith, whole_bounds history text fault has, some, len)
+
+  front_own : is_decided so_far fault ≡ true
   unfolding is_decided
-  front_decided = let bounds = passed_bounds history text fault has in rw (lt-ltb fault.end (length so_far) (omega (arith, bounds.0, some, len)), front_ends) refl
+  front_own = let bounds = passed_bounds history text fault has in rw (lt-ltb fault.end (length so_far) (omega (arith, bounds.0, some, len)), front_ends) refl
 
   front_outcome : outcome_after history so_far ≡ outcome_after history text
   front_outcome =
-      (fault_shortened history so_far later fault (ap (λ (t : Text). (outcome_after history t).fault) whole ∙ has) front_decided
+      (fault_shortened history so_far later fault (ap (λ (t : Text). (outcome_after history t).fault) whole ∙ has) front_own
       (omega (arith, ap (λ (t : Text). (passed history t fault).len) whole, len))).0
       ∙ ap (outcome_after history) whole
 
   front_has : (outcome_after history so_far).fault ≡ Some fault
   front_has = ap (λ (o : Outcome). o.fault) front_outcome ∙ has
+
+  here : StopsAt history so_far fault
+  here = stops_at history so_far fault front_has
+
+  front_len : read_len history so_far ≡ read_len history text
+  front_len = let parts = decided so_far fault front_own in sym (read_stays history so_far later fault parts.1 here parts.0) ∙ ap (read_len history) whole
+
+  front_literal : with_literal history so_far fault ≡ with_literal history text fault
+  front_literal =
+      let parts = decided so_far fault front_own in
+      let order = here.order in
+      let text_reaches : (with_literal_at (read_len history text) (so_far ++ later) fault).end < length so_far = omega (arith, ap (λ (t : Text). (with_literal_at (read_len history text) t fault).end) whole, reaches) in
+      ap (λ n. with_literal_at n so_far fault) front_len
+      ∙ sym (whole_stays (read_len history text) so_far later fault parts.1 (omega (arith, order, parts.0)) (inr text_reaches)).0
+      ∙ ap (λ (t : Text). with_literal_at (read_len history text) t fault) whole
+
+  front_decided : is_decided so_far (with_literal history so_far fault) ≡ true
+  unfolding is_decided
+  front_decided = rw front_literal (rw (lt-ltb (with_literal history text fault).end (length so_far) reaches, front_ends) refl)
 
   front_passed : passed history so_far fault ≡ passed history text fault
   front_passed = sym (passed_stays history so_far later fault front_has front_decided) ∙ ap (λ (t : Text). passed history t fault) whole

@@ -5,41 +5,38 @@ use Rattle.std.specs.Prelude.{if◌then◌else◌, max}
 use Rattle.starlark_grammar.specs.AfterFaults.{is_margin_tab, line_end_len, margin_line, next_line, restart, stopped_at}
 use Rattle.starlark_grammar.specs.Found.{Passed, at_line, Refused, found_after, found_by, found_within, given, moved_item, passed}
 use Rattle.starlark_grammar.specs.FoundLaws.{FaultlessFound, FoundAfterFaults}
-use Rattle.starlark_grammar.specs.KeptLines.{keeps_line, passed_end}
+use Rattle.starlark_grammar.specs.KeptLines.{passed_end, stays_open, with_literal}
 use Rattle.starlark_grammar.specs.Pieces.{Other}
-use Rattle.starlark_grammar.specs.Reading.{History, history_after, outcome_after}
+use Rattle.starlark_grammar.specs.Reading.{History, history_after, outcome_after, read_len}
 use Rattle.starlark_grammar.specs.Tokens.{Fault, Spanned}
 use Rattle.starlark_grammar.specs.Words.{Text}
-use Rattle.starlark_grammar.proofs.KeptLines.KeptFaultPlaces.{kept_end, kept_faults_have_bytes}
-use Rattle.starlark_grammar.proofs.Reading.Onward.{stops_at}
+use Rattle.starlark_grammar.proofs.KeptLines.KeptFaultPlaces.{kept_end, kept_faults_have_bytes, kept_whole}
+use Rattle.starlark_grammar.proofs.KeptLines.LiteralRests.{whole_ends, whole_same}
+use Rattle.starlark_grammar.proofs.Reading.Onward.{StopsAt, stops_at}
 use Rattle.starlark_grammar.proofs.Recovery.LineCuts.{AtLine, before_faultless}
 use Rattle.starlark_grammar.proofs.Recovery.RestartBounds.{restart_bounds}
 
--- whether a fault keeps its line
-abbrev pub keeps : History → Text → Spanned Fault → Bool
-keeps history text fault = keeps_line history.before text (outcome_after history text).lexemes fault
-
--- by whether the fault keeps its line
-pub by_keeps : {A : Type 0} (history : History) (text : Text) (fault : Spanned Fault) → (keeps history text fault ≡ true → A) → (keeps history text fault ≡ false → A) → A
-by_keeps {A} history text fault hit miss = go (keeps history text fault) refl
+-- by whether all stays open
+pub by_keeps : {A : Type 0} (history : History) (text : Text) (fault : Spanned Fault) → (stays_open history text fault ≡ true → A) → (stays_open history text fault ≡ false → A) → A
+by_keeps {A} history text fault hit miss = go (stays_open history text fault) refl
   where
-    go : (is : Bool) → keeps history text fault ≡ is → A
+    go : (is : Bool) → stays_open history text fault ≡ is → A
     go true e = hit e
     go false e = miss e
 
--- what is passed with a fault that keeps its line, …
+-- what is passed with such a fault, …
 abbrev pub kept_past : History → Text → Spanned Fault → Passed
-kept_past history text fault = record { len = passed_end text fault; history = record (history_after history text) { before = Other } }
+kept_past history text fault = record { len = passed_end text (with_literal history text fault); history = record (history_after history text) { before = Other } }
 
-pub passed_kept : (history : History) (text : Text) (fault : Spanned Fault) → keeps history text fault ≡ true → passed history text fault ≡ kept_past history text fault
+pub passed_kept : (history : History) (text : Text) (fault : Spanned Fault) → stays_open history text fault ≡ true → passed history text fault ≡ kept_past history text fault
 unfolding passed
 passed_kept history text fault is = rw is refl
 
 -- … and with any other
 abbrev pub lost_past : History → Text → Spanned Fault → Passed
-lost_past history text fault = record { len = restart text fault; history = at_line (history_after history text).widths }
+lost_past history text fault = record { len = restart text (with_literal history text fault); history = at_line (history_after history text).widths }
 
-pub passed_lost : (history : History) (text : Text) (fault : Spanned Fault) → keeps history text fault ≡ false → passed history text fault ≡ lost_past history text fault
+pub passed_lost : (history : History) (text : Text) (fault : Spanned Fault) → stays_open history text fault ≡ false → passed history text fault ≡ lost_past history text fault
 unfolding passed
 passed_lost history text fault is = rw is refl
 
@@ -67,10 +64,25 @@ passed_bounds history text fault has =
     let inside = here.inside in
     by_keeps history text fault
     (λ is. subst (λ (p : Passed). (fault.end ≤ p.len) × (p.len ≤ length text)) (sym (passed_kept history text fault is)) (after_end is, (kept_faults_have_bytes history text fault (has, is)).1))
-    (λ is. subst (λ (p : Passed). (fault.end ≤ p.len) × (p.len ≤ length text)) (sym (passed_lost history text fault is)) (restart_bounds text fault inside))
+    (λ is. subst (λ (p : Passed). (fault.end ≤ p.len) × (p.len ≤ length text)) (sym (passed_lost history text fault is)) (lost here))
   where
-    after_end : keeps history text fault ≡ true → fault.end ≤ passed_end text fault
+    after_end : stays_open history text fault ≡ true → fault.end ≤ passed_end text (with_literal history text fault)
     after_end is = kept_end history text fault (has, is)
+
+    lost : StopsAt history text fault → (fault.end ≤ restart text (with_literal history text fault)) × (restart text (with_literal history text fault) ≤ length text)
+    lost here =
+        let ends = whole_ends (read_len history text) text fault here.order here.inside in
+        let bounds = restart_bounds text (with_literal history text fault) ends.1 in
+        (omega (arith, ends.0, bounds.0), bounds.1)
+
+-- what is passed reaches to the end of its literal
+pub whole_bounds : (history : History) (text : Text) (fault : Spanned Fault) → (outcome_after history text).fault ≡ Some fault → (with_literal history text fault).end ≤ (passed history text fault).len
+whole_bounds history text fault has = by_keeps history text fault
+    (λ is. subst (λ (p : Passed). (with_literal history text fault).end ≤ p.len) (sym (passed_kept history text fault is)) (kept_whole history text fault (has, is)))
+    (λ is. subst (λ (p : Passed). (with_literal history text fault).end ≤ p.len) (sym (passed_lost history text fault is)) (lost (stops_at history text fault has)))
+  where
+    lost : StopsAt history text fault → (with_literal history text fault).end ≤ restart text (with_literal history text fault)
+    lost here = (restart_bounds text (with_literal history text fault) (whole_ends (read_len history text) text fault here.order here.inside).1).0
 
 -- so many faults are enough for what is found in a text
 abbrev pub Enough : ℕ → History → Text → Type 0
@@ -86,19 +98,24 @@ enough_rest n history text fault has enough = by_keeps history text fault
     less : length text < fault.begin + suc n
     less = enough fault has
 
-    kept : keeps history text fault ≡ true → Enough n (kept_past history text fault).history (drop (passed_end text fault) text)
+    kept : stays_open history text fault ≡ true → Enough n (kept_past history text fault).history (drop (passed_end text (with_literal history text fault)) text)
     kept is = λ later there.
         let bytes = kept_faults_have_bytes history text fault (has, is) in
-        omega (arith, bytes.0, less, length-drop (passed_end text fault) text)
+        omega (arith, bytes.0, less, length-drop (passed_end text (with_literal history text fault)) text)
 
-    lost : keeps history text fault ≡ false → Enough n (lost_past history text fault).history (drop (restart text fault) text)
+    last : Spanned Fault
+    last = with_literal history text fault
+
+    lost : stays_open history text fault ≡ false → Enough n (lost_past history text fault).history (drop (restart text last) text)
     lost is = λ later there.
         let here = stops_at history text fault has in
         let order = here.order in
-        let bounds = restart_bounds text fault here.inside in
-        let some : 0 < length (drop (restart text fault) text) = some_rest (drop (restart text fault) text) later there in
-        let past = restart_past text fault in
-        omega (arith, order, bounds.0, bounds.1, some, past, less, length-drop (restart text fault) text)
+        let ends = whole_ends (read_len history text) text fault order here.inside in
+        let bounds = restart_bounds text last ends.1 in
+        let some : 0 < length (drop (restart text last) text) = some_rest (drop (restart text last) text) later there in
+        let begins = (whole_same (read_len history text) text fault).0 in
+        let past = restart_past text last in
+        omega (arith, order, ends.0, bounds.0, bounds.1, some, begins, past, less, length-drop (restart text last) text)
       where
         some_rest : (rest : Text) (later : Spanned Fault) → (outcome_after (lost_past history text fault).history rest).fault ≡ Some later → 0 < length rest
         some_rest [] later there = absurd (none_at_end (history_after history text).widths later there)

@@ -1,24 +1,25 @@
 -- What is found in a closed text and one after it.
-use Rattle.std.proofs.Common.{◌≡◌, ℕ, zero, suc, ◌+◌, ◌≤◌, ◌<◌, Bool, true, false, List, [], ◌∷◌, ◌++◌, map, length, drop, refl, ap, ◌∙◌, sym, Option, Some, None, arith, append_assoc, append-nil}
-use Rattle.std.specs.Prelude.{◌&&◌, ◌==◌, option_map}
+use Rattle.std.proofs.Common.{◌≡◌, ℕ, zero, suc, ◌+◌, ◌≤◌, ◌<◌, Bool, true, false, List, [], ◌∷◌, ◌++◌, map, length, drop, refl, ap, ◌∙◌, sym, subst, Option, Some, None, arith, append_assoc, append-nil}
+use Rattle.std.specs.Prelude.{◌&&◌, ◌||◌, ◌==◌, option_map}
 use Rattle.std.proofs.lemmas.Bool.Decides.{nat_tests}
 use Rattle.std.proofs.lemmas.List.{drop-append-le, length-drop, map-append}
 use Rattle.std.proofs.Math.Seq.{drop-append-add}
-use Rattle.starlark_grammar.specs.AfterFaults.{is_tab}
+use Rattle.starlark_grammar.specs.AfterFaults.{is_tab, restart}
 use Rattle.starlark_grammar.specs.ClosedTexts.{Cut, Empty, IsClosedAfter, Past, parted}
 use Rattle.starlark_grammar.specs.Found.{at_line, Given, Item, Passed, Refused, found, found_after, found_by, found_within, given, lexemes_in, moved_item, passed}
 use Rattle.starlark_grammar.specs.FoundLaws.{FoundJoins}
 use Rattle.starlark_grammar.specs.Joining.{begins_plainly, has_newline, is_decided, recovered_joined, without_last_newline}
-use Rattle.starlark_grammar.specs.KeptLines.{ends_by_comment, is_comment_to, keeps_line}
-use Rattle.starlark_grammar.specs.Reading.{History, history_after, nothing, outcome_after}
+use Rattle.starlark_grammar.specs.KeptLines.{closes_literal, ends_by_comment, is_comment_to, keeps_line, passed_end, stays_open, with_literal, with_literal_at}
+use Rattle.starlark_grammar.specs.Reading.{History, history_after, nothing, outcome_after, read_len}
 use Rattle.starlark_grammar.specs.Recovery.{Recovered}
 use Rattle.starlark_grammar.specs.Tokens.{Fault, Lexeme, Outcome, Spanned, moved}
 use Rattle.starlark_grammar.specs.Words.{Text}
 use Rattle.starlark_grammar.proofs.Found.CommentEnds.{no_comment_after}
-use Rattle.starlark_grammar.proofs.Found.FoundItems.{by_keeps, faultless_found, found_after_faults, keeps, passed_bounds, passed_kept, passed_lost}
+use Rattle.starlark_grammar.proofs.Found.FoundItems.{by_keeps, faultless_found, found_after_faults, passed_bounds, passed_kept, passed_lost}
 use Rattle.starlark_grammar.proofs.Found.PassedFaults.{end_moved, has_both, keeps_moved, passed_stays, same_outcome}
 use Rattle.starlark_grammar.proofs.Joining.Joined.{moved_both, twice}
-use Rattle.starlark_grammar.proofs.Recovery.LineCuts.{AfterCut, Alike, AtLine, BeforeLine, before_faultless, alike_before, alike_after, alike_joined, alike_line, alike_other, alike_outcome, cut_joins, has_newline_later, has_newline_moved, left_out_later, left_out_moved, outcome_newline}
+use Rattle.starlark_grammar.proofs.KeptLines.LiteralRests.{whole_moved, whole_same}
+use Rattle.starlark_grammar.proofs.Recovery.LineCuts.{AfterCut, Alike, AtLine, BeforeLine, before_faultless, alike_before, alike_after, alike_joined, alike_line, alike_other, alike_outcome, alike_read, cut_joins, has_newline_later, has_newline_moved, joined_read, left_out_later, left_out_moved, outcome_newline}
 use Rattle.starlark_grammar.proofs.Recovery.MovedRestarts.{plain_tab, restart_moved}
 
 -- Items
@@ -111,15 +112,22 @@ comments_after n at front (lexeme ∷ lexemes) none = ends_later (n + at) front 
 
 -- Histories after which the same is found
 
+pub whole_alike : (one other : History) (text : Text) (fault : Spanned Fault) → Alike one other → with_literal one text fault ≡ with_literal other text fault
+whole_alike one other text fault alike = ap (λ n. with_literal_at n text fault) (alike_read one other text alike)
+
 pub passed_alike : (one other : History) (text : Text) (fault : Spanned Fault) → Alike one other → ((passed one text fault).len ≡ (passed other text fault).len) × Alike (passed one text fault).history (passed other text fault).history
 passed_alike one other text fault alike = by_keeps other text fault
-    (λ is. rw (passed_kept one text fault (keeps_alike ∙ is), passed_kept other text fault is) (refl, alike_other (history_after one text) (history_after other text) (alike_after one other text alike)))
-    (λ is. rw (passed_lost one text fault (keeps_alike ∙ is), passed_lost other text fault is) (refl, alike_line (history_after one text) (history_after other text) (alike_after one other text alike)))
+    (λ is. rw (passed_kept one text fault (keeps_alike ∙ is), passed_kept other text fault is) (ap (passed_end text) literal, alike_other (history_after one text) (history_after other text) (alike_after one other text alike)))
+    (λ is. rw (passed_lost one text fault (keeps_alike ∙ is), passed_lost other text fault is) (ap (restart text) literal, alike_line (history_after one text) (history_after other text) (alike_after one other text alike)))
   where
-    keeps_alike : keeps one text fault ≡ keeps other text fault
+    literal : with_literal one text fault ≡ with_literal other text fault
+    literal = whole_alike one other text fault alike
+
+    keeps_alike : stays_open one text fault ≡ stays_open other text fault
     keeps_alike =
-        ap (λ (o : Outcome). keeps_line one.before text o.lexemes fault) (alike_outcome one other text alike)
-        ∙ ap (λ before. keeps_line before text (outcome_after other text).lexemes fault) (alike_before one other alike)
+        ap (λ (o : Outcome). keeps_line one.before text o.lexemes fault || closes_literal (read_len one text) text fault) (alike_outcome one other text alike)
+        ∙ ap (λ before. keeps_line before text (outcome_after other text).lexemes fault || closes_literal (read_len one text) text fault) (alike_before one other alike)
+        ∙ ap (λ n. keeps_line other.before text (outcome_after other text).lexemes fault || closes_literal n text fault) (alike_read one other text alike)
 
 -- the same is found after alike histories
 alike_within : (n : ℕ) (one other : History) (text : Text) → Alike one other → found_within n one text ≡ found_within n other text
@@ -168,27 +176,47 @@ module _ (history : History) (first second : Text) (line : BeforeLine history fi
   given_both : given (outcome_after history both).lexemes ≡ given own ++ map (moved_item n) (given (outcome_after nothing second).lexemes)
   given_both = ap given lexemes_are ∙ given_append own (map (moved n) (outcome_after nothing second).lexemes) ∙ ap (λ items. given own ++ items) (given_moved n (outcome_after nothing second).lexemes)
 
+  -- a fault of the second text with all of its literal
+  literal_moved : (fault : Spanned Fault) → (with_literal history both (moved n fault) ≡ moved n (with_literal nothing second fault)) × (closes_literal (read_len history both) both (moved n fault) ≡ closes_literal (read_len nothing second) second fault)
+  literal_moved fault = subst (λ m. (with_literal_at m both (moved n fault) ≡ moved n (with_literal nothing second fault)) × (closes_literal m both (moved n fault) ≡ closes_literal (read_len nothing second) second fault)) (sym (joined_read history first second line plain)) (whole_moved (read_len nothing second) first second fault)
+
+  pub whole_joined : (fault : Spanned Fault) → with_literal history both (moved n fault) ≡ moved n (with_literal nothing second fault)
+  whole_joined fault = (literal_moved fault).0
+
   -- what is passed with a fault of the second text
   pub passed_moved : (fault : Spanned Fault) → (outcome_after nothing second).fault ≡ Some fault
       → ((passed history both (moved n fault)).len ≡ n + (passed nothing second fault).len) × Alike (passed history both (moved n fault)).history (passed nothing second fault).history
   passed_moved fault has = by_keeps nothing second fault
       (λ is. rw (passed_kept history both (moved n fault) (keeps_as ∙ is), passed_kept nothing second fault is) (
-        end_moved history.before first second fault later,
+        ap (passed_end both) (whole_joined fault) ∙ end_moved first second last,
         alike_other (history_after history both) (history_after nothing second) alike,
       ))
-      (λ is. rw (passed_lost history both (moved n fault) (keeps_as ∙ is), passed_lost nothing second fault is) (restart_moved first second fault later, alike_line (history_after history both) (history_after nothing second) alike))
+      (λ is. rw (passed_lost history both (moved n fault) (keeps_as ∙ is), passed_lost nothing second fault is) (
+        ap (restart both) (whole_joined fault) ∙ restart_moved first second last last_later,
+        alike_line (history_after history both) (history_after nothing second) alike,
+      ))
     where
+      last : Spanned Fault
+      last = with_literal nothing second fault
+
       alike : Alike (history_after history both) (history_after nothing second)
       alike = alike_joined history first second line plain
 
       later : is_tab fault.node ≡ true → 0 < fault.begin
       later = plain_tab second fault plain has
 
-      keeps_as : keeps history both (moved n fault) ≡ keeps nothing second fault
+      last_later : is_tab last.node ≡ true → 0 < last.begin
+      last_later tab =
+          let same = whole_same (read_len nothing second) second fault in
+          let own = later (sym (ap is_tab same.1) ∙ tab) in
+          omega (arith, own, same.0)
+
+      keeps_as : stays_open history both (moved n fault) ≡ stays_open nothing second fault
       keeps_as =
-          keeps_moved history.before first second fault later (outcome_after history both).lexemes (outcome_after nothing second).lexemes
+          ap (λ keeps. keeps || closes_literal (read_len history both) both (moved n fault)) (keeps_moved history.before first second fault later (outcome_after history both).lexemes (outcome_after nothing second).lexemes
           (ap (ends_by_comment (n + fault.begin)) lexemes_are
-          ∙ comments_after n fault.begin own (outcome_after nothing second).lexemes (no_comment_after history first fault.begin line))
+          ∙ comments_after n fault.begin own (outcome_after nothing second).lexemes (no_comment_after history first fault.begin line)))
+          ∙ ap (λ closes. keeps_line nothing.before second (outcome_after nothing second).lexemes fault || closes) (literal_moved fault).1
 
   -- what is found in both
   pub cut_found : found_after history both ≡ given own ++ map (moved_item n) (found_after nothing second)
@@ -238,7 +266,7 @@ module _ (second : Text) (plain : begins_plainly second ≡ true) where
       alone : parted (found_after history first) ≡ record { lexemes = (outcome_after history first).lexemes; faults = [] }
       alone = ap parted (faultless_found history first none) ∙ parted_given (outcome_after history first).lexemes
 
-  past_joined : (history : History) (first : Text) (fault : Spanned Fault) → (outcome_after history first).fault ≡ Some fault → is_decided first fault ≡ true
+  past_joined : (history : History) (first : Text) (fault : Spanned Fault) → (outcome_after history first).fault ≡ Some fault → is_decided first (with_literal history first fault) ≡ true
       → Joined (passed history first fault).history (drop (passed history first fault).len first) second → Joined history first second
   unfolding with_fault moved_recovered
   past_joined history first fault has is after = record {

@@ -1,20 +1,23 @@
 -- All that is found in a text lies in it, in order.
-use Rattle.std.proofs.Common.{◌≡◌, ℕ, zero, suc, ◌+◌, ◌≤◌, true, false, List, [], ◌∷◌, ◌++◌, map, length, drop, refl, ap, sym, subst, ◌∙◌, arith, Option, None, Some}
+use Rattle.std.proofs.Common.{◌≡◌, ℕ, zero, suc, ◌+◌, ◌≤◌, Bool, true, false, List, [], ◌∷◌, ◌++◌, map, length, drop, refl, ap, sym, subst, ◌∙◌, arith, Option, None, Some}
 use Rattle.std.proofs.lemmas.List.{length-drop}
 use Rattle.starlark_grammar.specs.Found.{Given, Item, Passed, Refused, faults_in, found, found_after, found_by, found_within, given, lexemes_in, moved_item, passed}
 use Rattle.starlark_grammar.specs.FoundLaws.{FoundFaultsInOrder, FoundLexemesInOrder}
-use Rattle.starlark_grammar.specs.KeptLines.{passed_end}
+use Rattle.starlark_grammar.specs.AfterFaults.{restart}
+use Rattle.starlark_grammar.specs.KeptLines.{is_bad_escape, passed_end, stays_open, with_literal}
 use Rattle.starlark_grammar.specs.Pieces.{Before, Gap, Layout, Nothing, Other, Piece}
-use Rattle.starlark_grammar.specs.Reading.{History, after_all, lexemes_along, lexemes_before, nothing, outcome_after, pieces_len}
+use Rattle.starlark_grammar.specs.Reading.{History, after_all, lexemes_along, lexemes_before, nothing, outcome_after, pieces_len, read_len}
 use Rattle.starlark_grammar.specs.RecoveryLaws.{AreInOrder}
 use Rattle.starlark_grammar.specs.Tokens.{Fault, Lexeme, Outcome, Spanned, moved}
 use Rattle.starlark_grammar.specs.Words.{Text}
-use Rattle.starlark_grammar.proofs.Found.FoundItems.{by_keeps, keeps, passed_bounds, passed_kept, passed_lost}
-use Rattle.starlark_grammar.proofs.KeptLines.KeptFaultPlaces.{Place, kept_faults_have_bytes, place}
+use Rattle.starlark_grammar.proofs.Found.FoundItems.{by_keeps, passed_bounds, passed_kept, passed_lost}
+use Rattle.starlark_grammar.proofs.KeptLines.KeptFaultPlaces.{escape_begun, kept_faults_have_bytes, open_place}
+use Rattle.starlark_grammar.proofs.KeptLines.LiteralRests.{whole_ends, whole_other}
 use Rattle.starlark_grammar.proofs.Order.OrderedLexemes.{after_order, some_lexemes_before}
 use Rattle.starlark_grammar.proofs.Reading.Onward.{StopsAt, stops_at}
 use Rattle.starlark_grammar.proofs.Reading.Steps.{is_nothing}
 use Rattle.starlark_grammar.proofs.Recovery.EarlierLexemes.{EndBy, along_ends, end_later, lexemes_before_restart}
+use Rattle.starlark_grammar.proofs.Recovery.RestartBounds.{restart_bounds}
 use Rattle.starlark_grammar.proofs.Recovery.Order.{order_append, order_later, order_sooner, whole_order}
 
 -- Lexemes and faults of items
@@ -63,35 +66,46 @@ whole_lexemes history text =
 
 -- What is passed with a fault
 
--- the lexemes before the fault end in it
+-- the lexemes before a fault after the first margin end before it does
+ends_sooner : (history : History) (text : Text) (fault : Spanned Fault) (here : StopsAt history text fault) → is_nothing (after_all history here.pieces).before ≡ false → (at : ℕ) → fault.begin ≤ at → EndBy at (outcome_after history text).lexemes
+ends_sooner history text fault here begun at later = subst (λ (o : Outcome). EndBy at o.lexemes) (sym here.is) (by here.pieces refl)
+  where
+    by : (pieces : List Piece) → pieces ≡ here.pieces → EndBy at (lexemes_before history.before text here.pieces)
+    by (piece ∷ pieces) e =
+        let ends = along_ends 0 history text here.pieces here.longest.reads in
+        let begin = here.begin in
+        let all : lexemes_before history.before text here.pieces ≡ lexemes_along 0 here.pieces =
+        ap (lexemes_before history.before text) (sym e) ∙ some_lexemes_before history.before text piece pieces ∙ ap (lexemes_along 0) e in
+        subst (EndBy at) (sym all) (end_later (0 + pieces_len here.pieces) at (lexemes_along 0 here.pieces) (omega (arith, begin, later)) ends)
+    by [] e = subst (λ (ps : List Piece). EndBy at (lexemes_before history.before text ps)) e (none history.before refl)
+      where
+        none : (before : Before) → history.before ≡ before → EndBy at (lexemes_before before text [])
+        none Nothing f =
+            let some : is_nothing history.before ≡ false = subst (λ (ps : List Piece). is_nothing (after_all history ps).before ≡ false) (sym e) begun in
+            let both : true ≡ false = sym (ap is_nothing f) ∙ some in cc
+        none Layout f = tt
+        none Gap f = tt
+        none Other f = tt
+
+-- and those before any fault end in what is passed with it
 pub ends_before_rest : (history : History) (text : Text) (fault : Spanned Fault) → (outcome_after history text).fault ≡ Some fault → EndBy (passed history text fault).len (outcome_after history text).lexemes
 ends_before_rest history text fault has = by_keeps history text fault
     (λ is. subst (λ (p : Passed). EndBy p.len (outcome_after history text).lexemes) (sym (passed_kept history text fault is)) (kept is))
-    (λ is. subst (λ (p : Passed). EndBy p.len (outcome_after history text).lexemes) (sym (passed_lost history text fault is)) (lexemes_before_restart history text fault (stops_at history text fault has)))
+    (λ is. subst (λ (p : Passed). EndBy p.len (outcome_after history text).lexemes) (sym (passed_lost history text fault is)) (lost (is_bad_escape fault.node) refl (stops_at history text fault has)))
   where
-    kept : keeps history text fault ≡ true → EndBy (passed_end text fault) (outcome_after history text).lexemes
-    kept is = subst (λ (o : Outcome). EndBy (passed_end text fault) o.lexemes) (sym there.here.is) (by there.here.pieces refl)
-      where
-        there : Place history text fault
-        there = place history text fault (has, is)
+    kept : stays_open history text fault ≡ true → EndBy (passed_end text (with_literal history text fault)) (outcome_after history text).lexemes
+    kept is =
+        let there = open_place history text fault (has, is) in
+        let bytes = kept_faults_have_bytes history text fault (has, is) in
+        ends_sooner history text fault there.here there.begun (passed_end text (with_literal history text fault)) (omega (arith, bytes.0))
 
-        by : (pieces : List Piece) → pieces ≡ there.here.pieces → EndBy (passed_end text fault) (lexemes_before history.before text there.here.pieces)
-        by (piece ∷ pieces) e =
-            let bytes = kept_faults_have_bytes history text fault (has, is) in
-            let ends = along_ends 0 history text there.here.pieces there.here.longest.reads in
-            let begin = there.start in
-            let all : lexemes_before history.before text there.here.pieces ≡ lexemes_along 0 there.here.pieces =
-            ap (lexemes_before history.before text) (sym e) ∙ some_lexemes_before history.before text piece pieces ∙ ap (lexemes_along 0) e in
-            subst (EndBy (passed_end text fault)) (sym all) (end_later (0 + pieces_len there.here.pieces) (passed_end text fault) (lexemes_along 0 there.here.pieces) (omega (arith, bytes.0, begin)) ends)
-        by [] e = subst (λ (ps : List Piece). EndBy (passed_end text fault) (lexemes_before history.before text ps)) e (none history.before refl)
-          where
-            none : (before : Before) → history.before ≡ before → EndBy (passed_end text fault) (lexemes_before before text [])
-            none Nothing f =
-                let begun : is_nothing history.before ≡ false = subst (λ (ps : List Piece). is_nothing (after_all history ps).before ≡ false) (sym e) there.begun in
-                let both : true ≡ false = sym (ap is_nothing f) ∙ begun in cc
-            none Layout f = tt
-            none Gap f = tt
-            none Other f = tt
+    lost : (bad : Bool) → is_bad_escape fault.node ≡ bad → StopsAt history text fault → EndBy (restart text (with_literal history text fault)) (outcome_after history text).lexemes
+    lost false e here = subst (λ (last : Spanned Fault). EndBy (restart text last) (outcome_after history text).lexemes) (sym (whole_other (read_len history text) text fault e)) (lexemes_before_restart history text fault here)
+    lost true e here =
+        let order = here.order in
+        let ends = whole_ends (read_len history text) text fault order here.inside in
+        let bounds = restart_bounds text (with_literal history text fault) ends.1 in
+        ends_sooner history text fault here (escape_begun history text fault here e).0 (restart text (with_literal history text fault)) (omega (arith, order, ends.0, bounds.0))
 
 -- What is found
 

@@ -1,26 +1,28 @@
 -- What is passed with a fault of a text that another follows, or that is after another.
-use Rattle.std.proofs.Common.{◌≡◌, ℕ, ◌+◌, ◌<◌, Bool, true, false, cond, not, List, [], ◌∷◌, ◌++◌, length, drop, refl, ap, ◌∙◌, sym, Some, arith, ◌||◌}
-use Rattle.std.specs.Prelude.{◌&&◌, ◌==◌, if◌then◌else◌, nat_eq, codes}
+use Rattle.std.proofs.Common.{◌≡◌, ℕ, ◌+◌, ◌<◌, Bool, true, false, cond, not, List, [], ◌∷◌, ◌++◌, length, drop, refl, ap, ◌∙◌, sym, subst, Some, arith, ◌||◌, inl}
+use Rattle.std.specs.Prelude.{◌&&◌, ◌==◌, if◌then◌else◌, nat_eq, nat_lt, codes}
 use Rattle.std.specs.List.{prefix_len}
 use Rattle.std.specs.Str.{bytes_eq}
-use Rattle.std.proofs.lemmas.Bool.{and_parts, eqb-true}
+use Rattle.std.proofs.lemmas.Bool.{and_parts, eqb-true, lt-ltb, ltb-true}
 use Rattle.std.proofs.lemmas.List.{drop-append-le}
 use Rattle.std.proofs.Math.Seq.{drop-append-add}
 use Rattle.starlark_grammar.specs.Inner.KeptFaults.{is_in_margin}
 use Rattle.starlark_grammar.specs.AfterFaults.{is_tab, restart}
 use Rattle.starlark_grammar.specs.Found.{Passed, at_line, passed}
 use Rattle.starlark_grammar.specs.Joining.{is_decided}
-use Rattle.starlark_grammar.specs.KeptLines.{ends_by_comment, keeps_line, passed_end}
+use Rattle.starlark_grammar.specs.KeptLines.{closes_literal, ends_by_comment, is_bad_escape, keeps_line, passed_end, stays_open, with_literal, with_literal_at}
 use Rattle.starlark_grammar.specs.Margins.{begins_with_line_end}
 use Rattle.starlark_grammar.specs.Pieces.{Before, Other}
-use Rattle.starlark_grammar.specs.Reading.{History, history_after, nothing, outcome_after}
+use Rattle.starlark_grammar.specs.Reading.{History, history_after, nothing, outcome_after, read_len}
 use Rattle.starlark_grammar.specs.Tokens.{EmptyEscapeSequence, Fault, Indentation, InvalidEscapeSequence, InvalidInput, InvalidTab, Lexeme, Outcome, ReservedKeyword, Spanned, StartsZero, UnfinishedFStringExpression, UnfinishedStringLiteral, moved}
 use Rattle.starlark_grammar.specs.Words.{Text}
-use Rattle.starlark_grammar.proofs.Found.FoundItems.{by_keeps, keeps, passed_kept, passed_lost}
+use Rattle.starlark_grammar.proofs.Found.FoundItems.{by_keeps, passed_kept, passed_lost}
 use Rattle.starlark_grammar.proofs.Joining.Followed.{ends_line, ends_line_drop}
+use Rattle.starlark_grammar.proofs.KeptLines.KeptFaultPlaces.{or_none, whole_untabbed}
+use Rattle.starlark_grammar.proofs.KeptLines.LiteralRests.{whole_ends, whole_other, whole_same, whole_stays}
 use Rattle.starlark_grammar.proofs.Reading.Onward.{StopsAt, stops_at}
 use Rattle.starlark_grammar.proofs.Reading.Steps.{is_nothing}
-use Rattle.starlark_grammar.proofs.Recovery.DecidedFaults.{InMargin, begins_stays, decided, outcome_stays, restart_stays}
+use Rattle.starlark_grammar.proofs.Recovery.DecidedFaults.{InMargin, begins_stays, decided, outcome_stays, read_stays, restart_stays, restart_untabbed}
 use Rattle.starlark_grammar.proofs.Recovery.MovedRestarts.{not_zero}
 
 -- whether a fault keeps its line, by whether its tab is in a margin and whether it follows a comment
@@ -53,8 +55,9 @@ lost_margin true comment InvalidTab lost tab = refl
 lost_margin false comment InvalidTab lost tab = cc
 lost_margin margin comment other lost tab = cc
 
-pub lost_in_margin : (history : History) (text : Text) (fault : Spanned Fault) → keeps history text fault ≡ false → InMargin history text fault
-lost_in_margin history text fault lost = λ tab.
+pub lost_in_margin : (history : History) (text : Text) (fault : Spanned Fault) → stays_open history text fault ≡ false → InMargin history text fault
+lost_in_margin history text fault none = λ tab.
+    let lost = (or_none (keeps_line history.before text (outcome_after history text).lexemes fault) _ none).0 in
     lost_margin (is_in_margin history.before text fault.begin) (ends_by_comment fault.begin (outcome_after history text).lexemes) fault.node
     (sym (keeps_is history.before text (outcome_after history text).lexemes fault) ∙ lost) (and_parts (is_tab fault.node) _ tab).0
 
@@ -69,37 +72,82 @@ tabs_stay (b ∷ c ∷ bs) more h = go (nat_eq 9 b) (tabs_stay (c ∷ bs) more h
     go true e = ap (λ n. 1 + n) e
     go false e = refl
 
-module _ (history : History) (first second : Text) (fault : Spanned Fault) (has : (outcome_after history first).fault ≡ Some fault) (is : is_decided first fault ≡ true) where
+-- what is decided with all of its literal is decided
+pub own_decided : (history : History) (text : Text) (fault : Spanned Fault) → StopsAt history text fault → is_decided text (with_literal history text fault) ≡ true → is_decided text fault ≡ true
+unfolding is_decided
+own_decided history text fault here is =
+    let parts = and_parts (nat_lt (with_literal history text fault).end (length text)) _ is in
+    let ends = whole_ends (read_len history text) text fault here.order here.inside in
+    let less : nat_lt fault.end (length text) ≡ true = lt-ltb fault.end (length text) (omega (arith, ends.0, ltb-true (with_literal history text fault).end (length text) parts.0)) in
+    rw less parts.1
+
+module _ (history : History) (first second : Text) (fault : Spanned Fault) (has : (outcome_after history first).fault ≡ Some fault) (is : is_decided first (with_literal history first fault) ≡ true) where
   here : StopsAt history first fault
   here = stops_at history first fault has
 
+  own : is_decided first fault ≡ true
+  own = own_decided history first fault here is
+
   begins_inside : fault.begin < length first
-  begins_inside = let less = (decided first fault is).0 in let order = here.order in omega (arith, less, order)
+  begins_inside = let less = (decided first fault own).0 in let order = here.order in omega (arith, less, order)
 
   ends : ends_line (drop fault.begin first) ≡ true
-  ends = ends_line_drop fault.begin first begins_inside (decided first fault is).1
+  ends = ends_line_drop fault.begin first begins_inside (decided first fault own).1
 
   left : drop fault.begin (first ++ second) ≡ drop fault.begin first ++ second
   left = drop-append-le fault.begin first second (omega (arith, begins_inside))
 
   pub same_outcome : (outcome_after history (first ++ second) ≡ outcome_after history first) × (history_after history (first ++ second) ≡ history_after history first)
-  same_outcome = let parts = decided first fault is in outcome_stays history first second fault parts.1 here parts.0
+  same_outcome = let parts = decided first fault own in outcome_stays history first second fault parts.1 here parts.0
 
   pub has_both : (outcome_after history (first ++ second)).fault ≡ Some fault
   has_both = ap (λ (o : Outcome). o.fault) same_outcome.0 ∙ has
 
+  same_len : read_len history (first ++ second) ≡ read_len history first
+  same_len = let parts = decided first fault own in read_stays history first second fault parts.1 here parts.0
+
+  literal_both : (with_literal_at (read_len history first) (first ++ second) fault ≡ with_literal history first fault) × (closes_literal (read_len history first) (first ++ second) fault ≡ closes_literal (read_len history first) first fault)
+  literal_both = let parts = decided first (with_literal history first fault) is in whole_stays (read_len history first) first second fault parts.1 begins_inside (inl parts.0)
+
+  pub whole_both : with_literal history (first ++ second) fault ≡ with_literal history first fault
+  whole_both = ap (λ n. with_literal_at n (first ++ second) fault) same_len ∙ literal_both.0
+
   margin_stays : is_in_margin history.before (first ++ second) fault.begin ≡ is_in_margin history.before first fault.begin
   margin_stays = ap (λ begins. is_nothing history.before && fault.begin == 0 || begins) (ap begins_with_line_end left ∙ begins_stays (drop fault.begin first) second ends)
 
-  keeps_both : keeps history (first ++ second) fault ≡ keeps history first fault
-  keeps_both =
+  line_both : keeps_line history.before (first ++ second) (outcome_after history (first ++ second)).lexemes fault ≡ keeps_line history.before first (outcome_after history first).lexemes fault
+  line_both =
       keeps_is history.before (first ++ second) (outcome_after history (first ++ second)).lexemes fault
       ∙ ap (λ margin. keeps_by margin (ends_by_comment fault.begin (outcome_after history (first ++ second)).lexemes) fault.node) margin_stays
       ∙ ap (λ (o : Outcome). keeps_by (is_in_margin history.before first fault.begin) (ends_by_comment fault.begin o.lexemes) fault.node) same_outcome.0
       ∙ sym (keeps_is history.before first (outcome_after history first).lexemes fault)
 
-  end_stays : passed_end (first ++ second) fault ≡ passed_end first fault
-  end_stays = ap (λ n. if is_tab fault.node then fault.begin + n else fault.end) (ap (prefix_len (nat_eq 9)) left ∙ tabs_stay (drop fault.begin first) second ends)
+  keeps_both : stays_open history (first ++ second) fault ≡ stays_open history first fault
+  keeps_both =
+      ap (λ keeps. keeps || closes_literal (read_len history (first ++ second)) (first ++ second) fault) line_both
+      ∙ ap (λ n. keeps_line history.before first (outcome_after history first).lexemes fault || closes_literal n (first ++ second) fault) same_len
+      ∙ ap (λ closes. keeps_line history.before first (outcome_after history first).lexemes fault || closes) literal_both.1
+
+  begins_so : (with_literal history first fault).begin ≡ fault.begin
+  begins_so = (whole_same (read_len history first) first fault).0
+
+  tabs_both : prefix_len (nat_eq 9) (drop (with_literal history first fault).begin (first ++ second)) ≡ prefix_len (nat_eq 9) (drop (with_literal history first fault).begin first)
+  tabs_both = subst (λ n. prefix_len (nat_eq 9) (drop n (first ++ second)) ≡ prefix_len (nat_eq 9) (drop n first)) (sym begins_so) (ap (prefix_len (nat_eq 9)) left ∙ tabs_stay (drop fault.begin first) second ends)
+
+  end_stays : passed_end (first ++ second) (with_literal history (first ++ second) fault) ≡ passed_end first (with_literal history first fault)
+  end_stays =
+      ap (passed_end (first ++ second)) whole_both
+      ∙ ap (λ n. if is_tab (with_literal history first fault).node then (with_literal history first fault).begin + n else (with_literal history first fault).end) tabs_both
+
+  lost_stays : stays_open history first fault ≡ false → restart (first ++ second) (with_literal history (first ++ second) fault) ≡ restart first (with_literal history first fault)
+  lost_stays it = ap (restart (first ++ second)) whole_both ∙ by (is_bad_escape fault.node) refl
+    where
+      by : (bad : Bool) → is_bad_escape fault.node ≡ bad → restart (first ++ second) (with_literal history first fault) ≡ restart first (with_literal history first fault)
+      by true e =
+          let order = here.order in
+          let reach = (whole_ends (read_len history first) first fault order here.inside).0 in
+          restart_untabbed first second (with_literal history first fault) (whole_untabbed (read_len history first) first fault e) (omega (arith, order, reach, begins_so)) is
+      by false e = subst (λ (last : Spanned Fault). restart (first ++ second) last ≡ restart first last) (sym (whole_other (read_len history first) first fault e)) (restart_stays history first second fault (lost_in_margin history first fault it) here own)
 
   -- the same is passed where another text follows
   pub passed_stays : passed history (first ++ second) fault ≡ passed history first fault
@@ -107,12 +155,12 @@ module _ (history : History) (first second : Text) (fault : Spanned Fault) (has 
       (λ it.
       passed_kept history (first ++ second) fault (keeps_both ∙ it)
       ∙ ap (λ n. let p : Passed = record { len = n; history = record (history_after history (first ++ second)) { before = Other } } in p) end_stays
-      ∙ ap (λ (h : History). let p : Passed = record { len = passed_end first fault; history = record h { before = Other } } in p) same_outcome.1
+      ∙ ap (λ (h : History). let p : Passed = record { len = passed_end first (with_literal history first fault); history = record h { before = Other } } in p) same_outcome.1
       ∙ sym (passed_kept history first fault it))
       (λ it.
       passed_lost history (first ++ second) fault (keeps_both ∙ it)
-      ∙ ap (λ n. let p : Passed = record { len = n; history = at_line (history_after history (first ++ second)).widths } in p) (restart_stays history first second fault (lost_in_margin history first fault it) here is)
-      ∙ ap (λ (h : History). let p : Passed = record { len = restart first fault; history = at_line h.widths } in p) same_outcome.1
+      ∙ ap (λ n. let p : Passed = record { len = n; history = at_line (history_after history (first ++ second)).widths } in p) (lost_stays it)
+      ∙ ap (λ (h : History). let p : Passed = record { len = restart first (with_literal history first fault); history = at_line h.widths } in p) same_outcome.1
       ∙ sym (passed_lost history first fault it))
 
 -- A text that is after another
@@ -147,11 +195,11 @@ module _ (before : Before) (first second : Text) (fault : Spanned Fault) (later 
       by EmptyEscapeSequence h = refl
       by UnfinishedFStringExpression h = refl
 
-  pub end_moved : passed_end (first ++ second) (moved (length first) fault) ≡ length first + passed_end second fault
-  end_moved =
-      ap (λ n. if is_tab fault.node then length first + fault.begin + n else length first + fault.end) (ap (prefix_len (nat_eq 9)) (drop-append-add first second fault.begin))
-      ∙ by (is_tab fault.node)
-    where
-      by : (tab : Bool) → (if tab then length first + fault.begin + prefix_len (nat_eq 9) (drop fault.begin second) else length first + fault.end) ≡ length first + (if tab then fault.begin + prefix_len (nat_eq 9) (drop fault.begin second) else fault.end)
-      by true = omega arith
-      by false = refl
+pub end_moved : (first second : Text) (fault : Spanned Fault) → passed_end (first ++ second) (moved (length first) fault) ≡ length first + passed_end second fault
+end_moved first second fault =
+    ap (λ n. if is_tab fault.node then length first + fault.begin + n else length first + fault.end) (ap (prefix_len (nat_eq 9)) (drop-append-add first second fault.begin))
+    ∙ by (is_tab fault.node)
+  where
+    by : (tab : Bool) → (if tab then length first + fault.begin + prefix_len (nat_eq 9) (drop fault.begin second) else length first + fault.end) ≡ length first + (if tab then fault.begin + prefix_len (nat_eq 9) (drop fault.begin second) else fault.end)
+    by true = omega arith
+    by false = refl

@@ -12,6 +12,7 @@ use Rattle.starlark_grammar.specs.FrontCharacter.{first_character}
 use Rattle.starlark_grammar.specs.Front.{longest_front}
 use Rattle.starlark_grammar.specs.AfterFaults.{is_tab}
 use Rattle.starlark_grammar.specs.Inner.KeptFaults.{may_keep}
+use Rattle.starlark_grammar.specs.KeptLines.{is_bad_escape}
 use Rattle.starlark_grammar.specs.Tokens.{Fault, Indentation, InvalidInput, InvalidTab, ReservedKeyword, StartsZero, UnfinishedFStringExpression, UnfinishedStringLiteral, FStringBang, Int, Newline, Lexeme, Opening, Spanned}
 use Rattle.starlark_grammar.specs.Items.{Stop, Closing, OpeningBrace, BadEscape, Body, body_at}
 use Rattle.starlark_grammar.specs.Depths.{Mode, Outside, InText, AtTop, Deeper, mode_after}
@@ -252,6 +253,67 @@ code_fault history text fault some e keeps no_margin = before history.before som
     before Layout some e = at (mode_after history.tokens) refl e
     before Gap some e = at (mode_after history.tokens) refl e
     before Other some e = at (mode_after history.tokens) refl e
+
+-- Bad escapes
+
+-- whether a step is one in a literal of text or bytes
+abbrev pub step_escapes : Step → Bool
+step_escapes (Fails fault) = is_bad_escape fault.node
+step_escapes step = false
+
+pub chunk_escapes_none : (opening : Opening) (text : Text) (body : Body) (stop : Stop) → step_escapes (chunk_by opening text body stop) ≡ false
+chunk_escapes_none opening text body OpeningBrace = refl
+chunk_escapes_none opening text body stop = refl
+
+-- no unfinished literal is one
+pub unfinished_good : (mode : Mode) (kind : Kind) (opening : Opening) (remainder : Text) → is_bad_escape (unfinished mode kind opening remainder) ≡ false
+unfinished_good mode kind opening remainder = by mode kind
+  where
+    either : (test : Bool) → is_bad_escape (if test then UnfinishedFStringExpression else UnfinishedStringLiteral) ≡ false
+    either true = refl
+    either false = refl
+
+    by : (mode : Mode) (kind : Kind) → is_bad_escape (unfinished mode kind opening remainder) ≡ false
+    by Outside kind = refl
+    by (InText other) OfText = either (is_plain opening remainder)
+    by (InText other) OfBytes = refl
+    by (InText other) OfFString = refl
+    by AtTop OfText = either (is_plain opening remainder)
+    by AtTop OfBytes = refl
+    by AtTop OfFString = refl
+    by Deeper OfText = either (is_plain opening remainder)
+    by Deeper OfBytes = refl
+    by Deeper OfFString = refl
+
+margin_escapes_none : (len : ℕ) (lexemes : List Lexeme) (levels : List ℕ) (margin : Margin) → step_escapes (margin_step len lexemes levels margin) ≡ false
+unfolding margin_step
+margin_escapes_none len lexemes levels margin = go (not (is_content margin.remainder)) (has_tab margin) (fits (width_of margin) levels) _ _ (len + margin_len margin)
+  where
+    go : (blank tab fitting : Bool) (first last : Piece) (end : ℕ) → step_escapes (if blank then Stands first else (if tab then fault 0 InvalidTab 0 else (if fitting then Stands last else fault 0 Indentation end))) ≡ false
+    go true tab fitting first last end = refl
+    go false true fitting first last end = refl
+    go false false true first last end = refl
+    go false false false first last end = refl
+
+-- Such a fault is in code, after the first margin.
+pub escape_place : (history : History) (text : Text) (fault : Spanned Fault) → next_step language history text ≡ Fails fault → is_bad_escape fault.node ≡ true → (is_nothing history.before ≡ false) × (is_in_text (mode_after history.tokens) ≡ false)
+unfolding next_step situation step_at chunk
+escape_place history text fault e bad = before history.before refl e
+  where
+    never : (step : Step) → step_escapes step ≡ false → step ≡ Fails fault → {A : Type 0} → A
+    never step none e = let some : step_escapes step ≡ true = ap step_escapes e ∙ bad in cc
+
+    at : (mode : Mode) → is_in_text (mode_after history.tokens) ≡ is_in_text mode → by_mode language (situation history) mode text ≡ Fails fault → is_in_text (mode_after history.tokens) ≡ false
+    at (InText opening) same e = never _ (chunk_escapes_none opening text (body_at (record { kind = OfFString; opening = opening }) text) _) e
+    at Outside same e = same
+    at AtTop same e = same
+    at Deeper same e = same
+
+    before : (before : Before) → is_nothing history.before ≡ is_nothing before → by_before language (situation history) before text ≡ Fails fault → (is_nothing history.before ≡ false) × (is_in_text (mode_after history.tokens) ≡ false)
+    before Nothing same e = never _ (margin_escapes_none 0 [] (situation history).levels (margin_of text)) e
+    before Layout same e = (same, at (mode_after history.tokens) refl e)
+    before Gap same e = (same, at (mode_after history.tokens) refl e)
+    before Other same e = (same, at (mode_after history.tokens) refl e)
 
 -- A fault of the first margin is at the text's start, and may keep its line only if it is that of a tab.
 pub first_fault : (history : History) (text : Text) (fault : Spanned Fault) → is_nothing history.before ≡ true → next_step language history text ≡ Fails fault → (fault.begin ≡ 0) × (may_keep fault.node ≡ true → is_tab fault.node ≡ true)

@@ -1,5 +1,5 @@
 -- Faults that keep their lines: where they are, and what is after them.
-use Rattle.std.proofs.Common.{◌≡◌, ℕ, ◌+◌, ◌-◌, ◌≤◌, ◌<◌, Bool, true, false, not, List, [], ◌∷◌, length, drop, refl, ap, ◌∙◌, sym, subst, arith, ◌||◌}
+use Rattle.std.proofs.Common.{◌≡◌, ℕ, ◌+◌, ◌-◌, ◌≤◌, ◌<◌, Bool, true, false, not, List, [], ◌∷◌, length, drop, refl, ap, ◌∙◌, sym, subst, arith, Some, ◌||◌}
 use Rattle.std.specs.Prelude.{◌&&◌, ◌==◌, if◌then◌else◌, nat_eq, codes}
 use Rattle.std.specs.List.{prefix_len}
 use Rattle.std.specs.Str.{bytes_eq}
@@ -9,14 +9,16 @@ use Rattle.std.proofs.lemmas.List.Sums.{prefix_len-le-length}
 use Rattle.starlark_grammar.specs.AfterFaults.{is_tab}
 use Rattle.starlark_grammar.specs.Inner.KeptFaults.{is_in_margin, may_keep}
 use Rattle.starlark_grammar.specs.KeptLineLaws.{KeepsLine, KeptFaultsHaveBytes, WordsKeepLines}
-use Rattle.starlark_grammar.specs.KeptLines.{ends_by_comment, keeps_line, passed_end}
+use Rattle.starlark_grammar.specs.KeptLines.{closes_literal, ends_by_comment, is_bad_escape, keeps_line, passed_end, stays_open, with_literal, with_literal_at}
 use Rattle.starlark_grammar.specs.Margins.{begins_with_line_end}
 use Rattle.starlark_grammar.specs.Longest.{IsReading}
 use Rattle.starlark_grammar.specs.Pieces.{Before, Fails, Piece}
-use Rattle.starlark_grammar.specs.Reading.{History, after, after_all, next_step, outcome_after, pieces_len}
+use Rattle.starlark_grammar.specs.Reading.{History, after, after_all, next_step, outcome_after, pieces_len, read_len}
 use Rattle.starlark_grammar.specs.Tokens.{EmptyEscapeSequence, Fault, Indentation, InvalidEscapeSequence, InvalidInput, InvalidTab, Lexeme, ReservedKeyword, Spanned, StartsZero, UnfinishedFStringExpression, UnfinishedStringLiteral}
+use Rattle.starlark_grammar.specs.Depths.{mode_after}
 use Rattle.starlark_grammar.specs.Words.{Text, language}
-use Rattle.starlark_grammar.proofs.KeptLines.Faults.{CodeFault, code_fault, first_fault}
+use Rattle.starlark_grammar.proofs.KeptLines.Faults.{CodeFault, code_fault, escape_place, first_fault, is_in_text}
+use Rattle.starlark_grammar.proofs.KeptLines.LiteralRests.{closed_later, whole_ends, whole_other, whole_same}
 use Rattle.starlark_grammar.proofs.Reading.Onward.{StopsAt, later_some, stops_at}
 use Rattle.starlark_grammar.proofs.Reading.Readings.{piece_fits, started}
 use Rattle.starlark_grammar.proofs.Reading.Steps.{is_nothing}
@@ -47,22 +49,35 @@ kept before text lexemes fault h = go fault.begin fault.node fault.end h
     go from EmptyEscapeSequence end h = cc
     go from UnfinishedFStringExpression end h = cc
 
+-- such a fault is no bad escape
+pub kept_other : (before : Before) (text : Text) (lexemes : List Lexeme) (fault : Spanned Fault) → keeps_line before text lexemes fault ≡ true → is_bad_escape fault.node ≡ false
+unfolding keeps_line
+kept_other before text lexemes fault h = go fault.node h
+  where
+    go : (node : Fault) → keeps_line before text lexemes (record { begin = fault.begin; node = node; end = fault.end }) ≡ true → is_bad_escape node ≡ false
+    go (InvalidEscapeSequence text) h = cc
+    go node h = refl
+
 -- faults of words keep their lines
 pub words_keep_lines : WordsKeepLines
 unfolding keeps_line
 words_keep_lines before text lexemes begin end word = (refl, refl)
 
-or_none : (one other : Bool) → (one || other) ≡ false → (one ≡ false) × (other ≡ false)
+pub or_none : (one other : Bool) → (one || other) ≡ false → (one ≡ false) × (other ≡ false)
 or_none false other h = (refl, h)
 or_none true other h = cc
 
-pub record Place (history : History) (text : Text) (fault : Spanned Fault) : Type 0 where
+-- the fault keeps its line by itself
+abbrev KeepsItself : History → Text → Spanned Fault → Type 0
+KeepsItself history text fault = ((outcome_after history text).fault ≡ Some fault) × (keeps_line history.before text (outcome_after history text).lexemes fault ≡ true)
+
+record Place (history : History) (text : Text) (fault : Spanned Fault) : Type 0 where
   pub here : StopsAt history text fault
   pub code : CodeFault (after_all history here.pieces) (drop (pieces_len here.pieces) text) here.found
   pub begun : is_nothing (after_all history here.pieces).before ≡ false
   pub start : pieces_len here.pieces ≡ fault.begin
 
-pub place : (history : History) (text : Text) (fault : Spanned Fault) → KeepsLine history text fault → Place history text fault
+place : (history : History) (text : Text) (fault : Spanned Fault) → KeepsItself history text fault → Place history text fault
 place history text fault keeps = record { here = here; code = code; begun = begun; start = omega (arith, here.begin, code.word.begins) }
   where
     here : StopsAt history text fault
@@ -108,9 +123,12 @@ place history text fault keeps = record { here = here; code = code; begun = begu
     code : CodeFault (after_all history here.pieces) (drop (pieces_len here.pieces) text) here.found
     code = code_fault (after_all history here.pieces) (drop at text) here.found begun here.longest.stands_last may (λ tab zero. (no_margin tab zero).1)
 
--- it has a byte
-pub kept_faults_have_bytes : KeptFaultsHaveBytes
-kept_faults_have_bytes history text fault keeps = go (is_tab fault.node) refl
+-- it has a byte, and ends before the bytes that are passed do
+abbrev Passes : Text → Spanned Fault → Spanned Fault → Type 0
+Passes text fault last = (fault.begin < passed_end text last) × (passed_end text last ≤ length text) × (fault.end ≤ passed_end text last) × (last.end ≤ passed_end text last)
+
+own_passes : (history : History) (text : Text) (fault : Spanned Fault) → KeepsItself history text fault → Passes text fault fault
+own_passes history text fault keeps = go (is_tab fault.node) refl
   where
     is : Place history text fault
     is = place history text fault keeps
@@ -121,10 +139,10 @@ kept_faults_have_bytes history text fault keeps = go (is_tab fault.node) refl
     ends : Bool → ℕ
     ends tab = if tab then fault.begin + prefix_len (nat_eq 9) (drop fault.begin text) else fault.end
 
-    go : (tab : Bool) → is_tab fault.node ≡ tab → (fault.begin < ends tab) × (ends tab ≤ length text)
+    go : (tab : Bool) → is_tab fault.node ≡ tab → (fault.begin < ends tab) × (ends tab ≤ length text) × (fault.end ≤ ends tab) × (fault.end ≤ ends tab)
     go false e =
         let some = is.code.word.some (node ∙ e) in
-        (omega (arith, some, is.here.end, is.start), is.here.inside)
+        (omega (arith, some, is.here.end, is.start), is.here.inside, omega arith, omega arith)
     go true e =
         let tabs : drop fault.begin text ≡ 9 ∷ is.code.rest = ap (λ n. drop n text) (sym is.start) ∙ is.code.same ∙ ap (λ c. c ∷ is.code.rest) (is.code.word.tab (node ∙ e)).0 in
         let len : prefix_len (nat_eq 9) (drop fault.begin text) ≡ 1 + prefix_len (nat_eq 9) is.code.rest = ap (prefix_len (nat_eq 9)) tabs in
@@ -132,15 +150,75 @@ kept_faults_have_bytes history text fault keeps = go (is_tab fault.node) refl
         let less : length (drop fault.begin text) ≡ length text - fault.begin = length-drop fault.begin text in
         let order = is.here.order in
         let inside = is.here.inside in
-        (omega (arith, len), omega (arith, len, most, less, order, inside))
+        let empty = (is.code.word.tab (node ∙ e)).1 in
+        let end = is.here.end in
+        let start = is.start in
+        (omega (arith, len), omega (arith, len, most, less, order, inside), omega (arith, empty, end, start), omega (arith, empty, end, start))
 
--- it ends before the bytes that are passed do
-pub kept_end : (history : History) (text : Text) (fault : Spanned Fault) → KeepsLine history text fault → fault.end ≤ passed_end text fault
-kept_end history text fault keeps = go (is_tab fault.node) refl
+-- a literal that is closed
+pub tab_other : (node : Fault) → is_tab node ≡ true → is_bad_escape node ≡ false
+tab_other InvalidTab tab = refl
+tab_other node tab = cc
+
+pub no_tab : (node : Fault) → is_bad_escape node ≡ true → is_tab node ≡ false
+no_tab InvalidTab bad = cc
+no_tab node bad = refl
+
+pub whole_untabbed : (at : ℕ) (text : Text) (fault : Spanned Fault) → is_bad_escape fault.node ≡ true → is_tab (with_literal_at at text fault).node ≡ false
+whole_untabbed at text fault bad = no_tab (with_literal_at at text fault).node (ap is_bad_escape (whole_same at text fault).1 ∙ bad)
+
+-- where a literal ends with its bad escape, it is passed
+pub passed_literal : (at : ℕ) (text : Text) (fault : Spanned Fault) → is_bad_escape fault.node ≡ true → passed_end text (with_literal_at at text fault) ≡ (with_literal_at at text fault).end
+passed_literal at text fault bad = rw (whole_untabbed at text fault bad) refl
+
+literal_passes : (history : History) (text : Text) (fault : Spanned Fault) → (outcome_after history text).fault ≡ Some fault → closes_literal (read_len history text) text fault ≡ true → Passes text fault (with_literal history text fault)
+literal_passes history text fault has closes =
+    let here = stops_at history text fault has in
+    let order = here.order in
+    let inside = here.inside in
+    let at = read_len history text in
+    let ends = whole_ends at text fault order inside in
+    let bad = (and_parts (is_bad_escape fault.node) _ closes).0 in
+    let last = passed_literal at text fault bad in
+    (omega (arith, closed_later at text fault closes, last), omega (arith, ends.1, last), omega (arith, ends.0, last), omega (arith, last))
+
+-- by what all stays open
+pub by_open : {A : Type 0} (history : History) (text : Text) (fault : Spanned Fault) → stays_open history text fault ≡ true → (keeps_line history.before text (outcome_after history text).lexemes fault ≡ true → A)
+    → (closes_literal (read_len history text) text fault ≡ true → A) → A
+by_open {A} history text fault is own literal = go (keeps_line history.before text (outcome_after history text).lexemes fault) refl is
   where
-    is : Place history text fault
-    is = place history text fault keeps
+    go : (keeps : Bool) → keeps_line history.before text (outcome_after history text).lexemes fault ≡ keeps → (keeps || closes_literal (read_len history text) text fault) ≡ true → A
+    go true e is = own e
+    go false e is = literal is
 
-    go : (tab : Bool) → is_tab fault.node ≡ tab → fault.end ≤ (if tab then fault.begin + prefix_len (nat_eq 9) (drop fault.begin text) else fault.end)
-    go false e = omega arith
-    go true e = omega (arith, (is.code.word.tab (ap (λ (f : Spanned Fault). is_tab f.node) is.here.same ∙ e)).1, is.here.end, is.start)
+open_passes : (history : History) (text : Text) (fault : Spanned Fault) → KeepsLine history text fault → Passes text fault (with_literal history text fault)
+open_passes history text fault keeps = by_open history text fault keeps.1
+    (λ own. subst (Passes text fault) (sym (whole_other (read_len history text) text fault (kept_other history.before text (outcome_after history text).lexemes fault own))) (own_passes history text fault (keeps.0, own)))
+    (λ closes. literal_passes history text fault keeps.0 closes)
+
+pub kept_faults_have_bytes : KeptFaultsHaveBytes
+kept_faults_have_bytes history text fault keeps = let passes = open_passes history text fault keeps in (passes.0, passes.1)
+
+pub kept_end : (history : History) (text : Text) (fault : Spanned Fault) → KeepsLine history text fault → fault.end ≤ passed_end text (with_literal history text fault)
+kept_end history text fault keeps = (open_passes history text fault keeps).2
+
+pub kept_whole : (history : History) (text : Text) (fault : Spanned Fault) → KeepsLine history text fault → (with_literal history text fault).end ≤ passed_end text (with_literal history text fault)
+kept_whole history text fault keeps = (open_passes history text fault keeps).3
+
+-- Where a bad escape is
+pub escape_begun : (history : History) (text : Text) (fault : Spanned Fault) (here : StopsAt history text fault) → is_bad_escape fault.node ≡ true → (is_nothing (after_all history here.pieces).before ≡ false) × (is_in_text (mode_after (after_all history here.pieces).tokens) ≡ false)
+escape_begun history text fault here bad = escape_place (after_all history here.pieces) (drop (pieces_len here.pieces) text) here.found here.longest.stands_last (ap (λ (f : Spanned Fault). is_bad_escape f.node) here.same ∙ bad)
+
+-- It is in code, after the first margin.
+pub record OpenPlace (history : History) (text : Text) (fault : Spanned Fault) : Type 0 where
+  pub here : StopsAt history text fault
+  pub begun : is_nothing (after_all history here.pieces).before ≡ false
+  pub in_code : is_in_text (mode_after (after_all history here.pieces).tokens) ≡ false
+
+pub open_place : (history : History) (text : Text) (fault : Spanned Fault) → KeepsLine history text fault → OpenPlace history text fault
+open_place history text fault keeps = by_open history text fault keeps.1
+    (λ own. let is = place history text fault (keeps.0, own) in record { here = is.here; begun = is.begun; in_code = is.code.in_code })
+    (λ closes.
+    let here = stops_at history text fault keeps.0 in
+    let place = escape_begun history text fault here (and_parts (is_bad_escape fault.node) _ closes).0 in
+    record { here = here; begun = place.0; in_code = place.1 })

@@ -5,7 +5,7 @@ use Rattle.starlark_grammar.specs.FoundLaws.{OutcomeAfterNothing}
 use Rattle.starlark_grammar.specs.Longest.{IsLongestReading, IsReading}
 use Rattle.starlark_grammar.specs.Margins.{open_widths}
 use Rattle.starlark_grammar.specs.Pieces.{Before, Ends, Fails, Gap, Layout, Nothing, Other, Piece, Stands, Step, by_before, first_margin, step_at}
-use Rattle.starlark_grammar.specs.Reading.{History, after, after_all, history_after, next_step, outcome, outcome_after, outcome_in, pieces_len, read, read_after, reading_outcome, situation}
+use Rattle.starlark_grammar.specs.Reading.{History, after, after_all, history_after, next_step, outcome, outcome_after, outcome_in, pieces_len, read, read_after, read_len, reading_outcome, situation}
 use Rattle.starlark_grammar.specs.Tokens.{Fault, Outcome, Spanned, moved}
 use Rattle.starlark_grammar.specs.Words.{Text, language}
 use Rattle.starlark_grammar.proofs.Reading.Readings.{fault_fits, one_longest, piece_fits, read_after_is, reading_fits, started}
@@ -37,6 +37,11 @@ unfolding outcome_after history_after
 after_by history text pieces last longest =
     let same = one_longest language history text (pieces_after history text) pieces (last_after history text) last (longest_after history text) longest in
     (ap (λ ps. reading_outcome history text ps (last_after history text)) same.0 ∙ ap (reading_outcome history text pieces) same.1, ap (after_all history) same.0)
+
+-- how far a longest reading reaches
+pub read_by : (history : History) (text : Text) (pieces : List Piece) (last : Step) → IsLongestReading language history text pieces last → read_len history text ≡ pieces_len pieces
+unfolding read_len
+read_by history text pieces last longest = ap pieces_len (one_longest language history text (pieces_after history text) pieces (last_after history text) last (longest_after history text) longest).0
 
 -- at the start of a text, or of a line where lexing begins again, the first margin stands
 pub first_step_after : (history : History) (text : Text) → is_nothing history.before ≡ true → next_step language history text ≡ first_margin (open_widths history.widths) text

@@ -10,10 +10,10 @@ use Rattle.starlark_grammar.specs.Words.{Text}
 use Rattle.starlark_grammar.specs.Tokens.{Spanned, Fault, Lexeme, moved, Outcome}
 use Rattle.starlark_grammar.specs.Margins.{begins_with_line_end, Margin, is_lf, margin_of, margin_len, open_widths}
 use Rattle.starlark_grammar.specs.Pieces.{Before, Fails, Gap, Layout, Nothing, Other, Piece, first_margin}
-use Rattle.starlark_grammar.specs.Reading.{History, after_all, history_after, lexemes_before, nothing, outcome_after, pieces_len}
+use Rattle.starlark_grammar.specs.Reading.{History, after_all, history_after, lexemes_before, nothing, outcome_after, pieces_len, read_len}
 use Rattle.starlark_grammar.proofs.Lists.{drop-sum}
 use Rattle.starlark_grammar.proofs.Literals.Bodies.{starts_fits}
-use Rattle.starlark_grammar.proofs.Reading.Onward.{StopsAt, after_by, first_step_after, outcome_after_nothing, stops_at}
+use Rattle.starlark_grammar.proofs.Reading.Onward.{StopsAt, after_by, first_step_after, outcome_after_nothing, read_by, stops_at}
 use Rattle.starlark_grammar.proofs.Reading.Steps.{is_nothing}
 use Rattle.starlark_grammar.proofs.Joining.Followed.{ends_line, ends_line_drop, ends_line_of}
 use Rattle.starlark_grammar.proofs.Joining.FollowedMargins.{Followed, Whole, Within, followed, whole_after}
@@ -62,6 +62,13 @@ outcome_stays history text more fault ends here less =
           ∙ sym here.is,
       both.1 ∙ sym past,
     )
+
+pub read_stays : (history : History) (text more : Text) (fault : Spanned Fault) → ends_line text ≡ true → StopsAt history text fault → fault.end < length text → read_len history (text ++ more) ≡ read_len history text
+read_stays history text more fault ends here less =
+    let end = here.end in
+    let stays = fault_stays history text more here.pieces here.found ends (fault_stays_here here) (omega (arith, less, end)) in
+    read_by history (text ++ more) here.pieces (Fails here.found) (record { reads = stays.reads; stands_last = stays.fails; no_piece = λ piece e. cc })
+    ∙ sym (read_by history text here.pieces (Fails here.found) here.longest)
 
 -- Lines
 
@@ -241,6 +248,13 @@ restart_stays history text more fault margin here is =
     let parts = decided text fault is in
     let stopped = stopped_stays history text more fault margin parts.1 here parts.0 in
     ap (next_line (text ++ more)) stopped.0 ∙ next_line_stays text more (stopped_at text fault) parts.1 stopped.1
+
+-- … and after one that is no tab, of whatever length
+pub restart_untabbed : (text more : Text) (fault : Spanned Fault) → is_tab fault.node ≡ false → fault.begin ≤ fault.end → is_decided text fault ≡ true → restart (text ++ more) fault ≡ restart text fault
+unfolding restart stopped_at
+restart_untabbed text more fault other order is =
+    let parts = decided text fault is in
+    rw other (next_line_stays text more (max (fault.end - 1) fault.begin) parts.1 (omega (arith, parts.0, order)))
 
 pub decided_faults_stay : DecidedFaultsStay
 decided_faults_stay text more fault has is =

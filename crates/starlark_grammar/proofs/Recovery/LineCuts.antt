@@ -11,12 +11,12 @@ use Rattle.starlark_grammar.specs.Tokens.{Newline, Lexeme, moved, Outcome}
 use Rattle.starlark_grammar.specs.Depths.{mode_by, mode_after, open_fstring, is_balanced}
 use Rattle.starlark_grammar.specs.Margins.{lines, margin_of, open_widths}
 use Rattle.starlark_grammar.specs.Pieces.{Before, Layout, Other, Piece, Step, Stands, Fails, Ends, Situation, first_margin, margin_step, step_at}
-use Rattle.starlark_grammar.specs.Reading.{History, nothing, after, after_all, situation, next_step, pieces_len, lexemes_along, lexemes_before, closing, outcome_of, reading_outcome, outcome, outcome_after, history_after}
+use Rattle.starlark_grammar.specs.Reading.{History, nothing, after, after_all, situation, next_step, pieces_len, lexemes_along, lexemes_before, closing, outcome_of, reading_outcome, outcome, outcome_after, history_after, read_len}
 use Rattle.starlark_grammar.specs.Longest.{IsReading, IsLongestReading}
 use Rattle.starlark_grammar.specs.Cuts.{is_layout, is_outside, is_newline, is_faultless}
 use Rattle.starlark_grammar.specs.Found.{at_line}
 use Rattle.starlark_grammar.proofs.Indentation.Widths.{positive}
-use Rattle.starlark_grammar.proofs.Reading.Onward.{after_by, first_step_after, last_after, longest_after, outcome_after_nothing, outcome_is, pieces_after}
+use Rattle.starlark_grammar.proofs.Reading.Onward.{after_by, first_step_after, last_after, longest_after, outcome_after_nothing, outcome_is, pieces_after, read_by}
 use Rattle.starlark_grammar.proofs.Reading.Readings.{one_longest, longest_onward}
 use Rattle.starlark_grammar.proofs.Joining.Followed.{ends_line, ends_line_of, ends_line_some}
 use Rattle.starlark_grammar.proofs.Joining.Settled.{Settled, outside_none, remainder, widths_settled, situation_after, after_onto, next_after, all_after}
@@ -395,6 +395,16 @@ cut_joins history first second before begins =
     ∙ ap (λ (o : Outcome). record { lexemes = without_last_newline (outcome_after history first).lexemes ++ map (moved (length first)) o.lexemes; fault = option_map (moved (length first)) o.fault })
     (sym (outcome_after_nothing second ∙ there.is))
 
+-- Both are read as far as the second one.
+pub joined_read : (history : History) (first second : Text) → BeforeLine history first → begins_plainly second ≡ true → read_len history (first ++ second) ≡ length first + read_len nothing second
+joined_read history first second before begins =
+    let pieces = (before_closes history first before).0 in
+    let here = (before_closes history first before).1 in
+    let there = plainly second begins in
+    let last = read_by nothing second (plain_piece ∷ there.pieces) there.last (plainly_longest second begins) in
+    read_by history (first ++ second) _ there.last (longest history first second pieces here begins there)
+    ∙ omega (arith, total history first second pieces here begins there, first_len history first second pieces here begins there, last)
+
 -- Both together are a cut between lines exactly where the second one is.
 pub cut_of_joined : (history : History) (first second : Text) → BeforeLine history first → begins_plainly second ≡ true
     → is_line_cut_after history (first ++ second) ≡ is_line_cut_after nothing second
@@ -466,6 +476,13 @@ alike_outcome one other text alike =
     by (Fails fault) = same_outcome (ap (λ (before : Before). lexemes_before before text pieces) (alike_before one other alike)) refl
     by (Stands piece) = same_outcome (ap (λ ls. lexemes_along 0 pieces ++ ls) to_end) refl
     by Ends = same_outcome (ap (λ ls. lexemes_along 0 pieces ++ ls) to_end) refl
+
+-- … as far, …
+pub alike_read : (one other : History) (text : Text) → Alike one other → read_len one text ≡ read_len other text
+alike_read one other text alike =
+    let pieces = pieces_after one text in
+    let last = last_after one text in
+    read_by one text pieces last (longest_after one text) ∙ sym (read_by other text pieces last (alike_longest one other text pieces last alike (longest_after one text)))
 
 -- … are alike after the same text, …
 pub alike_after : (one other : History) (text : Text) → Alike one other → Alike (history_after one text) (history_after other text)

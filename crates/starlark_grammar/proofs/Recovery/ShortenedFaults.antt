@@ -15,7 +15,7 @@ use Rattle.starlark_grammar.specs.Tokens.{Opening, Indentation, InvalidInput, In
 use Rattle.starlark_grammar.specs.Items.{Stop, Closing, Line, Ended, OpeningBrace, ClosingBrace, BadEscape, Body, body_at, body_len}
 use Rattle.starlark_grammar.specs.Depths.{Mode, Outside, InText, AtTop, Deeper}
 use Rattle.starlark_grammar.specs.Pieces.{Before, Nothing, Layout, Gap, Other, Piece, Step, Stands, Fails, Situation, fault, first_margin, margin_step, line_end, opening_of, more_quotes, escape_fault, literal_by, literal, opener, chunk_by, chunk, counts, word_step, front_step, takes_bang, is_bang, in_code, by_mode, by_before, step_at}
-use Rattle.starlark_grammar.specs.Reading.{History, after, after_all, history_after, situation, next_step, outcome_after, pieces_len}
+use Rattle.starlark_grammar.specs.Reading.{History, after, after_all, history_after, situation, next_step, outcome_after, pieces_len, read_len}
 use Rattle.starlark_grammar.specs.Longest.{IsReading}
 use Rattle.starlark_grammar.proofs.Lists.{drop-sum}
 use Rattle.starlark_grammar.proofs.WordNewlines.{in_line, line_fits, language_lines}
@@ -30,12 +30,14 @@ use Rattle.starlark_grammar.proofs.Joining.LaidCuts.{reading_shortened}
 use Rattle.starlark_grammar.specs.Found.{Passed, passed}
 use Rattle.starlark_grammar.specs.Joining.{is_decided}
 use Rattle.starlark_grammar.specs.Inner.KeptFaults.{is_in_margin}
+use Rattle.starlark_grammar.specs.KeptLines.{is_bad_escape, with_literal}
 use Rattle.starlark_grammar.specs.Recovery.{is_margin_tab, is_tab, line_end_len, margin_line, next_line, restart, stopped_at}
 use Rattle.starlark_grammar.proofs.Recovery.FollowedStops.{StopInside, body_single}
 use Rattle.starlark_grammar.proofs.Recovery.FollowedFaults.{chunk_same, escape_reads, fault_end, same_fault, unfinished_append}
 use Rattle.starlark_grammar.proofs.Recovery.MarginTabs.{FirstFails, BeginsLine, line_end_stands, line_is, no_line_end, tab_next, word_line}
 use Rattle.starlark_grammar.proofs.Found.FoundItems.{by_keeps, passed_lost}
-use Rattle.starlark_grammar.proofs.KeptLines.KeptFaultPlaces.{kept}
+use Rattle.starlark_grammar.proofs.KeptLines.KeptFaultPlaces.{by_open, kept, no_tab, tab_other}
+use Rattle.starlark_grammar.proofs.KeptLines.LiteralRests.{whole_other}
 use Rattle.starlark_grammar.proofs.Reading.Onward.{StopsAt, after_by, later_some, stops_at}
 use Rattle.starlark_grammar.proofs.Recovery.DecidedFaults.{decided, outcome_stays}
 use Rattle.starlark_grammar.proofs.Joining.ShortenedBodies.{character_shortened}
@@ -343,8 +345,13 @@ fault_shortened history text (b ∷ bs) fault has is less =
 
     near : IsNear history text (b ∷ bs) fault
     near = by_keeps history (text ++ (b ∷ bs)) fault
+        (λ stays_so. by_open history (text ++ (b ∷ bs)) fault stays_so
         (λ kept_it. λ tab margin far. both_ways _ ((kept history.before (text ++ (b ∷ bs)) (outcome_after history (text ++ (b ∷ bs))).lexemes fault kept_it).no_margin (and_parts (is_tab fault.node) _ tab).0) margin)
-        (λ lost. λ tab margin far. line_far text (b ∷ bs) fault (omega arith) (subst (λ (p : Passed). p.len ≤ length text) (passed_lost history (text ++ (b ∷ bs)) fault lost) less) tab far)
+        (λ closes. λ tab margin far. both_ways _ (no_tab fault.node (and_parts (is_bad_escape fault.node) _ closes).0) (and_parts (is_tab fault.node) _ tab).0))
+        (λ lost. λ tab margin far.
+        let other = whole_other (read_len history (text ++ (b ∷ bs))) (text ++ (b ∷ bs)) fault (tab_other fault.node (and_parts (is_tab fault.node) _ tab).0) in
+        let last : restart (text ++ (b ∷ bs)) (with_literal history (text ++ (b ∷ bs)) fault) ≤ length text = subst (λ (p : Passed). p.len ≤ length text) (passed_lost history (text ++ (b ∷ bs)) fault lost) less in
+        line_far text (b ∷ bs) fault (omega arith) (subst (λ (f : Spanned Fault). restart (text ++ (b ∷ bs)) f ≤ length text) other last) tab far)
 
     stays : next_step language (after_all history here.pieces) (drop (pieces_len here.pieces) text) ≡ Fails here.found → (outcome_after history text ≡ outcome_after history (text ++ (b ∷ bs))) × (history_after history text ≡ history_after history (text ++ (b ∷ bs)))
     stays e =

@@ -3,7 +3,7 @@ use Rattle.std.proofs.Common.{refl}
 use Rattle.std.specs.Prelude.{[], ◌∷◌, codes, false}
 use Rattle.starlark_grammar.proofs.Rows.Recovery.{Recovers, all_recovery}
 use Rattle.starlark_grammar.proofs.Rows.Shapes.{at, single, utf8}
-use Rattle.starlark_grammar.specs.Tokens.{Newline, Identifier, Indent, Dedent, Word, Comment, FStringStart, FStringExprStart, FStringExprEnd, FStringBang, FStringEnd, InvalidInput, InvalidTab, ReservedKeyword, StartsZero, UnfinishedStringLiteral}
+use Rattle.starlark_grammar.specs.Tokens.{Newline, Identifier, Indent, Dedent, Word, Comment, FStringStart, FStringExprStart, FStringExprEnd, FStringBang, FStringEnd, InvalidEscapeSequence, InvalidInput, InvalidTab, ReservedKeyword, StartsZero, UnfinishedStringLiteral}
 use Rattle.starlark_grammar.specs.declared.class.Terminal.TheVariants as terminal
 
 -- each fault that keeps its line, and several on a line
@@ -37,3 +37,27 @@ other_rows :
     × Recovers (codes "($'a\n$x") (at 0 (Word terminal.OpeningRound) 1 ∷ at 6 (Identifier (codes "x")) 7 ∷ at 7 Newline 7 ∷ []) (at 1 (InvalidInput (codes "$")) 2 ∷ at 2 UnfinishedStringLiteral 4 ∷ at 5 (InvalidInput (codes "$")) 6 ∷ [])
 unfolding all_recovery
 other_rows = (refl, refl, refl, refl, refl)
+
+-- a literal with a bad escape is passed whole: with one quote or three, in brackets, in an f-string's expression, of bytes, and
+-- with other escapes after the bad one
+literal_rows :
+    Recovers (codes "'\\xz' x") (at 6 (Identifier (codes "x")) 7 ∷ at 7 Newline 7 ∷ []) (at 1 (InvalidEscapeSequence (codes "xz")) 4 ∷ [])
+    × Recovers (codes "('\\x',\ny)") (at 0 (Word terminal.OpeningRound) 1 ∷ at 5 (Word terminal.Comma) 6 ∷ at 7 (Identifier (codes "y")) 8 ∷ at 8 (Word terminal.ClosingRound) 9 ∷ at 9 Newline 9 ∷ []) (at 2 (InvalidEscapeSequence (codes "x'")) 5 ∷ [])
+    × Recovers (codes "'''a\n\\x\n(''' x") (at 13 (Identifier (codes "x")) 14 ∷ at 14 Newline 14 ∷ []) (at 5 (InvalidEscapeSequence (codes "x\n")) 8 ∷ [])
+    × Recovers (codes "f'{\"\\x\"!r}'")
+    (at 0 (FStringStart (record { is_raw = false; quote = single; is_triple = false })) 2 ∷ at 2 FStringExprStart 3 ∷ at 7 FStringBang 8 ∷ at 8 (Identifier (codes "r")) 9 ∷ at 9 FStringExprEnd 10 ∷ at 10 FStringEnd 11 ∷ at 11 Newline 11 ∷ [])
+    (at 4 (InvalidEscapeSequence (codes "x\"")) 7 ∷ [])
+    × Recovers (codes "'\\x\\'\\x' y") (at 9 (Identifier (codes "y")) 10 ∷ at 10 Newline 10 ∷ []) (at 1 (InvalidEscapeSequence (codes "x\\")) 4 ∷ [])
+    × Recovers (codes "b'\\400' y") (at 8 (Identifier (codes "y")) 9 ∷ at 9 Newline 9 ∷ []) (at 2 (InvalidEscapeSequence (codes "400")) 6 ∷ [])
+unfolding all_recovery
+literal_rows = (refl, refl, refl, refl, refl, refl)
+
+-- One that isn't closed ends with its line, also where a backslash takes the first line end, or with the text. A bad escape in
+-- the text of an f-string ends its line.
+open_literal_rows :
+    Recovers (codes "'\\x\n(y") (at 4 (Word terminal.OpeningRound) 5 ∷ at 5 (Identifier (codes "y")) 6 ∷ at 6 Newline 6 ∷ []) (at 1 (InvalidEscapeSequence (codes "x\n")) 4 ∷ [])
+    × Recovers (codes "\"\\x\\\ny\nz") (at 7 (Identifier (codes "z")) 8 ∷ at 8 Newline 8 ∷ []) (at 1 (InvalidEscapeSequence (codes "x\\")) 4 ∷ [])
+    × Recovers (codes "'''\\x\ny\n(z") (at 10 Newline 10 ∷ []) (at 3 (InvalidEscapeSequence (codes "x\n")) 6 ∷ [])
+    × Recovers (codes "f'\\x' y\nz") (at 0 (FStringStart (record { is_raw = false; quote = single; is_triple = false })) 2 ∷ at 8 (Identifier (codes "z")) 9 ∷ at 9 Newline 9 ∷ []) (at 4 (InvalidEscapeSequence (codes "\\")) 5 ∷ [])
+unfolding all_recovery
+open_literal_rows = (refl, refl, refl, refl)

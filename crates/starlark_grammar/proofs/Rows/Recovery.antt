@@ -3,7 +3,7 @@ use Rattle.std.proofs.Common.{◌≡◌, ◌<◌, List, arith, drop, length, ref
 use Rattle.std.proofs.lemmas.Bool.{both_ways}
 use Rattle.std.specs.Prelude.{⊤, [], ◌∷◌, IfSome, codes, true, false}
 use Rattle.starlark_grammar.proofs.Rows.Shapes.{all_definitions, at, single, utf8, Pass, Fail}
-use Rattle.starlark_grammar.specs.Reading.{History, history_after, nothing, outcome, outcome_after}
+use Rattle.starlark_grammar.specs.Reading.{History, history_after, nothing, outcome, outcome_after, read_len}
 use Rattle.starlark_grammar.specs.Tokens.{Fault, InvalidEscapeSequence, Lexeme, Spanned, Newline, Identifier, Indent, Dedent, Word, Comment, FStringStart, InvalidInput, InvalidTab, Indentation, UnfinishedStringLiteral, ReservedKeyword}
 use Rattle.starlark_grammar.specs.Words.{Text}
 use Rattle.starlark_grammar.specs.declared.class.Terminal.TheVariants as terminal
@@ -11,7 +11,7 @@ use Rattle.starlark_grammar.specs.AfterFaults.{next_line, restart, stopped_at}
 use Rattle.starlark_grammar.specs.ClosedTexts.{Cut, Empty, IsClosed, IsClosedAfter, Past, parted}
 use Rattle.starlark_grammar.specs.Found.{found, found_after, found_within, passed}
 use Rattle.starlark_grammar.specs.Joining.{begins_plainly, is_between_lines, is_decided, is_line_cut, is_line_cut_after, without_last_newline}
-use Rattle.starlark_grammar.specs.KeptLines.{keeps_line}
+use Rattle.starlark_grammar.specs.KeptLines.{keeps_line, literal_rest, rest_from, with_literal, with_literal_at}
 
 -- the text has these lexemes and these faults
 abbrev pub Recovers : Text → List Lexeme → List (Spanned Fault) → Type 0
@@ -19,7 +19,7 @@ Recovers text lexemes faults = parted (found text) ≡ record { lexemes = lexeme
 
 -- to unfold this is to unfold all that a row computes with
 unfoldable pub all_recovery : Type 0
-unfolding all_definitions next_line stopped_at restart keeps_line outcome_after history_after passed found_within found_after found
+unfolding all_definitions next_line stopped_at restart keeps_line rest_from literal_rest with_literal_at outcome_after history_after read_len passed found_within found_after found
 all_recovery = ⊤
 
 -- no fault, faults that keep their lines, and others
@@ -53,7 +53,7 @@ rows_3 :
     Recovers (codes "if a:\n  if b:\n    x = '\\xz'\n    y\n  z\n") (
     at 0 (Word terminal.If) 2 ∷ at 3 (Identifier (codes "a")) 4 ∷ at 4 (Word terminal.Colon) 5 ∷ at 5 Newline 6 ∷
     at 6 Indent 8 ∷ at 8 (Word terminal.If) 10 ∷ at 11 (Identifier (codes "b")) 12 ∷ at 12 (Word terminal.Colon) 13 ∷ at 13 Newline 14 ∷
-    at 14 Indent 18 ∷ at 18 (Identifier (codes "x")) 19 ∷ at 20 (Word terminal.Equal) 21 ∷ at 32 (Identifier (codes "y")) 33 ∷ at 33 Newline 34 ∷
+    at 14 Indent 18 ∷ at 18 (Identifier (codes "x")) 19 ∷ at 20 (Word terminal.Equal) 21 ∷ at 27 Newline 28 ∷ at 32 (Identifier (codes "y")) 33 ∷ at 33 Newline 34 ∷
     at 34 Dedent 34 ∷ at 36 (Identifier (codes "z")) 37 ∷ at 37 Newline 38 ∷ at 38 Newline 38 ∷ at 38 Dedent 38 ∷ []) (at 23 (InvalidEscapeSequence (codes "xz")) 26 ∷ [])
     × Recovers (codes "if a:\n    b\n  c\n    d\n") (
     at 0 (Word terminal.If) 2 ∷ at 3 (Identifier (codes "a")) 4 ∷ at 4 (Word terminal.Colon) 5 ∷ at 5 Newline 6 ∷
@@ -135,6 +135,8 @@ closed_rows :
     × IsClosed (codes "f'a\nb\n")
     × IsClosed (codes "x\n\ty\n")
     × IsClosed (codes "$\n x\n")
+    × IsClosed (codes "'\\x'\n")
+    × IsClosed (codes "'\\xz\n")
 unfolding all_recovery is_between_lines is_line_cut_after is_line_cut is_decided
 closed_rows = (
   Empty [],
@@ -144,6 +146,8 @@ closed_rows = (
   Past nothing (codes "f'a\nb\n") (at 2 UnfinishedStringLiteral 4) refl refl (Cut _ (codes "b\n") refl),
   Past nothing (codes "x\n\ty\n") (at 1 InvalidTab 1) refl refl (Empty (0 ∷ [])),
   Past nothing (codes "$\n x\n") (at 0 (InvalidInput (codes "$")) 1) refl refl (Cut _ (codes "\n x\n") refl),
+  Past nothing (codes "'\\x'\n") (at 1 (InvalidEscapeSequence (codes "x'")) 4) refl refl (Cut _ (codes "\n") refl),
+  Past nothing (codes "'\\xz\n") (at 1 (InvalidEscapeSequence (codes "xz")) 4) refl refl (Empty (0 ∷ [])),
 )
 
 -- no cut between lines
@@ -151,11 +155,11 @@ abbrev IsOpen : History → Text → Type 0
 IsOpen history text = (0 < length text) × (is_line_cut_after history text ≡ false)
 
 -- open by a fault that isn't decided, if there is one
-undecided_open : (history : History) (text : Text) → IsOpen history text → IfSome (outcome_after history text).fault (λ fault. is_decided text fault ≡ false) → IsClosedAfter history text → ⊥
+undecided_open : (history : History) (text : Text) → IsOpen history text → IfSome (outcome_after history text).fault (λ fault. is_decided text (with_literal history text fault) ≡ false) → IsClosedAfter history text → ⊥
 undecided_open _ _ (some, uncut) undecided (Empty widths) = absurd (omega (arith, some))
 undecided_open _ _ (some, uncut) undecided (Cut history text cut) = both_ways (is_line_cut_after history text) uncut cut
 undecided_open _ _ (some, uncut) undecided (Past history text fault has is rest) =
-    both_ways (is_decided text fault) (subst (λ first. IfSome first (λ other. is_decided text other ≡ false)) has undecided) is
+    both_ways (is_decided text (with_literal history text fault)) (subst (λ first. IfSome first (λ other. is_decided text (with_literal history text other) ≡ false)) has undecided) is
 
 -- open by what is left after a fault
 abbrev StaysOpen : History → Text → Spanned Fault → Type 0
@@ -175,6 +179,7 @@ open_rows :
     × (IsClosed (codes "f'a\n") → ⊥)
     × (IsClosed (codes "f'a\\\n") → ⊥)
     × (IsClosed (codes "\"\"\"a\n") → ⊥)
+    × (IsClosed (codes "'''\\x\nx\n") → ⊥)
 unfolding all_recovery is_between_lines is_line_cut_after is_line_cut is_decided
 open_rows = (
   undecided_open nothing (codes "x") (omega arith, refl) tt,
@@ -184,6 +189,7 @@ open_rows = (
   undecided_open nothing (codes "f'a\n") (omega arith, refl) refl,
   undecided_open nothing (codes "f'a\\\n") (omega arith, refl) refl,
   undecided_open nothing (codes "\"\"\"a\n") (omega arith, refl) refl,
+  undecided_open nothing (codes "'''\\x\nx\n") (omega arith, refl) refl,
 )
 
 -- … and by brackets that are open after a fault that keeps its line

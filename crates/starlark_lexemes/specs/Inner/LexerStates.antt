@@ -135,12 +135,11 @@ pub record IsAtFault (course : Course) (text : Text) (fault : Spanned Fault) (st
 abbrev pub course_past : Course → (end : ℕ) → Text → Course
 course_past course end text = course_of (From (kept_history (history_since course.origin text)) end) text
 
--- Such a fault: reading goes on at byte `end`.
-pub record KeepsOpen (course : Course) (text : Text) (fault : Spanned Fault) (begin end : ℕ) : Type 0 where
-  pub begins : begin ≡ fault.begin
-  pub ends : end ≡ passed_end text fault
-  pub may : may_keep fault.node ≡ true
-  pub inside : is_margin_tab text fault ≡ false
+-- Such a fault: reading goes on at byte `end`, and so many reads reach there.
+pub record KeepsOpen (course : Course) (text : Text) (fault : Spanned Fault) (end reads : ℕ) : Type 0 where
+  pub later : fault.begin ≤ end
+  pub least : more_reads 0 end ≤ reads
+  pub most : reads ≤ 10 * end + 2
   pub standing : begins_with_fault course.origin text ≡ false
   pub boundary : IsCharBoundary text end
 

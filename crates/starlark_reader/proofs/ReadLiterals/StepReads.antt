@@ -3,7 +3,7 @@ use Rattle.std.proofs.Common.{◌≡◌, ◌≤◌, ◌+◌, ◌-◌, ◌*◌, �
 use Rattle.starlark_grammar.specs.Items.{closing_quotes}
 use Rattle.starlark_grammar.specs.Tokens.{Opening}
 use Rattle.starlark_words.specs.Inner.Reads.{AreReads, more_reads}
-use Rattle.starlark_reader.specs.Inner.ReadBounds.{AreFaultReads, AreWordReads, IsFaultAt, is_tab_error}
+use Rattle.starlark_reader.specs.Inner.ReadBounds.{AreEscapeReads, AreFaultReads, AreWordReads, IsFaultAt, is_tab_error}
 use Rattle.starlark_reader.specs.Inner.StepViews as step
 use Rattle.starlark_reader.specs.Inner.StepViews.{ReadStep, fault_step}
 use Rattle.starlark_token.specs.declared.lexeme_error.LexemeError.{LexemeError}
@@ -18,6 +18,10 @@ closing_some opening = by_quotes opening.is_triple refl
 
 pub fault_reads : (passed factor more line extra begin end : ℕ) (found : ℕ × LexemeError × ℕ) (before after : ℕ) → IsFaultAt begin end found → passed ≤ end → AreReads (begin - passed) (factor * (end - passed) + extra) before after → AreWordReads passed factor more line extra (fault_step found) before after
 fault_reads passed factor more line extra begin end found before after is later reads = rw (is.2, is.0, is.1) (reads, later)
+
+-- reads up to a bad escape after `len` bytes of a body
+pub escape_reads : (passed len end : ℕ) (found : ℕ × LexemeError × ℕ) (before after : ℕ) → IsFaultAt (passed + len) end found → after ≤ before + 8 * len + (end - (passed + len)) + 6 → AreEscapeReads passed (fault_step found) before after
+escape_reads passed len end found before after is reads = rw (is.0, is.1) (λ node view bad. (omega arith, omega (arith, reads)))
 
 -- the reads of a body, with those of its first `run` bytes, which were known
 pub body_reads : (run len least stopped extra spare before between after : ℕ) → run ≤ len → AreReads run (8 * run + spare) before between → AreReads (len - run + least) (8 * (len - run) + stopped + extra) between after

@@ -9,7 +9,7 @@ use Rattle.starlark_token.specs.Lexemes.{lexeme_view, shown, shown_lexeme}
 use Rattle.starlark_token.specs.TokenViews.{Whole, token_view}
 use Rattle.starlark_token.specs.declared.tokens.Token.{Token}
 use Rattle.starlark_grammar.specs.Pieces.{Before, Piece, Stands, Fails}
-use Rattle.starlark_grammar.specs.Reading.{History, history_after}
+use Rattle.starlark_grammar.specs.Reading.{History, history_after, read_len}
 use Rattle.starlark_reader.specs.Inner.Reader.{IsStateAfter, Origin, before_view, step_here}
 use Rattle.starlark_reader.specs.declared.reader.Before as code
 use Rattle.starlark_reader.specs.declared.reader.Before.TheVariants as sort
@@ -45,6 +45,7 @@ kept_here text history old new here kept = record {
   boundary = rw here.at kept.boundary;
   few = rw (here.nesting, here.at) kept.few;
   onward = ap (λ at. history_after history (drop at text)) here.at ∙ kept.onward;
+  reach = ap (λ at. at + read_len history (drop at text)) here.at ∙ kept.reach;
   read = λ start. rw here.at (kept.read start);
 }
 

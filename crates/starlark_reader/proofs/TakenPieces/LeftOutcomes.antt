@@ -7,12 +7,12 @@ use Rattle.starlark_grammar.specs.Words.{Text, language}
 use Rattle.starlark_grammar.specs.Tokens.{Dedent, Fault, Newline, Outcome, Spanned, moved}
 use Rattle.starlark_grammar.specs.Margins.{margin_of, open_widths}
 use Rattle.starlark_grammar.specs.Pieces.{Before, Ends, Fails, Gap, Layout, Nothing, Other, Piece, Stands, Step, first_margin}
-use Rattle.starlark_grammar.specs.Reading.{History, after, after_all, closing, history_after, lexemes_along, lexemes_before, next_step, nothing, outcome, outcome_after, pieces_len, reading_outcome}
+use Rattle.starlark_grammar.specs.Reading.{History, after, after_all, closing, history_after, lexemes_along, lexemes_before, next_step, nothing, outcome, outcome_after, pieces_len, read_len, reading_outcome}
 use Rattle.starlark_grammar.specs.Longest.{IsLongestReading}
 use Rattle.starlark_reader.specs.Inner.Reader.{moved_outcome, remaining_outcome}
 use Rattle.starlark_grammar.proofs.Joining.CleanCuts.{along_later, map_replicate}
 use Rattle.starlark_grammar.proofs.Joining.Joined.{moved_both}
-use Rattle.starlark_grammar.proofs.Reading.Onward.{after_by, first_step_after, last_after, longest_after, outcome_after_nothing, pieces_after}
+use Rattle.starlark_grammar.proofs.Reading.Onward.{after_by, first_step_after, last_after, longest_after, outcome_after_nothing, pieces_after, read_by}
 use Rattle.starlark_grammar.proofs.Reading.Readings.{longest_onward, piece_fits, started, stops_here}
 use Rattle.starlark_grammar.proofs.Reading.Steps.{is_nothing}
 
@@ -112,6 +112,16 @@ history_onward history text piece stands =
 
 pub history_stops : (history : History) (text : Text) (last : Step) → next_step language history text ≡ last → ((piece : Piece) → last ≡ Stands piece → ⊥) → history_after history text ≡ history
 history_stops history text last is none = (after_by history text [] last (stops_here language history text last is none)).1
+
+-- so its pieces reach as far
+pub reach_onward : (history : History) (text : Text) (piece : Piece) → next_step language history text ≡ Stands piece → read_len history text ≡ piece.len + read_len (after history piece) (drop piece.len text)
+reach_onward history text piece stands =
+    let more = read_by (after history piece) (drop piece.len text) _ _ (longest_after (after history piece) (drop piece.len text)) in
+    let total = sum_by-cons (λ (piece : Piece). piece.len) piece (pieces_after (after history piece) (drop piece.len text)) in
+    omega (arith, read_by history text _ _ (from_piece history text piece stands), more, total)
+
+pub reach_stops : (history : History) (text : Text) (last : Step) → next_step language history text ≡ last → ((piece : Piece) → last ≡ Stands piece → ⊥) → read_len history text ≡ 0
+reach_stops history text last is none = read_by history text [] last (stops_here language history text last is none)
 
 -- The start of a line
 

@@ -30,7 +30,7 @@ use Rattle.std.proofs.lemmas.List.Sums.{sum_by-cons}
 pub same_left : (origin : Origin) (text : Text) (old new : Reader) (stage : Stage) (left : Outcome) → IsHere old new → IsLeft origin text old stage left → IsLeft origin text new stage left
 same_left origin text old new stage.Begin left here h = (h.0, here.at ∙ h.1, rw here.nesting h.2, here.levels ∙ h.3, ap bracket_count here.nesting ∙ h.4, here.before ∙ h.5, h.6)
 same_left origin text old new stage.Onward left here h = (h.0, kept_here text h.0 old new here h.1, h.2 ∙ ap (λ at. remaining_outcome h.0 at (drop at text)) (sym here.at))
-same_left origin text old new (stage.Fault begin fault end) left here h = (h.0, h.1, h.2, λ start. rw (here.at, here.before) (h.3 start), rw here.at h.4, record { levels = here.levels ∙ h.5.levels; whole = λ standing. kept_here text (history_since origin text) old new here (h.5.whole standing) }, rw here.at h.6)
+same_left origin text old new (stage.Fault begin fault end) left here h = (h.0, h.1, h.2, λ start. rw (here.at, here.before) (h.3 start), rw here.at h.4, record { levels = here.levels ∙ h.5.levels; whole = λ standing. kept_here text (history_since origin text) old new here (h.5.whole standing); at = λ standing. here.at ∙ h.5.at standing }, rw here.at h.6)
 same_left origin text old new stage.Closed left here h = (h.0, kept_here text (history_since origin text) old new here h.1)
 
 flat_here : (old new : Reader) (now later : Stage) → IsHere old new → new.pending ≡ old.pending → later ≡ now → IsInFlatMargin old now → IsInFlatMargin new later

@@ -51,7 +51,7 @@ step_reads text before history (steps.Fault begin fault end) old new kept stands
       λ node is.
           let after = fault_restart text old.at begin end node kept.inside here.1 in
           let search = step_search text old.at begin end fault node is kept.inside here.1 in
-          (omega (arith, after, search, has.1, read.1, passed.0.1, passed.0.2), λ keeps inside. omega (arith, moved_passed text old.at begin end node, leaves node is keeps, has.1, passed.0.1, passed.0.2)),
+          (omega (arith, after, search, has.1, read.1, passed.0.1, passed.0.2), ((λ keeps inside. omega (arith, moved_passed text old.at begin end node, (leaves node is).0 keeps, has.1, passed.0.1, passed.0.2)), (λ bad. omega (arith, (leaves node is).1 bad, has.1, passed.0.1, passed.0.2)))),
     )
 
 -- the reads after a newline and its margin
@@ -61,7 +61,7 @@ line_reads text len before old new inside has read some margin = go new.stage ma
   where
     go : (stage : Stage) → IsMarginRead text len old new stage → HasReadAt text new stage
     go stages.Onward margin = (omega (arith, has.0, read.0, margin.0.0, margin.1), omega (arith, has.1, read.1, some, margin.0.1, margin.1))
-    go (stages.Fault begin fault end) margin = (omega (arith, has.0, read.0, margin.0, margin.1), λ node is. let there = margin.2 node is in (omega (arith, has.1, read.1, there.0, there.1, there.2), λ keeps inside. let tab = there.3 keeps in cc))
+    go (stages.Fault begin fault end) margin = (omega (arith, has.0, read.0, margin.0, margin.1), λ node is. let there = margin.2 node is in (omega (arith, has.1, read.1, there.0, there.1, there.2), ((λ keeps inside. let tab = there.3 keeps in cc), (λ bad. let good = there.4 in cc))))
     go stage margin = absurd margin
 
 -- the run that was peeked after an opener, …
@@ -82,7 +82,7 @@ text_run text rest reads reader opening (Err run) e onward idle inside other =
 -- a state doesn't depend on the number of reads
 pub state_reads : {origin : Origin} → (text : Text) (history : History) (reader : Reader) (reads : ℕ) → IsStateAfter origin text history reader → IsStateAfter origin text history (record reader { reads = reads })
 state_reads text history reader reads state =
-    record { nesting = state.nesting; levels = state.levels; before = state.before; inside = state.inside; boundary = state.boundary; few = state.few; onward = state.onward; read = state.read }
+    record { nesting = state.nesting; levels = state.levels; before = state.before; inside = state.inside; boundary = state.boundary; few = state.few; onward = state.onward; reach = state.reach; read = state.read }
 
 pub reads_ahead : {origin : Origin} → (text : Text) (reader : Reader) (reads : ℕ) (stage : Stage) (lexemes : List (Spanned TokenView)) (fault : Option (Spanned Fault)) → IsAhead origin text reader stage lexemes fault
     → IsAhead origin text (record reader { reads = reads }) stage lexemes fault
@@ -92,5 +92,5 @@ reads_ahead {origin = origin} text reader reads stage lexemes fault ahead =
     by_stage : (stage : Stage) → IsLeft origin text reader stage ahead.left → IsLeft origin text (record reader { reads = reads }) stage ahead.left
     by_stage stages.Begin left = left
     by_stage stages.Onward left = (left.0, state_reads text left.0 reader reads left.1, left.2)
-    by_stage (stages.Fault begin fault end) left = (left.0, left.1, left.2, left.3, left.4, record { levels = left.5.levels; whole = λ standing. state_reads text (history_since origin text) reader reads (left.5.whole standing) }, left.6)
+    by_stage (stages.Fault begin fault end) left = (left.0, left.1, left.2, left.3, left.4, record { levels = left.5.levels; whole = λ standing. state_reads text (history_since origin text) reader reads (left.5.whole standing); at = left.5.at }, left.6)
     by_stage stages.Closed left = (left.0, state_reads text (history_since origin text) reader reads left.1)

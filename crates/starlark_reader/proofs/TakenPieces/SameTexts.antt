@@ -70,12 +70,12 @@ code_after old new same = subst (λ (t : Text). IsAtCode t new) (sym (ap (λ t. 
 module _ (text : Text) (reader over : Reader) where
   pub over_state : {origin : Origin} → (history : History) → IsStateAfter origin text history reader → IsStateAfter origin text history (record reader { text = over.text })
   over_state history state =
-      record { nesting = state.nesting; levels = state.levels; before = state.before; inside = state.inside; boundary = state.boundary; few = state.few; onward = state.onward; read = state.read }
+      record { nesting = state.nesting; levels = state.levels; before = state.before; inside = state.inside; boundary = state.boundary; few = state.few; onward = state.onward; reach = state.reach; read = state.read }
 
   over_left : (origin : Origin) (stage : Stage) (left : Outcome) → IsLeft origin text reader stage left → IsLeft origin text (record reader { text = over.text }) stage left
   over_left origin stages.Begin left is = is
   over_left origin stages.Onward left is = (is.0, over_state is.0 is.1, is.2)
-  over_left origin (stages.Fault begin fault end) left is = (is.0, is.1, is.2, is.3, is.4, record { levels = is.5.levels; whole = λ standing. over_state (history_since origin text) (is.5.whole standing) }, is.6)
+  over_left origin (stages.Fault begin fault end) left is = (is.0, is.1, is.2, is.3, is.4, record { levels = is.5.levels; whole = λ standing. over_state (history_since origin text) (is.5.whole standing); at = is.5.at }, is.6)
   over_left origin stages.Closed left is = (is.0, over_state (history_since origin text) is.1)
 
   pub over_ahead : {origin : Origin} → (stage : Stage) (lexemes : List (Spanned TokenView)) (fault : Option (Spanned Fault)) → IsAhead origin text reader stage lexemes fault → IsAhead origin text (record reader { text = over.text }) stage lexemes fault

@@ -14,7 +14,7 @@ use Rattle.starlark_grammar.specs.Margins.{Margin, comment_lines, comments_from,
 use Rattle.starlark_grammar.specs.Found.{at_line}
 use Rattle.starlark_grammar.specs.Pieces.{Ends, Fails, Layout, Piece, Stands, Step, first_margin, line_end, margin_step}
 use Rattle.starlark_grammar.specs.Cuts.{is_layout}
-use Rattle.starlark_grammar.specs.Reading.{History, after, after_all, closing, history_after, next_step, outcome, outcome_after, pieces_len, nothing, tokens_onto}
+use Rattle.starlark_grammar.specs.Reading.{History, after, after_all, closing, history_after, next_step, outcome, outcome_after, pieces_len, nothing, read_len, tokens_onto}
 use Rattle.starlark_grammar.specs.Longest.{IsReading}
 use Rattle.starlark_token.specs.Lexemes.{fault_view, lexeme_view, shown_lexeme}
 use Rattle.starlark_reader.specs.Inner.MarginViews.{IsRefused, IsTaken}
@@ -22,7 +22,7 @@ use Rattle.starlark_reader.specs.Inner.Pending.{IsIdle, IsPending, pending_lexem
 use Rattle.starlark_reader.specs.Inner.Nesting.{Represents, bracket_count, keeps_nesting}
 use Rattle.starlark_reader.specs.Inner.MarginCuts.{IsAfterLines, IsCutBefore, IsMarginAhead}
 use Rattle.starlark_reader.specs.Inner.MarginLines.{IsOfMargin}
-use Rattle.starlark_reader.specs.Inner.Reader.{HoldsCuts, IsAhead, IsAheadAfter, IsAheadPast, IsCutAhead, IsInFlatMargin, IsLeft, IsReached, IsRead, IsReadPast, IsReadTo, IsStateAfter, IsStateAtFault, Line, Origin, Start, before_view, begins_with_fault, begins_with_tab, has_read_none, history_since, is_refused, left_here, left_to_read, remaining_outcome, step_here}
+use Rattle.starlark_reader.specs.Inner.Reader.{HoldsCuts, IsAhead, IsAheadAfter, IsAheadPast, IsCutAhead, IsInFlatMargin, IsLeft, IsReached, IsRead, IsReadPast, IsReadTo, IsStateAfter, IsStateAtFault, Line, Origin, Start, before_view, begins_with_fault, begins_with_tab, has_read_none, history_since, is_refused, left_here, left_to_read, reach_since, remaining_outcome, step_here}
 use Rattle.starlark_token.specs.TokenViews.{TokenView, Whole, token_view}
 use Rattle.starlark_token.specs.declared.lexeme_error.LexemeError.{LexemeError}
 use Rattle.starlark_reader.specs.declared.nesting.Nesting.{Nesting}
@@ -37,7 +37,7 @@ use Rattle.starlark_reader.proofs.TakenMargins.Pending.{margin_comments}
 use Rattle.starlark_grammar.proofs.Order.Edges.{boundary_shift}
 use Rattle.starlark_grammar.proofs.Lists.{drop-sum}
 use Rattle.starlark_reader.proofs.TakenPieces.Here.{IsHere, after_some, kept_here}
-use Rattle.starlark_reader.proofs.TakenPieces.LeftOutcomes.{GoesOn, history_onward, history_stops, line_fails, line_first, line_stands, margin_first, onward_ends, onward_fails, onward_stands}
+use Rattle.starlark_reader.proofs.TakenPieces.LeftOutcomes.{GoesOn, history_onward, history_stops, line_fails, line_first, line_stands, margin_first, onward_ends, onward_fails, onward_stands, reach_onward, reach_stops}
 use Rattle.starlark_grammar.proofs.Reading.Onward.{outcome_after_nothing}
 use Rattle.starlark_grammar.proofs.Reading.Readings.{one_least, piece_fits, started}
 use Rattle.starlark_grammar.proofs.Joining.Tabs.{margin_tab, tab, tab_of}
@@ -117,9 +117,10 @@ first_is_quiet levels text piece e = subst (Each IsLayout (λ fault. ⊤)) e (ma
 -- the state after one more piece
 kept_after : {origin : Origin} → (text : Text) (history : History) (at : ℕ) (new : Reader) (piece : Piece) → IsUtf8 text → IsCharBoundary text at → next_step language history (drop at text) ≡ Stands piece
     → Represents (tokens_onto history.tokens piece.lexemes) new.nesting → new.levels ≡ open_widths (history.widths ++ option_to_list piece.width) → before_view new.before ≡ piece.sort → new.at ≡ at + piece.len → bracket_count new.nesting ≤ new.at
-    → history_after (after history piece) (drop piece.len (drop at text)) ≡ history_since origin text → (origin ≡ Start → IsReadTo text (after history piece) new.at) → IsStateAfter origin text (after history piece) new
+    → history_after (after history piece) (drop piece.len (drop at text)) ≡ history_since origin text → at + piece.len + read_len (after history piece) (drop piece.len (drop at text)) ≡ reach_since origin text → (origin ≡ Start → IsReadTo text (after history piece) new.at)
+    → IsStateAfter origin text (after history piece) new
 unfolding after
-kept_after text history at new piece utf8 here stands nesting levels before is_at few onward read =
+kept_after text history at new piece utf8 here stands nesting levels before is_at few onward reach read =
     let end : IsCharBoundary text (at + piece.len) = boundary_shift text at piece.len here (piece_bounded history (drop at text) piece (IsUtf8-drop text at utf8 here) stands).1 in
     record {
       nesting = nesting;
@@ -129,6 +130,7 @@ kept_after text history at new piece utf8 here stands nesting levels before is_a
       boundary = subst (IsCharBoundary text) (sym is_at) end;
       few = few;
       onward = ap (history_after (after history piece)) (ap (λ n. drop n text) is_at ∙ drop-sum at piece.len text) ∙ onward;
+      reach = ap (λ n. n + read_len (after history piece) (drop n text)) is_at ∙ ap (λ (t : Text). at + piece.len + read_len (after history piece) t) (drop-sum at piece.len text) ∙ reach;
       read = read;
     }
 
@@ -163,7 +165,8 @@ took_by : {origin : Origin} → (text : Text) (history : History) (old : Reader)
     → new.stage ≡ stage.Onward → HandsPast text given new.pending (map (moved old.at) piece.lexemes) → IsReadPast origin text (left_here text history old) given new
 took_by text history old given new piece utf8 kept stands cuts nesting levels before is_at few is_onward hands =
     read_piece text (left_here text history old) history old.at given new piece (onward_stands history old.at (drop old.at text) piece (begun text history old kept) stands)
-    (kept_after text history old.at new piece utf8 kept.boundary stands nesting levels before is_at few (sym (history_onward history (drop old.at text) piece stands) ∙ kept.onward) (λ start. read_more text history old.at new.at piece (kept.read start) stands is_at)) is_at is_onward hands cuts
+    (kept_after text history old.at new piece utf8 kept.boundary stands nesting levels before is_at few (sym (history_onward history (drop old.at text) piece stands) ∙ kept.onward)
+    (omega (arith, reach_onward history (drop old.at text) piece stands, kept.reach)) (λ start. read_more text history old.at new.at piece (kept.read start) stands is_at)) is_at is_onward hands cuts
 
 -- no cut is in a piece that is no margin
 no_cut_in : (text : Text) (history : History) (at : ℕ) (piece : Piece) (read : IsReadTo text history at) → is_nothing history.before ≡ false → next_step language history (drop at text) ≡ Stands piece → is_layout piece.sort ≡ false
@@ -215,7 +218,7 @@ took_first widths text new piece utf8 stands cuts nesting levels before is_at fe
     let history = at_line widths in
     let here = line_first widths text ∙ stands in
     read_piece text (outcome_after history text) history 0 [] new piece (line_stands widths text piece stands)
-    (kept_after text history 0 new piece utf8 (IsCharBoundary-start text utf8) here nesting levels before is_at few (sym (history_onward history text piece here))
+    (kept_after text history 0 new piece utf8 (IsCharBoundary-start text utf8) here nesting levels before is_at few (sym (history_onward history text piece here)) (omega (arith, reach_onward history text piece here))
     (λ start. subst (λ ws. IsReadTo text (after (at_line ws) piece) new.at) (sym (none_open widths start)) (read_first text new.at piece (start_step widths text (Stands piece) stands start) is_at))) is_at is_onward hands cuts
 
 pub piece_inside : {origin : Origin} → (text : Text) (history : History) (old : Reader) (piece : Piece) → IsStateAfter origin text history old → step_here text history old ≡ Stands piece → (old.at < old.at + piece.len) × (old.at + piece.len ≤ length text)
@@ -272,16 +275,17 @@ read_fault {origin = origin} text whole at lexemes new fault error left view is 
 }
 
 -- after a piece all is stored
-at_fault : {origin : Origin} → (text : Text) (new : Reader) → IsStateAfter origin text (history_since origin text) new → IsStateAtFault origin text new
-at_fault text new now = record { levels = now.levels; whole = λ standing. now }
+at_fault : {origin : Origin} → (text : Text) (new : Reader) → IsStateAfter origin text (history_since origin text) new → new.at ≡ reach_since origin text → IsStateAtFault origin text new
+at_fault text new now at = record { levels = now.levels; whole = λ standing. now; at = λ standing. at }
 
 pub failed : {origin : Origin} → (text : Text) (history : History) (old new : Reader) (fault : Spanned grammar.Fault) (error : LexemeError) → IsStateAfter origin text history old → step_here text history old ≡ Fails fault → fault_view error ≡ Some fault.node
     → new.stage ≡ stage.Fault (old.at + fault.begin) error (old.at + fault.end) → Hands text None new.pending [] → IsHere old new → IsRead origin text (left_here text history old) None new
 failed {origin = origin} text history old new fault error kept fails view is hands here =
     let whole = sym (history_stops history (drop old.at text) (Fails fault) fails (λ piece e. cc)) ∙ kept.onward in
     let now = kept_here text history old new here kept in
+    let at : new.at ≡ reach_since origin text = omega (arith, here.at, kept.reach, reach_stops history (drop old.at text) (Fails fault) fails (λ piece e. cc)) in
     read_fault text (left_here text history old) old.at [] new fault error (onward_fails history old.at (drop old.at text) fault (begun text history old kept) fails) view is hands
-    (λ start. same_place old new here.at here.before ∙ state_begun text history old kept start) now.inside (at_fault text new (subst (λ (h : History). IsStateAfter origin text h new) whole now)) (omega (arith, here.at)) (λ start x remainder cut most. omega (arith, most))
+    (λ start. same_place old new here.at here.before ∙ state_begun text history old kept start) now.inside (at_fault text new (subst (λ (h : History). IsStateAfter origin text h new) whole now) at) (omega (arith, here.at)) (λ start x remainder cut most. omega (arith, most))
 
 pub failed_first : (widths : List ℕ) (text : Text) (new : Reader) (fault : Spanned grammar.Fault) (error : LexemeError) → first_margin (open_widths widths) text ≡ Fails fault → fault_view error ≡ Some fault.node
     → new.stage ≡ stage.Fault (0 + fault.begin) error (0 + fault.end) → Hands text None new.pending (margin_of text).comments → new.at ≡ 0 → new.before ≡ sort.Other → new.levels ≡ open_widths widths
@@ -289,7 +293,7 @@ pub failed_first : (widths : List ℕ) (text : Text) (new : Reader) (fault : Spa
 failed_first widths text new fault error fails view is hands at before levels =
     let stays = history_stops (at_line widths) text (Fails fault) (line_first widths text ∙ fails) (λ piece e. cc) in
     let refused : begins_with_fault (Line widths) text ≡ true = ap is_refused fails in
-    let state : IsStateAtFault (Line widths) text new = record { levels = levels ∙ ap (λ (h : History). open_widths h.widths) (sym stays); whole = λ standing. absurd (both_ways _ standing refused) } in
+    let state : IsStateAtFault (Line widths) text new = record { levels = levels ∙ ap (λ (h : History). open_widths h.widths) (sym stays); whole = λ standing. absurd (both_ways _ standing refused); at = λ standing. absurd (both_ways _ standing refused) } in
     read_fault text (outcome_after (at_line widths) text) 0 (margin_of text).comments new fault error (line_fails widths text fault fails) view is hands tab (omega (arith, at)) state (omega (arith, at)) (λ start x remainder cut most. none_at_fault text fault (start_step widths text (Fails fault) fails start) x remainder cut)
   where
     tab : Line widths ≡ Start → has_read_none new ≡ begins_with_tab text

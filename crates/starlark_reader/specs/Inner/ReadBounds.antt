@@ -2,7 +2,7 @@
 use Rattle.std.specs.Prelude.{◌≡◌, ◌≤◌, ◌<◌, ◌+◌, ◌-◌, ◌*◌, if◌then◌else◌, Bool, true, false, ℕ, Option, None, Some, length, ⊤}
 use Rattle.starlark_grammar.specs.AfterFaults.{is_margin_tab, is_tab, restart}
 use Rattle.starlark_grammar.specs.Inner.KeptFaults.{may_keep}
-use Rattle.starlark_grammar.specs.KeptLines.{passed_end}
+use Rattle.starlark_grammar.specs.KeptLines.{is_bad_escape, passed_end}
 use Rattle.starlark_grammar.specs.Tokens.{Fault, Spanned}
 use Rattle.starlark_grammar.specs.Words.{Text}
 use Rattle.starlark_token.specs.Lexemes.{fault_view}
@@ -63,11 +63,17 @@ AreWordReads passed factor more line extra (step.Fault begin fault end) before a
 abbrev pub AtFault : ℕ → LexemeError → ℕ → (Spanned Fault → Type 0) → Type 0
 AtFault begin fault end P = (node : Fault) → fault_view fault ≡ Some node → P (record { begin = begin; node = node; end = end })
 
+-- reads up to a bad escape in a literal, after `spent` others, are at most ten for each byte before
+-- it, one for each of its own, and six more
+abbrev pub LeavesEscape : (spent : ℕ) → Spanned Fault → (before after : ℕ) → Type 0
+LeavesEscape spent fault before after = is_bad_escape fault.node ≡ true → after + spent ≤ before + 10 * fault.begin + (fault.end - fault.begin) + 6
+
 -- reads up to a fault that may keep its line, after `spent` others, leave one for each byte that is
--- passed with it and one more: all are at most ten for each of these bytes
+-- passed with it and one more: all are at most ten for each of these bytes; and a bad escape leaves
+-- reads for what is left of its literal
 abbrev pub LeavesReads : (spent : ℕ) → Text → ReadStep → (before after : ℕ) → Type 0
 LeavesReads spent text (step.Fault begin fault end) before after =
-    AtFault begin fault end (λ spanned. may_keep spanned.node ≡ true → after + spent + (passed_end text spanned - begin) + 1 ≤ before + 10 * (passed_end text spanned - begin))
+    AtFault begin fault end (λ spanned. (may_keep spanned.node ≡ true → after + spent + (passed_end text spanned - begin) + 1 ≤ before + 10 * (passed_end text spanned - begin)) × LeavesEscape spent spanned before after)
 LeavesReads spent text step before after = ⊤
 
 -- the reader advanced to byte `at`, and read nothing
@@ -104,9 +110,18 @@ abbrev pub most_reads_to : Text → Spanned Fault → ℕ
 most_reads_to text fault = 16 * (restart text fault + 1)
 
 -- reads at a fault that keeps its line leave one for each byte that is passed with it and one more:
--- all are at most ten for each byte up to the last of these and two more
+-- all are at most ten for each byte up to the last of these and two more; and at a bad escape in a
+-- literal they are at most ten for each byte before it, one for each of its own, and eight more
 abbrev pub LeavesPassed : (text : Text) → Spanned Fault → (reads : ℕ) → Type 0
-LeavesPassed text fault reads = may_keep fault.node ≡ true → is_margin_tab text fault ≡ false → reads + (passed_end text fault - fault.begin) + 1 ≤ 10 * passed_end text fault + 2
+LeavesPassed text fault reads =
+    (may_keep fault.node ≡ true → is_margin_tab text fault ≡ false → reads + (passed_end text fault - fault.begin) + 1 ≤ 10 * passed_end text fault + 2)
+    × (is_bad_escape fault.node ≡ true → reads ≤ 10 * fault.begin + (fault.end - fault.begin) + 8)
+
+-- reads of a literal's body after an opening of `passed` bytes, up to its bad escape
+abbrev pub AreEscapeReads : (passed : ℕ) → ReadStep → (before after : ℕ) → Type 0
+AreEscapeReads passed (step.Fault begin fault end) before after =
+    AtFault begin fault end (λ spanned. is_bad_escape spanned.node ≡ true → (passed ≤ begin) × (after ≤ before + 8 * (begin - passed) + (end - begin) + 6))
+AreEscapeReads passed step before after = ⊤
 
 -- the margin after a newline of `len` bytes was read; at its fault, the bound includes the search
 abbrev pub IsMarginRead : Text → ℕ → Reader → Reader → Stage → Type 0
@@ -114,7 +129,7 @@ IsMarginRead text len old new stage.Onward =
     AreReads (new.at - (old.at + len)) (5 * (new.at - (old.at + len)) + 5) old.reads new.reads × (old.at + len + owed new.pending ≤ new.at)
 IsMarginRead text len old new (stage.Fault begin fault end) =
     (begin ≡ old.at) × (more_reads old.reads 0 ≤ new.reads)
-    × AtFault begin fault end (λ spanned. (new.reads + search_reads text spanned + 5 * len ≤ old.reads + 10 * (restart text spanned - old.at) + 8) × (owed new.pending ≡ 0) × (old.at ≤ restart text spanned) × (may_keep spanned.node ≡ true → is_margin_tab text spanned ≡ true))
+    × AtFault begin fault end (λ spanned. (new.reads + search_reads text spanned + 5 * len ≤ old.reads + 10 * (restart text spanned - old.at) + 8) × (owed new.pending ≡ 0) × (old.at ≤ restart text spanned) × (may_keep spanned.node ≡ true → is_margin_tab text spanned ≡ true) × (is_bad_escape spanned.node ≡ false))
 IsMarginRead text len old new stage = ⊥
 
 -- the reads at a stage: one to ten for each byte passed; at a fault one or more

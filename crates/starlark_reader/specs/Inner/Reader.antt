@@ -12,7 +12,7 @@ use Rattle.starlark_grammar.specs.Pieces as pieces
 use Rattle.starlark_grammar.specs.Pieces.{Before, Fails, Gap, Layout, Other, Step, Piece, counts, first_margin, is_bang}
 use Rattle.starlark_words.specs.Inner.ScannedWords.{word_view}
 use Rattle.starlark_words.specs.declared.scanner.word.Word.{Word}
-use Rattle.starlark_grammar.specs.Reading.{History, after_all, history_after, nothing, pieces_len, next_step, outcome_after}
+use Rattle.starlark_grammar.specs.Reading.{History, after_all, history_after, nothing, pieces_len, next_step, outcome_after, read_len}
 use Rattle.starlark_grammar.specs.Longest.{IsReading}
 use Rattle.starlark_token.specs.Lexemes.{fault_view, lexeme_view, shown_lexeme}
 use Rattle.starlark_reader.specs.Inner.MarginCuts.{IsAfterLines, IsCutBefore, IsMarginAhead}
@@ -74,6 +74,10 @@ outcome_since (From history at) text = remaining_outcome history at (drop at tex
 abbrev pub history_since : Origin → Text → History
 history_since origin text = history_after (history_before origin) (drop (begin_of origin) text)
 
+-- the offset up to which those pieces reach
+abbrev pub reach_since : Origin → Text → ℕ
+reach_since origin text = begin_of origin + read_len (history_before origin) (drop (begin_of origin) text)
+
 -- the kind of the last piece, as the grammar names it
 abbrev pub before_view : code.Before → Before
 before_view before.Layout = Layout
@@ -102,6 +106,7 @@ pub record IsStateAfter (origin : Origin) (text : Text) (history : History) (rea
   pub boundary : IsCharBoundary text reader.at
   pub few : bracket_count reader.nesting ≤ reader.at
   pub onward : history_after history (drop reader.at text) ≡ history_since origin text
+  pub reach : reader.at + read_len history (drop reader.at text) ≡ reach_since origin text
   pub read : origin ≡ Start → IsReadTo text history reader.at
 
 -- whether a text's first margin has a tab before content, which is a fault
@@ -117,11 +122,12 @@ abbrev pub begins_with_fault : Origin → Text → Bool
 begins_with_fault (Line widths) text = is_refused (first_margin (open_widths widths) text)
 begins_with_fault (From history at) text = false
 
--- at a fault the reader stores the open widths; and all that the history of all pieces says, unless the fault is in the first
--- margin
+-- at a fault the reader stores the open widths; and its offset is where the pieces end, and it stores all that their history
+-- says, unless the fault is in the first margin
 pub record IsStateAtFault (origin : Origin) (text : Text) (reader : Reader) : Type 0 where
   pub levels : reader.levels ≡ open_widths (history_since origin text).widths
   pub whole : begins_with_fault origin text ≡ false → IsStateAfter origin text (history_since origin text) reader
+  pub at : begins_with_fault origin text ≡ false → reader.at ≡ reach_since origin text
 
 -- the history after a fault that keeps its line: all stays open, and its last piece is neither a margin nor a gap
 abbrev pub kept_history : History → History

@@ -3,7 +3,7 @@
 ghost use Rattle.std.specs.Prelude.{◌≡◌, ◌+◌, ◌*◌, ◌<◌, ◌≤◌, ◌^◌, ℕ, Some, false, length, not, IfOk};
 ghost use Rattle.starlark_reader.specs.Inner.StepViews.{IsStep, fault_step, literal_step};
 ghost use Rattle.starlark_reader.specs.Inner.Nesting.{mode_view};
-ghost use Rattle.starlark_reader.specs.Inner.ReadBounds.{AreWordReads, IsFaultAt, is_tab_error};
+ghost use Rattle.starlark_reader.specs.Inner.ReadBounds.{AreEscapeReads, AreWordReads, IsFaultAt, is_tab_error};
 ghost use Rattle.starlark_words.specs.Inner.Reads.{AreReads, more_reads};
 ghost use Rattle.starlark_token.specs.Lexemes.{fault_view};
 ghost use Rattle.starlark_words.specs.Inner.LiteralViews.{literal_view};
@@ -92,6 +92,7 @@ pub(crate) fn literal_piece(
     requires run { IsRun (literal_view literal) remainder.now run }
     ensures step { IfOk result (λ found. IsStep (grammar.literal (mode_view mode) literal.kind (opening_view literal.opening) len remainder.now) (literal_step found)) }
     ensures reads { IfOk result (λ found. (before : ℕ) → AreReads run (8 * run) before reads.old → AreWordReads len 9 0 0 6 (literal_step found) before reads.new) }
+    ensures escape { IfOk result (λ found. (before : ℕ) → AreReads run (8 * run) before reads.old → AreEscapeReads len (literal_step found) before reads.new) }
 {
     let body = read_body(reads, alloc, literal, run, remainder)?;
     match body.stop {

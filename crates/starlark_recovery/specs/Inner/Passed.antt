@@ -7,6 +7,8 @@ use Rattle.starlark_grammar.specs.Tokens.{Fault, Spanned, moved}
 use Rattle.starlark_grammar.specs.Words.{Text}
 use Rattle.starlark_lexemes.specs.Lexer.{search_reads}
 use Rattle.starlark_grammar.specs.Recovery.{restart}
+use Rattle.starlark_grammar.specs.KeptLines as grammar
+use Rattle.starlark_recovery.specs.declared.literal_rests.LiteralRest.{LiteralRest}
 use Rattle.starlark_recovery.specs.declared.passed_faults.Passed.{Passed}
 use Rattle.starlark_errors.specs.Exceptions.{IsException}
 use Rattle.starlark_words.specs.Inner.Reads.{AreReads}
@@ -26,10 +28,23 @@ error_keeps_line text begin (error.InvalidInput character) follows_comment = not
 error_keeps_line text begin error.InvalidTab follows_comment = not (begin == 0 || begins_with_line_end (drop begin text))
 error_keeps_line text begin it follows_comment = false
 
--- a fault of a text's part from byte `begin` on was passed: its exception is moved, and lexing goes on after its line, which
--- was searched for
-pub record HasPassed (file : SourceFile) (text : Text) (begin : ℕ) (fault : Spanned Fault) (passed : Passed) : Type 0 where
+-- whether an error is a bad escape in a literal of text or bytes
+abbrev pub is_bad_escape_error : LexemeError → Bool
+is_bad_escape_error (error.InvalidEscapeSequence text) = not (bytes_eq (string_bytes text) (codes "\\"))
+is_bad_escape_error it = false
+
+-- what is left of a literal, as the grammar sees it
+abbrev pub rest_view : LiteralRest → grammar.LiteralRest
+rest_view rest = record { len = rest.len; is_closed = rest.is_closed }
+
+-- the fault, up to another offset
+abbrev pub up_to : ℕ → Spanned Fault → Spanned Fault
+up_to end fault = record fault { end = end }
+
+-- a fault of a text's part from byte `begin` on was passed, up to byte `end` of the part: its exception is moved, and lexing
+-- goes on after the line there, which was searched for
+pub record HasPassed (file : SourceFile) (text : Text) (begin : ℕ) (fault : Spanned Fault) (end : ℕ) (passed : Passed) : Type 0 where
   pub exception : IsException file (moved begin fault) passed.fault
-  pub from : passed.begin ≡ begin + restart (drop begin text) fault
+  pub from : passed.begin ≡ begin + restart (drop begin text) (up_to end fault)
   pub boundary : IsCharBoundary text passed.begin
-  pub reads : AreReads 1 (search_reads (drop begin text) fault) 0 passed.reads
+  pub reads : AreReads 1 (search_reads (drop begin text) (up_to end fault)) 0 passed.reads

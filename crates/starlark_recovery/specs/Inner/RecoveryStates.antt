@@ -1,10 +1,10 @@
 -- The state of a lexer that goes on after faults, and what is left to it.
-use Rattle.std.specs.Prelude.{◌≡◌, ◌≤◌, ◌<◌, ◌^◌, ◌+◌, ◌==◌, ◌&&◌, ◌||◌, ℕ, zero, suc, Bool, true, false, List, [], ◌∷◌, map, length, drop, take, if◌then◌else◌, Option, None, Some, IfSome, Result, ⊤}
+use Rattle.std.specs.Prelude.{◌≡◌, ◌≤◌, ◌<◌, ◌^◌, ◌+◌, ◌*◌, ◌==◌, ◌&&◌, ◌||◌, ℕ, zero, suc, Bool, true, false, List, [], ◌∷◌, map, length, drop, take, if◌then◌else◌, Option, None, Some, IfSome, Result, ⊤}
 use Rattle.std.specs.Str.{IsCharBoundary, IsUtf8}
 use Rattle.starlark_base.specs.Diagnostics.{Diagnosed}
 use Rattle.starlark_grammar.specs.Found as items
 use Rattle.starlark_grammar.specs.Found.{Given, Item, Refused, found_after, moved_item}
-use Rattle.starlark_grammar.specs.KeptLines.{ends_by_comment, keeps_line}
+use Rattle.starlark_grammar.specs.KeptLines.{closes_literal, ends_by_comment, keeps_line, with_literal_at}
 use Rattle.starlark_grammar.specs.Margins.{open_widths}
 use Rattle.starlark_grammar.specs.Pieces.{Other}
 use Rattle.starlark_grammar.specs.Tokens as grammar
@@ -95,12 +95,24 @@ pub record IsRest (begin : ℕ) (part : Text) (origin : Origin) : Type 0 where
 abbrev pub rest_keeps : Origin → Text → Spanned Fault → Bool
 rest_keeps origin part fault = keeps_line (history_before origin).before part (course_of origin part).lexemes fault
 
+-- The fault at which the reader stopped in the part, with all of its literal if it is a bad escape, …
+abbrev pub with_literal_here : RecoveryState → Spanned Fault → Spanned Fault
+with_literal_here state fault = with_literal_at state.state.reader.at (part_of state) fault
+
+-- … and whether all stays open after it.
+abbrev pub stays_open_here : RecoveryState → Origin → Spanned Fault → Bool
+stays_open_here state origin fault = rest_keeps origin (part_of state) fault || closes_literal state.state.reader.at (part_of state) fault
+
 -- the text is short, and the part, which the reader has, begins between characters
 pub record IsPart (state : RecoveryState) : Type 0 where
   pub fits : length state.text.now < 2 ^ 32
   pub utf8 : IsUtf8 state.text.now
   pub boundary : IsCharBoundary state.text.now state.begin
   pub own : state.state.reader.text.now ≡ part_of state
+
+-- After a fault lexing may go on at byte `end` of the part, which so many reads found.
+abbrev pub IsPaidTo : RecoveryState → Spanned Fault → (end looked : ℕ) → Type 0
+IsPaidTo state fault end looked = (end ≤ fault.begin + looked) × (state.state.reader.reads + looked + 1 ≤ 10 * end + 2)
 
 -- what is left, by what was told
 abbrev pub IsLeftOf : RecoveryState → Origin → Type 0

@@ -1,5 +1,5 @@
 use Rattle.std.proofs.Common.{◌≡◌, ◌+◌, ◌-◌, ◌∙◌, ap, arith, length, refl, sym, rules}
-use Rattle.starlark_reader.proofs.ReadLiterals.StepReads.{body_reads, closing_some, fault_reads}
+use Rattle.starlark_reader.proofs.ReadLiterals.StepReads.{body_reads, closing_some, escape_reads, fault_reads}
 use Rattle.starlark_grammar.specs.Items as grammar
 use Rattle.starlark_grammar.specs.Tokens.{UnfinishedStringLiteral}
 use Rattle.starlark_words.specs.Inner.LiteralViews.{bytes_of, holds_text, least_stop_reads, literal_view, stop_view, stopped_len}
@@ -52,6 +52,14 @@ returns-in_ok-escape_fault-in-BadEscape-clause-reads c = λ before known.
     let end = begin + 1 + length c.range-escape.result.now in
     let reads = body_reads c.args.run c.in_ok-body.body.len (least_stop_reads c.in_ok-body.body.stop) (stopped_len c.in_ok-body.body.stop) 6 0 before _ _ c.in_ok-body.ensures.more (known.0, omega (arith, known.1)) c.in_ok-body.ensures.reads in
     fault_reads c.args.len 9 0 0 6 begin end c.in_ok-escape_fault-in-BadEscape.field-0 _ _ c.in_ok-escape_fault-in-BadEscape.ensures.fault (omega arith) (omega (arith, reads.0), omega (arith, fits.0, read, ap stopped_len c.in-BadEscape.is, reads.1))
+
+pub returns-in_ok-escape_fault-in-BadEscape-clause-escape : goal.returns-in_ok-escape_fault-in-BadEscape-clause-escape
+returns-in_ok-escape_fault-in-BadEscape-clause-escape c = λ before known.
+    let stop : (grammar.body_at (literal_view c.args.literal) c.args.remainder.now).stop ≡ grammar.BadEscape c.in-BadEscape.read c.in-BadEscape.last = sym c.in_ok-body.ensures.body.stop ∙ ap stop_view c.in-BadEscape.is in
+    let fits = bad_fits (literal_view c.args.literal) c.args.remainder.now c.in_ok-body.body.len c.in-BadEscape.read c.in-BadEscape.last c.in_ok-body.ensures.body.len stop in
+    let read : length c.range-escape.result.now ≡ c.in-BadEscape.read - 1 = omega (arith, fits.0, fits.1, c.range-escape.ensures.len) in
+    let reads = body_reads c.args.run c.in_ok-body.body.len (least_stop_reads c.in_ok-body.body.stop) (stopped_len c.in_ok-body.body.stop) 6 0 before _ _ c.in_ok-body.ensures.more (known.0, omega (arith, known.1)) c.in_ok-body.ensures.reads in
+    escape_reads c.args.len c.in_ok-body.body.len (c.args.len + c.in_ok-body.body.len + 1 + length c.range-escape.result.now) c.in_ok-escape_fault-in-BadEscape.field-0 before _ c.in_ok-escape_fault-in-BadEscape.ensures.fault (omega (arith, fits.0, read, ap stopped_len c.in-BadEscape.is, reads.1))
 
 -- the step of a literal that its quotes close
 closed : (c : In-Closing) (it : Token) → token_view it ≡ Whole (literal_token c.args.literal.kind (bytes_of c.in_ok-body.body.value))

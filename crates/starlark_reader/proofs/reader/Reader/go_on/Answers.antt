@@ -21,6 +21,7 @@ returns-clause-ahead c = λ origin text history kept order boundary.
           boundary = boundary;
           few = omega (arith, kept.few, order);
           onward = refl;
+          reach = refl;
           read = λ start. cc;
         },
         refl,
@@ -34,4 +35,4 @@ returns-clause-ahead c = λ origin text history kept order boundary.
 
 pub returns-clause-reads : goal.returns-clause-reads
 returns-clause-reads c = λ text least most.
-    (omega (arith, least, c.count_run.ensures, c.requires.order), omega (arith, most, c.count_run.ensures, (c.nothing-self.ensures []).1.inside))
+    (omega (arith, least, c.count_run.ensures), omega (arith, most, c.count_run.ensures, (c.nothing-self.ensures []).1.inside))

@@ -1,4 +1,4 @@
-use Rattle.std.proofs.Common.{◌≡◌, ◌≢◌, subst, arith, ◌+◌, ◌*◌, ℕ, ap, drop, false, None, Option, Some, refl, sym, take, true, ◌∙◌}
+use Rattle.std.proofs.Common.{◌≡◌, ◌≤◌, ◌≢◌, subst, arith, ◌+◌, ◌*◌, ℕ, ap, drop, false, None, Option, Some, refl, sym, take, true, ◌∙◌}
 use Rattle.starlark_grammar.proofs.KeptLines.Faults.{opener_lost}
 use Rattle.starlark_grammar.specs.AfterFaults.{next_line}
 use Rattle.starlark_grammar.specs.Front.{language_front}
@@ -19,19 +19,19 @@ use Rattle.starlark_words.proofs.LiteralBodies.PlainBodies.{empty_run, no_run_be
 use Rattle.starlark_words.specs.Inner.LiteralViews.{single_literal}
 use Rattle.starlark_words.specs.Inner.PlainRuns.{IsRun}
 use Rattle.starlark_words.specs.Inner.Reads.{AreReads, more_reads}
-use Rattle.starlark_reader.specs.Inner.ReadBounds.{AreWordReads, HasRead, IsPassed}
+use Rattle.starlark_reader.specs.Inner.ReadBounds.{AreEscapeReads, AreWordReads, HasRead, IsPassed}
 use Rattle.starlark_reader.specs.Inner.StepViews as steps
 use Rattle.starlark_reader.specs.Inner.StepViews.{IsStep, ReadStep, literal_step}
 use Rattle.starlark_grammar.specs.Inner.Openings.{opening_view}
 use Rattle.starlark_grammar.specs.declared.class.LiteralKind.TheVariants.{FString as OfFString}
 use Rattle.starlark_grammar.specs.declared.class.Opening.{Opening}
 use Rattle.starlark_reader.proofs.TakenMargins.PendingLexemes.{after_error}
-use Rattle.starlark_reader.proofs.TakenPieces.CodePlaces.{word_cut}
+use Rattle.starlark_reader.proofs.TakenPieces.CodePlaces.{word_cut, word_some}
 use Rattle.starlark_reader.proofs.TakenPieces.NextLexeme.{onward_something}
 use Rattle.starlark_reader.proofs.TakenPieces.PieceReads.{opener_reads}
 use Rattle.starlark_reader.proofs.TakenPieces.PieceTaken.{refused_fits, refused_read}
 use Rattle.starlark_reader.proofs.TakenPieces.ReaderReads.{state_reads}
-use Rattle.starlark_reader.proofs.TakenPieces.KeptReads.{never_kept}
+use Rattle.starlark_reader.proofs.TakenPieces.KeptReads.{escape_leaves}
 use Rattle.starlark_reader.proofs.TakenPieces.SameTexts.{state_here, taken_here}
 use Rattle.starlark_reader.proofs.TakenPieces.WordSteps.{literal_here, word_step_reads}
 use Rattle.starlark_reader.proofs.reader.Reader.read_literal.Goals as goal
@@ -110,6 +110,19 @@ step_reads c opened = λ before read.
           single_reads c.args.opener.len step before (more_reads before 2) _ refl (rw same at (c.in_ok-found.ensures.reads (more_reads before 2) (rw c.opening_of-opening.ensures.reads (later_reads c.args.run (8 * c.args.run) before c.args.self.now.reads read))))
     ]
 
+-- and those up to a bad escape
+escape_reads : (c : In_ok-found) → Known c → (before : ℕ) → AreReads c.args.run (8 * c.args.run) before c.args.self.now.reads
+    → (between : ℕ) × (between ≤ before + 2) × AreEscapeReads (c.args.opener.len + c.if-opening.quotes) (literal_step c.in_ok-found.found) between c.literal_piece.new.reads
+escape_reads c opened = λ before read.
+    let triple = ap (λ (opening : grammar_tokens.Opening). opening.is_triple) c.opening_of-opening.ensures.opening in
+    elim c.if-opening.branch [
+      | then-opening w ↦
+          let none = no_run_before_quotes c.in-Opener.kind c.in-Opener.is_raw c.in-Opener.quote c.range_from-remainder.result.now c.args.run opened.1 (sym triple ∙ w.if-opening.true) in
+          (c.opening_of-opening.new.reads, omega (arith, c.opening_of-opening.ensures.reads, none, read.1), c.in_ok-found.ensures.escape c.opening_of-opening.new.reads (omega arith, omega arith))
+      | else-opening w ↦
+          (more_reads before 2, omega arith, c.in_ok-found.ensures.escape (more_reads before 2) (rw c.opening_of-opening.ensures.reads (later_reads c.args.run (8 * c.args.run) before c.args.self.now.reads read)))
+    ]
+
 pub returns-in_err-found-clause-memory : goal.returns-in_err-found-clause-memory
 returns-in_err-found-clause-memory c = after_error c.from_residual.result _ (λ origin lexemes fault ahead. onward_something c.args.self.now.text.now c.args.self.now lexemes fault c.requires.found.0.idle c.requires.found.0.stage ahead)
 
@@ -140,9 +153,12 @@ reads_after c opened step new is passed =
     let mode = mode_view c.mode-mode.result in
     let opening = grammar.opening_of c.in-Opener.is_raw c.in-Opener.quote c.range_from-remainder.result.now in
     let parts = split_reads c.args.opener.len c.args.run peeked.0 old.reads peeked.2 in
+    let escape = escape_reads c opened parts.0 parts.2 in
+    let some = word_some (drop old.at text) word.class c.args.opener.len (sym stands.front) in
     word_step_reads text peeked.0 parts.0 c.literal_piece.new.reads left.1 word step old new left.2 stands (rw is at (read_here c opened left.1 left.2)) peeked.1 parts.1
     (opener_reads c.args.opener.len (next_line front 0) step parts.0 c.literal_piece.new.reads (rw is at (step_reads c opened parts.0 parts.2)))
-    (never_kept (5 * c.args.opener.len + 3) front (grammar.opener mode c.in-Opener.kind opening c.args.opener.len c.range_from-remainder.result.now) step parts.0 c.literal_piece.new.reads (rw is at (read_step c opened)) (opener_lost mode c.in-Opener.kind opening c.args.opener.len c.range_from-remainder.result.now))
+    (escape_leaves (c.args.opener.len + c.if-opening.quotes) c.args.opener.len (5 * c.args.opener.len + 3) front (grammar.opener mode c.in-Opener.kind opening c.args.opener.len c.range_from-remainder.result.now) step parts.0 escape.0 c.literal_piece.new.reads
+    (rw is at (read_step c opened)) (opener_lost mode c.in-Opener.kind opening c.args.opener.len c.range_from-remainder.result.now) some (omega arith) (omega arith) escape.1 (rw is at escape.2))
     passed
 
 pub take_token-requires : goal.take_token-requires

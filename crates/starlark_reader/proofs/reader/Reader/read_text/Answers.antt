@@ -21,8 +21,8 @@ use Rattle.starlark_reader.proofs.TakenMargins.PendingLexemes.{after_error}
 use Rattle.starlark_reader.proofs.TakenPieces.NextLexeme.{onward_something}
 use Rattle.starlark_reader.proofs.TakenPieces.PieceReads.{chunk_reads}
 use Rattle.starlark_reader.proofs.TakenPieces.ReaderReads.{state_reads, step_reads}
-use Rattle.starlark_grammar.proofs.KeptLines.Faults.{step_keeps}
-use Rattle.starlark_reader.proofs.TakenPieces.KeptReads.{chunk_keeps_none, never_kept}
+use Rattle.starlark_grammar.proofs.KeptLines.Faults.{step_escapes, step_keeps}
+use Rattle.starlark_reader.proofs.TakenPieces.KeptReads.{chunk_good, chunk_keeps_none, never_kept}
 use Rattle.starlark_reader.proofs.TakenPieces.SameTexts.{state_here, taken_here}
 use Rattle.starlark_reader.proofs.TakenPieces.PieceTaken.{refused_fits, refused_read}
 use Rattle.starlark_reader.proofs.TakenPieces.WordSteps.{chunk_here, same_opening}
@@ -118,5 +118,5 @@ returns-in-Err-clause-reads c =
     let step = steps.Fault c.in-Err.begin c.in-Err.fault c.in-Err.end in
     let is = ap chunk_step c.in-Err.is in
     step_reads old.text.now peeked.0 left.1 step (at_text at) c.refuse.new.self (state_reads old.text.now left.1 old c.chunk_from.new.reads left.2) (read_here at step is left.1 left.2) peeked.1
-    (chunk_reads (next_line rest 0) step peeked.0 c.chunk_from.new.reads (rw is at (c.in_ok-found.ensures.reads peeked.0 peeked.2))) (never_kept 0 rest _ step peeked.0 c.chunk_from.new.reads (read_here at step is left.1 left.2) (ap step_keeps (here at left.1 left.2) ∙ chunk_keeps_none opening c.range_from-rest.result.now))
+    (chunk_reads (next_line rest 0) step peeked.0 c.chunk_from.new.reads (rw is at (c.in_ok-found.ensures.reads peeked.0 peeked.2))) (never_kept 0 rest _ step peeked.0 c.chunk_from.new.reads (read_here at step is left.1 left.2) (ap step_keeps (here at left.1 left.2) ∙ chunk_keeps_none opening c.range_from-rest.result.now) (ap step_escapes (here at left.1 left.2) ∙ chunk_good opening c.range_from-rest.result.now))
     (rw c.refuse.ensures ((refl, refl, omega arith), refl))

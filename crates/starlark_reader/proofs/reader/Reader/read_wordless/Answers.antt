@@ -95,6 +95,6 @@ returns-clause-reads c = λ before has read.
     let end = c.character_len-end.result in
     let counted : AreStepReads 0 1 0 0 (wrong at) mid.reads after = search rules in
     let reads = none_reads rest (wrong at) before old.reads after (some at) read (omega (arith, scanned.3.0, counted.0), omega (arith, scanned.3.1, counted.1)) in
-    let leaves = none_leave 3 rest (wrong at) before old.reads after (omega (arith, read.1)) (character_leaves rest end (errors.InvalidInput c.in_ok-from_str.field-0) old.reads mid.reads after (omega (arith, character_some rest (some at), c.character_len-end.ensures.whole, ap (λ t. length (first_character t)) c.range_from-rest.ensures.value)) scanned.3 refl counted) in
+    let leaves = none_leave 3 rest (wrong at) before old.reads after (omega (arith, read.1)) (character_leaves rest end (errors.InvalidInput c.in_ok-from_str.field-0) old.reads mid.reads after (omega (arith, character_some rest (some at), c.character_len-end.ensures.whole, ap (λ t. length (first_character t)) c.range_from-rest.ensures.value)) scanned.3 refl refl counted) in
     subst (λ t. HasRead t c.refuse.new.self) (ap (λ t. t.now) c.bang_stands.ensures.text)
     (step_reads text before left.1 (wrong at) (record mid { reads = after }) c.refuse.new.self (state_reads text left.1 mid after left.2) is (omega (arith, has.0, scanned.0), omega (arith, has.1, scanned.0, scanned.2)) reads leaves (rw c.refuse.ensures ((refl, refl, omega arith), refl)))

@@ -2,6 +2,7 @@ use Rattle.std.proofs.Common.{◌≡◌, ◌+◌, ◌*◌, ◌<◌, ℕ, None, S
 use Rattle.std.proofs.Math.Nat.{sub-zero}
 use Rattle.starlark_grammar.specs.AfterFaults.{is_tab, next_line}
 use Rattle.starlark_grammar.specs.Front.{language_front}
+use Rattle.starlark_grammar.specs.KeptLines.{is_bad_escape}
 use Rattle.starlark_grammar.specs.Pieces as grammar
 use Rattle.starlark_grammar.specs.Reading.{History}
 use Rattle.starlark_grammar.specs.Tokens as tokens
@@ -53,11 +54,11 @@ record IsRefused (class : Class) (word : Text) (found : LexemeError × ℕ) : Ty
 
 -- of a word that the fault holds whole
 whole_refused : (class : Class) (word : Text) (error : LexemeError) (node : tokens.Fault) → 0 < length word → fault_view error ≡ Some node → ((s : grammar.Situation) (remainder : Text) → grammar.word_step s class word remainder ≡ grammar.fault 0 node (length word))
-    → is_tab_error error ≡ false → is_tab node ≡ false → IsRefused class word (error, length word)
-whole_refused class word error node some view step no_tab no_tab_node = record {
+    → is_tab_error error ≡ false → is_tab node ≡ false → is_bad_escape node ≡ false → IsRefused class word (error, length word)
+whole_refused class word error node some view step no_tab no_tab_node good = record {
   step = λ s remainder. (node, view, step s remainder);
   reads = λ reads. word_reads (length word) (next_line word 0) (steps.Fault 0 error (length word)) reads reads (omega arith) (omega arith) (refl, omega arith, no_tab);
-  leaves = λ reads. step_leaves (5 * length word + 3) word (grammar.fault 0 node (length word)) (steps.Fault 0 error (length word)) reads reads (node, view, refl) (word_leaves word (5 * length word + 3) (length word) node reads reads no_tab_node (omega (arith, some)));
+  leaves = λ reads. step_leaves (5 * length word + 3) word (grammar.fault 0 node (length word)) (steps.Fault 0 error (length word)) reads reads (node, view, refl) (word_leaves word (5 * length word + 3) (length word) node reads reads no_tab_node good (omega (arith, some)));
 }
 
 refused : (c : Joined-word) → IsRefused c.args.word.class c.range-text.result.now c.match-word.fault
@@ -77,9 +78,9 @@ refused c =
       })
       | in-Decimal+in_ok-text-in-Decimal w ↦
           let zero : grammar.starts_zero word ≡ true = rw w.in-Decimal.is at fault in
-          rw (w.fault-is, ← len, w.in-Decimal.is) (whole_refused class.Decimal word (error.StartsZero w.in_ok-text-in-Decimal.text) (StartsZero word) some (ap (λ text. Some (StartsZero text)) w.in_ok-text-in-Decimal.ensures.ok) (λ s remainder. rw zero refl) refl refl)
+          rw (w.fault-is, ← len, w.in-Decimal.is) (whole_refused class.Decimal word (error.StartsZero w.in_ok-text-in-Decimal.text) (StartsZero word) some (ap (λ text. Some (StartsZero text)) w.in_ok-text-in-Decimal.ensures.ok) (λ s remainder. rw zero refl) refl refl refl)
       | in_default+in_ok-text-in_default w ↦
-          rw (w.fault-is, ← len, reserved_only c.args.word.class word fault w.in_default.not-Tabs w.in_default.not-Decimal) (whole_refused class.Reserved word (error.ReservedKeyword w.in_ok-text-in_default.text) (ReservedKeyword word) some (ap (λ text. Some (ReservedKeyword text)) w.in_ok-text-in_default.ensures.ok) (λ s remainder. refl) refl refl)
+          rw (w.fault-is, ← len, reserved_only c.args.word.class word fault w.in_default.not-Tabs w.in_default.not-Decimal) (whole_refused class.Reserved word (error.ReservedKeyword w.in_ok-text-in_default.text) (ReservedKeyword word) some (ap (λ text. Some (ReservedKeyword text)) w.in_ok-text-in_default.ensures.ok) (λ s remainder. refl) refl refl refl)
     ]
 
 -- the step at the reader's offset
