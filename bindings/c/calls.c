@@ -21,6 +21,8 @@ struct starlark_document {
 PROVED(starlark_lex_version);
 PROVED(starlark_lex);
 PROVED(starlark_lex_front);
+PROVED(starlark_lex_uncopied);
+PROVED(starlark_lex_front_uncopied);
 PROVED(starlark_fault_is_final);
 PROVED(starlark_lex_recovering);
 PROVED(starlark_restart);
@@ -187,6 +189,24 @@ uint32_t starlark_lex_front(const uint8_t *front, size_t front_len, starlark_lex
     return proved_starlark_lex_front(input(front, front_len), front_len,
                                      output(lexemes, lexemes_cap), lexemes_cap,
                                      output(values, values_cap), values_cap, outcome);
+}
+
+uint32_t starlark_lex_uncopied(const uint8_t *text, size_t text_len, starlark_lexeme *lexemes,
+                               size_t lexemes_cap, uint8_t *values, size_t values_cap,
+                               starlark_outcome *outcome)
+{
+    return proved_starlark_lex_uncopied(input(text, text_len), text_len,
+                                        output(lexemes, lexemes_cap), lexemes_cap,
+                                        output(values, values_cap), values_cap, outcome);
+}
+
+uint32_t starlark_lex_front_uncopied(const uint8_t *front, size_t front_len,
+                                     starlark_lexeme *lexemes, size_t lexemes_cap, uint8_t *values,
+                                     size_t values_cap, starlark_outcome *outcome)
+{
+    return proved_starlark_lex_front_uncopied(input(front, front_len), front_len,
+                                              output(lexemes, lexemes_cap), lexemes_cap,
+                                              output(values, values_cap), values_cap, outcome);
 }
 
 bool starlark_fault_is_final(const uint8_t *front, size_t front_len, uint32_t fault_end)

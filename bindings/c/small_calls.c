@@ -95,6 +95,12 @@ static void try_null(void)
             "starlark_lex of NULL", 0);
     require(starlark_lex_front(NULL, 0, NULL, 0, NULL, 0, &outcome) == STARLARK_STATUS_FULL,
             "starlark_lex_front of NULL", 0);
+    require(starlark_lex_uncopied(NULL, 0, NULL, 0, NULL, 0, &outcome) == STARLARK_STATUS_FULL
+                && outcome.wanted_lexemes == 1 && outcome.wanted_values == 0,
+            "starlark_lex_uncopied of NULL", 0);
+    require(starlark_lex_front_uncopied(NULL, 0, NULL, 0, NULL, 0, &outcome)
+                == STARLARK_STATUS_FULL,
+            "starlark_lex_front_uncopied of NULL", 0);
     require(starlark_lex_recovering(NULL, 0, NULL, 0, NULL, 0, NULL, 0, &recovered)
                     == STARLARK_STATUS_FULL
                 && recovered.wanted_lexemes == 1 && recovered.wanted_faults == 0,

@@ -182,9 +182,9 @@ typedef struct starlark_lexeme {
     uint16_t kind;      /* an enum starlark_kind */
     uint16_t detail;    /* STARLARK_KIND_FSTRING_START: its quotes, an enum starlark_quotes;
                            STARLARK_KIND_INT with value_len > 0: the base of its digits;
-                           else 0 */
+                           a value that is in the text: STARLARK_IN_TEXT; else 0 */
     int32_t integer;    /* STARLARK_KIND_INT with value_len == 0: its value; else 0 */
-    size_t value_begin; /* offset of its value in the buffer of values */
+    size_t value_begin; /* offset of its value in the buffer of values, or in the text */
     size_t value_len;   /* length of its value in bytes, 0 for a kind without a value:
                            STARLARK_KIND_COMMENT: the text after `#`
                            STARLARK_KIND_IDENTIFIER: the name
@@ -195,6 +195,15 @@ typedef struct starlark_lexeme {
                                escapes decoded, in UTF-8
                            STARLARK_KIND_BYTES: the bytes with their escapes decoded */
 } starlark_lexeme;
+
+/* The field `detail` of a lexeme whose value is in the text, from the byte at `value_begin` on. Only
+ * starlark_lex_uncopied and starlark_lex_front_uncopied make such records. */
+#define STARLARK_IN_TEXT 0x8000
+
+/* Where the value of a lexeme begins, given a pointer to its record, and the text and the buffer of
+ * values of its call. It is right for the records of all calls. */
+#define STARLARK_VALUE(lexeme, text, values)                                                       \
+    (((lexeme)->detail == STARLARK_IN_TEXT ? (text) : (values)) + (lexeme)->value_begin)
 
 /* What a call of starlark_lex did. A field that names statuses is 0 with all others. */
 typedef struct starlark_outcome {
@@ -320,6 +329,30 @@ uint32_t starlark_lex_front(const uint8_t *front, size_t front_len,
                             starlark_lexeme *lexemes, size_t lexemes_cap,
                             uint8_t *values, size_t values_cap,
                             starlark_outcome *outcome) STARLARK_LEX_NOEXCEPT;
+
+/* Does all as starlark_lex, but copies no value that the text has at the end of its lexeme: the record
+ * has STARLARK_IN_TEXT, and `value_begin` is the offset of the value in the text. STARLARK_VALUE finds
+ * either kind. The text has to stay while values are read.
+ *
+ * The value of a name, of a comment, of a float and of a text of an f-string is in the text where its
+ * bytes are the last ones of the lexeme: so of each name, comment and float, and of a text without
+ * escapes, doubled braces and CRs. That of a string or bytes literal is where its bytes are right
+ * before the last byte of the lexeme, or else before the last three: so of each without escapes and
+ * CRs. All other values are in the buffer, one after another, as are the digits of an integer out of
+ * the range of int32_t, and the text that a fault names. */
+STARLARK_LEX_API
+uint32_t starlark_lex_uncopied(const uint8_t *text, size_t text_len,
+                               starlark_lexeme *lexemes, size_t lexemes_cap,
+                               uint8_t *values, size_t values_cap,
+                               starlark_outcome *outcome) STARLARK_LEX_NOEXCEPT;
+
+/* Does all as starlark_lex_front, but copies no value that the front has, as starlark_lex_uncopied
+ * does. `value_begin` counts from the first byte of the front. */
+STARLARK_LEX_API
+uint32_t starlark_lex_front_uncopied(const uint8_t *front, size_t front_len,
+                                     starlark_lexeme *lexemes, size_t lexemes_cap,
+                                     uint8_t *values, size_t values_cap,
+                                     starlark_outcome *outcome) STARLARK_LEX_NOEXCEPT;
 
 /* Returns whether the fault of a front, which ends at an offset, is final: then it and all lexemes
  * before it are those of the longer text, whatever follows the front. It is final where the front

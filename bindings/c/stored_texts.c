@@ -7,7 +7,8 @@
  * nothing is compared. Each text of at most 64 bytes is also lexed in pieces, with buffers of each
  * smaller size: the pieces joined have to be the whole, what a call says it wants has to be enough
  * for the next one, and nothing may be written outside of what a call tells. Each text is also
- * lexed front by front, a short one with fronts of each length. Up to the first fault of each text
+ * lexed front by front, a short one with fronts of each length. The calls without copies have to do
+ * the same, and to copy the values that the text doesn't have. Up to the first fault of each text
  * starlark_lex_recovering has to find what starlark_lex finds. After each of its faults, where a
  * caller begins anew there, starlark_restart has to return the next line.
  *
@@ -286,7 +287,7 @@ static void release(buffers given)
     free(given.values);
 }
 
-/* starlark_lex or starlark_lex_front. */
+/* starlark_lex or starlark_lex_front, or one of them without copies. */
 typedef uint32_t lex_call(const uint8_t *, size_t, starlark_lexeme *, size_t, uint8_t *, size_t,
                           starlark_outcome *);
 
@@ -330,12 +331,63 @@ static bool is_same(const lexed *whole, size_t index, size_t from, const starlar
                     const uint8_t *values)
 {
     const starlark_lexeme *wanted = &whole->into.lexemes[index];
+    uint16_t detail = lexeme->detail == STARLARK_IN_TEXT ? 0 : lexeme->detail;
     return lexeme->begin + from == wanted->begin && lexeme->end + from == wanted->end
-           && lexeme->kind == wanted->kind && lexeme->detail == wanted->detail
+           && lexeme->kind == wanted->kind && detail == wanted->detail
            && lexeme->integer == wanted->integer && lexeme->value_len == wanted->value_len
-           && memcmp(values + lexeme->value_begin, whole->into.values + wanted->value_begin,
-                     wanted->value_len)
+           && memcmp(STARLARK_VALUE(lexeme, whole->source.at + from, values),
+                     whole->into.values + wanted->value_begin, wanted->value_len)
                   == 0;
+}
+
+/* Whether a text has some bytes before the last ones of a lexeme, of which there are so many. */
+static bool has_before(const uint8_t *source, const starlark_lexeme *lexeme, size_t last,
+                       const uint8_t *value)
+{
+    size_t len = lexeme->value_len;
+    return lexeme->begin + len + last <= lexeme->end
+           && memcmp(source + lexeme->end - last - len, value, len) == 0;
+}
+
+/* Whether a text has the value of a lexeme: at its end, or before the quotes that close it. */
+static bool has_value(const uint8_t *source, const starlark_lexeme *lexeme, const uint8_t *value)
+{
+    switch (lexeme->kind) {
+    case STARLARK_KIND_COMMENT:
+    case STARLARK_KIND_IDENTIFIER:
+    case STARLARK_KIND_FLOAT:
+    case STARLARK_KIND_FSTRING_TEXT:
+        return has_before(source, lexeme, 0, value);
+    case STARLARK_KIND_STRING:
+    case STARLARK_KIND_BYTES:
+        return has_before(source, lexeme, 1, value) || has_before(source, lexeme, 3, value);
+    default:
+        return false;
+    }
+}
+
+/* Whether the values that a call copied are one after another: all, or of a call without copies
+ * those that the text doesn't have. */
+static bool are_copied(lex_call *call, const uint8_t *source, const starlark_outcome *outcome,
+                       buffers into)
+{
+    bool copies_all = call == starlark_lex || call == starlark_lex_front;
+    size_t copied = 0;
+    for (size_t at = 0; at < outcome->lexemes; at++) {
+        const starlark_lexeme *lexeme = &into.lexemes[at];
+        bool is_in_text = lexeme->detail == STARLARK_IN_TEXT;
+        const uint8_t *value = STARLARK_VALUE(lexeme, source, into.values);
+        if (is_in_text != (!copies_all && has_value(source, lexeme, value)))
+            return false;
+        if (is_in_text
+            && (value < source + lexeme->begin || value + lexeme->value_len > source + lexeme->end))
+            return false;
+        if (!is_in_text && lexeme->value_begin != copied)
+            return false;
+        copied += is_in_text ? 0 : lexeme->value_len;
+    }
+    return copied + outcome->fault_value_len == outcome->values
+           && (outcome->fault_value_len == 0 || outcome->fault_value_begin == copied);
 }
 
 /* Whether the fault of the last piece, which begins at an offset, is that of the whole text. */
@@ -354,11 +406,12 @@ static bool is_same_fault(const lexed *whole, size_t from, const starlark_outcom
 }
 
 /* Whether a call's records are those of the whole text from an index on. */
-static bool are_next(const lexed *whole, size_t index, size_t from, const starlark_outcome *outcome,
-                     buffers into)
+static bool are_next(lex_call *call, const lexed *whole, size_t index, size_t from,
+                     const starlark_outcome *outcome, buffers into)
 {
     if (!is_kept(into, outcome) || outcome->lexemes > into.lexemes_cap
-        || outcome->values > into.values_cap || index + outcome->lexemes > whole->outcome.lexemes)
+        || outcome->values > into.values_cap || index + outcome->lexemes > whole->outcome.lexemes
+        || !are_copied(call, whole->source.at + from, outcome, into))
         return false;
     for (size_t at = 0; at < outcome->lexemes; at++)
         if (!is_same(whole, index + at, from, &into.lexemes[at], into.values))
@@ -366,9 +419,10 @@ static bool are_next(const lexed *whole, size_t index, size_t from, const starla
     return true;
 }
 
-/* Whether the pieces of a text, by buffers of a size, are the whole text. Where a piece needs more,
- * it gets what it wants. Adds to the number of calls. */
-static bool are_pieces(const lexed *whole, size_t lexemes, size_t values, size_t *calls)
+/* Whether the pieces of a text by a call, with buffers of a size, are the whole text. Where a piece
+ * needs more, it gets what it wants. Adds to the number of calls. */
+static bool are_pieces(lex_call *call, const lexed *whole, size_t lexemes, size_t values,
+                       size_t *calls)
 {
     buffers into = buffers_of(lexemes, values);
     size_t from = 0;
@@ -376,9 +430,9 @@ static bool are_pieces(const lexed *whole, size_t lexemes, size_t values, size_t
     bool is_larger = false;
     for (;;) {
         starlark_outcome outcome =
-            lex((bytes){whole->source.at + from, whole->source.len - from}, into);
+            lex_by(call, (bytes){whole->source.at + from, whole->source.len - from}, into);
         ++*calls;
-        bool is_right = are_next(whole, index, from, &outcome, into);
+        bool is_right = are_next(call, whole, index, from, &outcome, into);
         index += outcome.lexemes;
         if (outcome.status != STARLARK_STATUS_FULL) {
             is_right = is_right && outcome.status == whole->outcome.status
@@ -401,15 +455,15 @@ static bool are_pieces(const lexed *whole, size_t lexemes, size_t values, size_t
     }
 }
 
-/* Whether the pieces of a text by buffers of each smaller size are the whole text. */
-static bool are_all_pieces(const lexed *whole, size_t *calls)
+/* Whether the pieces of a text by a call, with buffers of each smaller size, are the whole text. */
+static bool are_all_pieces(lex_call *call, const lexed *whole, size_t *calls)
 {
     for (size_t lexemes = 0; lexemes <= whole->outcome.lexemes; lexemes++)
-        if (!are_pieces(whole, lexemes, whole->outcome.values, calls))
+        if (!are_pieces(call, whole, lexemes, whole->outcome.values, calls))
             return false;
     for (size_t values = 0; values <= whole->outcome.values; values++)
-        if (!are_pieces(whole, whole->outcome.lexemes, values, calls)
-            || !are_pieces(whole, values + 1, values, calls))
+        if (!are_pieces(call, whole, whole->outcome.lexemes, values, calls)
+            || !are_pieces(call, whole, values + 1, values, calls))
             return false;
     return true;
 }
@@ -426,7 +480,7 @@ static bytes front_of(bytes source, size_t len)
 
 /* Whether a text that is lexed front by front is the whole text. A front has some bytes, and more
  * where it has no cut. Adds to the numbers of calls and of cuts. */
-static bool are_fronts(const lexed *whole, size_t len, size_t *calls, size_t *cuts)
+static bool are_fronts(lex_call *call, const lexed *whole, size_t len, size_t *calls, size_t *cuts)
 {
     size_t from = 0;
     size_t index = 0;
@@ -435,11 +489,11 @@ static bool are_fronts(const lexed *whole, size_t len, size_t *calls, size_t *cu
         bytes rest = {whole->source.at + from, whole->source.len - from};
         bytes front = front_of(rest, window);
         buffers into = buffers_of(2 * front.len + 1, 2 * front.len);
-        starlark_outcome outcome = lex_by(starlark_lex_front, front, into);
+        starlark_outcome outcome = lex_by(call, front, into);
         ++*calls;
         bool is_cut = outcome.status == STARLARK_STATUS_FULL;
         bool is_last = !is_cut && front.len == rest.len;
-        bool is_right = is_cut || is_last ? are_next(whole, index, from, &outcome, into)
+        bool is_right = is_cut || is_last ? are_next(call, whole, index, from, &outcome, into)
                                           : is_kept(into, &outcome);
         if (is_cut)
             is_right = is_right && outcome.next > 0 && outcome.next < front.len
@@ -464,7 +518,8 @@ static bool are_all_fronts(const lexed *whole, size_t *calls, size_t *cuts)
 {
     size_t step = whole->source.len <= SMALL_TEXT ? 1 : whole->source.len / 3;
     for (size_t len = 0; len <= whole->source.len; len += step)
-        if (!are_fronts(whole, len, calls, cuts))
+        if (!are_fronts(starlark_lex_front, whole, len, calls, cuts)
+            || !are_fronts(starlark_lex_front_uncopied, whole, len, calls, cuts))
             return false;
     return true;
 }
@@ -738,8 +793,15 @@ static size_t compare(bytes source, size_t number, bytes printed, size_t at, tal
     counts->lexemes += outcome.lexemes;
     counts->faults += begin_anew(source);
     lexed whole = {source, into, outcome};
+    if (outcome.status <= STARLARK_STATUS_FAULT
+        && !are_pieces(starlark_lex_uncopied, &whole, 2 * source.len + 1, source.len,
+                       &counts->calls)) {
+        fprintf(stderr, "stored_texts: text %zu is lexed otherwise without copies\n", number);
+        exit(1);
+    }
     if (source.len <= SMALL_TEXT && outcome.status <= STARLARK_STATUS_FAULT
-        && !are_all_pieces(&whole, &counts->calls)) {
+        && (!are_all_pieces(starlark_lex, &whole, &counts->calls)
+            || !are_all_pieces(starlark_lex_uncopied, &whole, &counts->calls))) {
         fprintf(stderr,
                 "stored_texts: the pieces of text %zu, with small buffers, are not the whole\n",
                 number);

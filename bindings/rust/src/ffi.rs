@@ -35,6 +35,27 @@ pub(crate) struct LexemeHead {
     pub integer: i32,
 }
 
+/// What a record has for `detail` where its value is in the text: `STARLARK_IN_TEXT` of the header.
+const IN_TEXT: u16 = 0x8000;
+
+impl LexemeRecord {
+    /// Offset of the value in the text, where the record tells that it is there.
+    pub fn value_in_text(&self) -> Option<usize> {
+        (self.head.detail == IN_TEXT).then_some(self.value_begin)
+    }
+}
+
+impl LexemeHead {
+    /// The same, without telling where the value is.
+    #[inline]
+    pub fn without_place(self) -> Self {
+        LexemeHead {
+            detail: self.detail & !IN_TEXT,
+            ..self
+        }
+    }
+}
+
 /// A fault: a `starlark_found_fault` of the header. Its offsets count from the start of what was
 /// lexed.
 #[repr(C)]
@@ -123,7 +144,7 @@ const CLOSED: u32 = 7;
 const NO_OFFSET: usize = usize::MAX;
 
 extern "C" {
-    fn starlark_lex(
+    fn starlark_lex_uncopied(
         text: *const u8,
         text_len: usize,
         lexemes: *mut LexemeRecord,
@@ -133,7 +154,7 @@ extern "C" {
         outcome: *mut Outcome,
     ) -> u32;
 
-    fn starlark_lex_front(
+    fn starlark_lex_front_uncopied(
         front: *const u8,
         front_len: usize,
         lexemes: *mut LexemeRecord,
@@ -239,7 +260,7 @@ extern "C" {
     fn starlark_lex_version() -> u32;
 }
 
-/// `starlark_lex` or `starlark_lex_front`.
+/// `starlark_lex_uncopied` or `starlark_lex_front_uncopied`.
 type LexCall = unsafe extern "C" fn(
     *const u8,
     usize,
@@ -320,7 +341,7 @@ impl Buffers {
         &self.values
     }
 
-    /// The bytes of a lexeme's value.
+    /// The bytes of a lexeme's value, which aren't in the text.
     #[inline]
     pub(crate) fn value(&self, lexeme: &LexemeRecord) -> &[u8] {
         &self.values[lexeme.value_begin..][..lexeme.value_len]
@@ -358,7 +379,7 @@ impl Buffers {
     /// where a `Vec` gets none.
     pub(crate) fn lex(&mut self, text: &str) -> Ending {
         // SAFETY: the call is one of the two.
-        unsafe { self.lex_by(starlark_lex, text) }
+        unsafe { self.lex_by(starlark_lex_uncopied, text) }
     }
 
     /// Lexes the front of a longer text into the buffers, up to the last offset where the library
@@ -368,14 +389,14 @@ impl Buffers {
     /// where it isn't known yet how the text goes on. Where memory runs out the process aborts.
     pub(crate) fn lex_front(&mut self, front: &str) -> Ending {
         // SAFETY: the call is one of the two.
-        unsafe { self.lex_by(starlark_lex_front, front) }
+        unsafe { self.lex_by(starlark_lex_front_uncopied, front) }
     }
 
     /// Lexes a text of at most `u32::MAX` bytes into the buffers by a call of the library.
     ///
     /// # Safety
     ///
-    /// The call is `starlark_lex` or `starlark_lex_front`.
+    /// The call is `starlark_lex_uncopied` or `starlark_lex_front_uncopied`.
     unsafe fn lex_by(&mut self, call: LexCall, text: &str) -> Ending {
         let mut outcome = Outcome::default();
         self.clear();

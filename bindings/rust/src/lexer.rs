@@ -302,7 +302,8 @@ mod tests {
         let begins = pieces(&text, 8, 4096);
         assert!(begins.len() > 4, "{begins:?}");
         assert!(begins.iter().all(|begin| begin % 2 == 0), "{begins:?}");
-        assert!(pieces(&text, 4096, 8).len() > 4);
+        let escapes = "'\\n'\n".repeat(1000);
+        assert!(pieces(&escapes, 4096, 8).len() > 4);
     }
 
     /// The items of a text, by windows of some bytes at first.

@@ -41,7 +41,7 @@ impl<'a> Piece<'a> {
             return self.lexeme_by_comparing(record);
         }
         Lexeme {
-            head: record.head,
+            head: record.head.without_place(),
             begin: self.from + record.begin,
             end: self.from + record.end,
             value: Value::Part(Part {
@@ -71,16 +71,19 @@ impl<'a> Piece<'a> {
             ))),
         };
         Lexeme {
-            head: record.head,
+            head: record.head.without_place(),
             begin: self.from + record.begin,
             end: self.from + record.end,
             value,
         }
     }
 
-    /// Offset where the bytes of a record's value are in its lexeme: before no, one or three closing
-    /// quotes.
+    /// Offset where the bytes of a record's value are in its lexeme: where the record tells, or
+    /// before no, one or three closing quotes.
     fn find_value(&self, record: &LexemeRecord) -> Option<usize> {
+        if let Some(begin) = record.value_in_text() {
+            return Some(begin);
+        }
         let bytes = self.buffers.value(record);
         [0, 1, 3].into_iter().find_map(|closing| {
             let begin = (record.end as usize).checked_sub(closing + bytes.len())?;

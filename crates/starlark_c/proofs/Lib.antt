@@ -1,5 +1,6 @@
 -- Where each proof is. What belongs to one function is in a folder that has its name.
 -- YieldedItems: what a lexer yields, by the lexemes and the fault of its text.
+-- TextParts: values of plain lexemes are parts of their text.
 -- Filled: records and values of one lexeme more.
 -- CutTexts: a piece of a text: what is before a kept cut. Also of one that begins with the text.
 -- Ends: how lexing ends after all lexemes of a text.
@@ -26,6 +27,7 @@ pub mod Running
 pub mod LooseValues
 pub mod HandleValues
 pub mod YieldedItems
+pub mod TextParts
 pub mod Filled
 pub mod CutTexts
 pub mod Ends

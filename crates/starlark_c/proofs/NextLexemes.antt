@@ -3,7 +3,7 @@ use Rattle.std.proofs.Common.{◌≡◌, ℕ, ◌+◌, ◌≤◌, ◌||◌, fals
 use Rattle.std.specs.Prelude.{Bool, Option, ⊤}
 use Rattle.starlark_c.specs.Endings.{Buffers, Hold, IsText, lexemes_of}
 use Rattle.starlark_c.specs.Inner.Filling.{EndsWithCutPoint, IsCutPoint, IsLastStop, IsOverflow, MayStop, PutsNext, filled_by, wanted_by}
-use Rattle.starlark_c.specs.Records.{records, value_bytes, values}
+use Rattle.starlark_c.specs.Records.{records, stored_bytes, values}
 use Rattle.starlark_c.specs.declared.endings.Ending.{Ending}
 use Rattle.starlark_c.specs.declared.endings.Filled.{Filled}
 use Rattle.starlark_c.specs.declared.fill_state.FillState.{FillState}
@@ -17,44 +17,44 @@ use Rattle.starlark_lexemes.specs.Lexer.{LexerView}
 use Rattle.starlark_token.specs.TokenViews.{TokenView}
 
 -- the first lexemes of a text fill the buffers
-pub record HasFilled (text : Text) (n : ℕ) (progress : FillState) (before now : Buffers) : Type 0 where
+pub record HasFilled (home : Option Text) (text : Text) (n : ℕ) (progress : FillState) (before now : Buffers) : Type 0 where
   pub few : n ≤ length (lexemes_of text)
-  pub hold : Hold (records (take n (lexemes_of text))) (values (take n (lexemes_of text))) before now
-  pub filled : progress.filled ≡ filled_by (take n (lexemes_of text))
-  pub stop : IsCutPoint text n progress.stop
+  pub hold : Hold (records home (take n (lexemes_of text))) (values home (take n (lexemes_of text))) before now
+  pub filled : progress.filled ≡ filled_by home (take n (lexemes_of text))
+  pub stop : IsCutPoint home text n progress.stop
 
 -- and then those with the next one, after which there may be a stop
-pub has_filled_more : (text : Text) (n : ℕ) (x : Spanned TokenView) (old new : FillState) (before now after : Buffers) (done : ⊤) → HasFilled text n old before now → IsNext text n x → PutsNext x old new now after (Ok done)
-    → HasFilled text (n + 1) new before after
-has_filled_more text n x old new before now after done had next puts =
-    let more = put_next (lexemes_of text) n x before now after old.filled new.filled next.more had.hold had.filled puts.0 in
-    record { few = next.few; hold = more.hold; filled = more.counts; stop = rw puts.1 (stop_stays text n old.stop had.stop) }
+pub has_filled_more : (home : Option Text) (text : Text) (n : ℕ) (x : Spanned TokenView) (old new : FillState) (before now after : Buffers) (done : ⊤) → HasFilled home text n old before now → IsNext text n x → PutsNext home x old new now after (Ok done)
+    → HasFilled home text (n + 1) new before after
+has_filled_more home text n x old new before now after done had next puts =
+    let more = put_next home (lexemes_of text) n x before now after old.filled new.filled next.more had.hold had.filled puts.0 in
+    record { few = next.few; hold = more.hold; filled = more.counts; stop = rw puts.1 (stop_stays home text n old.stop had.stop) }
 
-pub may_stop : (text : Text) (n : ℕ) (progress : FillState) (before now : Buffers) → HasFilled text (n + 1) progress before now → IsLastStop text n progress.stop → MayStop text (n + 1) progress
-may_stop text n progress before now had last = record { some = omega arith; last = λ more at later few is. last more at later (omega (arith, few)) is; few = had.few; filled = had.filled; stop = had.stop }
+pub may_stop : (home : Option Text) (text : Text) (n : ℕ) (progress : FillState) (before now : Buffers) → HasFilled home text (n + 1) progress before now → IsLastStop text n progress.stop → MayStop home text (n + 1) progress
+may_stop home text n progress before now had last = record { some = omega arith; last = λ more at later few is. last more at later (omega (arith, few)) is; few = had.few; filled = had.filled; stop = had.stop }
 
 -- and then with a stop
-pub has_stopped : (text : Text) (n : ℕ) (old new : FillState) (before now : Buffers) → HasFilled text n old before now → new.filled ≡ old.filled → IsCutPoint text n new.stop → HasFilled text n new before now
-has_stopped text n old new before now had same stop = record { few = had.few; hold = had.hold; filled = same ∙ had.filled; stop = stop }
+pub has_stopped : (home : Option Text) (text : Text) (n : ℕ) (old new : FillState) (before now : Buffers) → HasFilled home text n old before now → new.filled ≡ old.filled → IsCutPoint home text n new.stop → HasFilled home text n new before now
+has_stopped home text n old new before now had same stop = record { few = had.few; hold = had.hold; filled = same ∙ had.filled; stop = stop }
 
 -- what is wanted with the next one, if it has no room
-pub wanted_with_next : (text : Text) (n : ℕ) (x : Spanned TokenView) (old new : FillState) (before now after : Buffers) (wanted : Filled) → HasFilled text n old before now → IsNext text n x → PutsNext x old new now after (Err wanted)
-    → wanted ≡ wanted_by (n + 1) (length (values (take (n + 1) (lexemes_of text))))
-wanted_with_next text n x old new before now after wanted had next puts =
-    let both = all_but text n x old.filled next had.few had.filled in
-    puts.2 ∙ ap (λ k. wanted_by k (old.filled.values + length (value_bytes x.node))) both.0 ∙ ap (wanted_by (n + 1)) both.1
+pub wanted_with_next : (home : Option Text) (text : Text) (n : ℕ) (x : Spanned TokenView) (old new : FillState) (before now after : Buffers) (wanted : Filled) → HasFilled home text n old before now → IsNext text n x → PutsNext home x old new now after (Err wanted)
+    → wanted ≡ wanted_by (n + 1) (length (values home (take (n + 1) (lexemes_of text))))
+wanted_with_next home text n x old new before now after wanted had next puts =
+    let both = all_but home text n x old.filled next had.few had.filled in
+    puts.2 ∙ ap (λ k. wanted_by k (old.filled.values + length (stored_bytes home x))) both.0 ∙ ap (wanted_by (n + 1)) both.1
 
 -- how lexing ends then
-pub ends_without_room : (text : Text) (n : ℕ) (x : Spanned TokenView) (old new : FillState) (before now after : Buffers) (wanted : Filled) (end : Ending) (is_front : Bool) → IsText text → old.stop.is_front ≡ is_front → HasFilled text n old before now → IsLastStop text n old.stop → IsNext text n x → PutsNext x old new now after (Err wanted)
-    → IsOverflow text (n + 1) new end → EndsWithCutPoint text is_front before after (end, new.stop)
-ends_without_room text n x old new before now after wanted end is_front is kind had last next puts over = (
-  overflows text before now after n x old end is next had.few had.hold had.filled had.stop puts.0 (rw puts.1 at over),
+pub ends_without_room : (home : Option Text) (text : Text) (n : ℕ) (x : Spanned TokenView) (old new : FillState) (before now after : Buffers) (wanted : Filled) (end : Ending) (is_front : Bool) → IsText text → old.stop.is_front ≡ is_front → HasFilled home text n old before now → IsLastStop text n old.stop → IsNext text n x → PutsNext home x old new now after (Err wanted)
+    → IsOverflow home text (n + 1) new end → EndsWithCutPoint home text is_front before after (end, new.stop)
+ends_without_room home text n x old new before now after wanted end is_front is kind had last next puts over = (
+  overflows home text before now after n x old end is next had.few had.hold had.filled had.stop puts.0 (rw puts.1 at over),
   n,
   had.few,
   rw puts.1 had.stop,
   rw puts.1 kind,
-  overflow_filled text (n + 1) new end over,
-  rw puts.1 (overflow_last is_front text before (n + 1) old end kind (last_with_room is_front text before n old.stop kind (lacks_next text before now after n x old.filled next had.few had.hold had.filled puts.0) last) (rw puts.1 at over)),
+  overflow_filled home text (n + 1) new end over,
+  rw puts.1 (overflow_last home is_front text before (n + 1) old end kind (last_with_room home is_front text before n old.stop kind (lacks_next home text before now after n x old.filled next had.few had.hold had.filled puts.0) last) (rw puts.1 at over)),
 )
 
 -- a lexer that goes on in a text, with so many lexemes yielded

@@ -8,7 +8,8 @@ use Rattle.std.specs.List.{prefix_len}
 use Rattle.std.specs.Str.{byte}
 use Rattle.std.specs.Str.Parse.{digits_value}
 use Rattle.starlark_c.specs.Endings.{all_values, lexemes_of, named}
-use Rattle.starlark_c.specs.Records.{fault_bytes, token_bytes, value_bytes, values}
+use Rattle.starlark_c.specs.Records.{fault_bytes, stored_bytes, token_bytes, value_bytes, values}
+use Rattle.starlark_c.specs.TextParts.{part_in, stored}
 use Rattle.starlark_c.proofs.ItemBounds.{body_short}
 use Rattle.starlark_grammar.specs.Depths.{Mode, Outside, InText, AtTop, Deeper}
 use Rattle.starlark_grammar.specs.Front.{longest_front}
@@ -302,19 +303,24 @@ unfolding value_bytes
 shown_bytes (grammar.FStringStart opening) = refl
 shown_bytes token = refl
 
-values_size : (xs : List Lexeme) → length (values (map shown_lexeme xs)) ≡ size xs
+stored_short : (part : Option ℕ) (bytes : Text) → length (stored part bytes) ≤ length bytes
+stored_short None bytes = omega arith
+stored_short (Some begin) bytes = omega arith
+
+values_size : (home : Option Text) (xs : List Lexeme) → length (values home (map shown_lexeme xs)) ≤ size xs
 unfolding values
-values_size [] = refl
-values_size (x ∷ xs) =
+values_size home [] = omega arith
+values_size home (x ∷ xs) =
     omega (
       arith,
-      length-append (value_bytes (shown_lexeme x).node) (values (map shown_lexeme xs)),
+      length-append (stored_bytes home (shown_lexeme x)) (values home (map shown_lexeme xs)),
+      stored_short (part_in home (shown_lexeme x)) (value_bytes (shown_lexeme x).node),
       ap (λ (t : Text). length t) (shown_bytes x.node),
-      values_size xs,
+      values_size home xs,
     )
 
 -- all values of a text, and its lexemes, are bounded by its length
-pub values_bound : (text : Text) → length (all_values text) ≤ length text
+pub values_bound : (home : Option Text) (text : Text) → length (all_values home text) ≤ length text
 unfolding outcome
-values_bound text =
-    omega (arith, length-append (values (lexemes_of text)) (named (outcome_in language text).fault), values_size (outcome_in language text).lexemes, outcome_size language text)
+values_bound home text =
+    omega (arith, length-append (values home (lexemes_of text)) (named (outcome_in language text).fault), values_size home (outcome_in language text).lexemes, outcome_size language text)

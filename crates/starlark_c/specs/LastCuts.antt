@@ -1,5 +1,5 @@
 -- The last offset where a text, or the front of one, may be cut, of those that the caller's buffers have room for.
-use Rattle.std.specs.Prelude.{◌≡◌, ◌<◌, ◌≤◌, ◌-◌, ◌||◌, ◌==◌, ◌⊎◌, not, ℕ, Bool, true, false, [], ◌∷◌, drop, length, take, ⊤}
+use Rattle.std.specs.Prelude.{◌≡◌, ◌<◌, ◌≤◌, ◌-◌, ◌||◌, ◌==◌, ◌⊎◌, not, ℕ, Bool, true, false, [], ◌∷◌, drop, length, take, ⊤, Option}
 use Rattle.std.specs.Str.{byte}
 use Rattle.starlark_c.specs.Endings.{Buffers, all_values, capped, lexemes_of}
 use Rattle.starlark_c.specs.Records.{values}
@@ -21,35 +21,35 @@ pub record IsCutIn (text : Text) (is_front : Bool) (count at : ℕ) : Type 0 whe
   pub stays : is_front ≡ true → is_without_margin (drop at text) ≡ true
 
 -- the buffers have no room for the first `count` lexemes of a text
-abbrev pub LackRoom : Buffers → Text → (count : ℕ) → Type 0
-LackRoom buffers text count = (length buffers.lexemes < count) ⊎ (length buffers.values < length (values (take count (lexemes_of text))))
+abbrev pub LackRoom : Option Text → Buffers → Text → (count : ℕ) → Type 0
+LackRoom home buffers text count = (length buffers.lexemes < count) ⊎ (length buffers.values < length (values home (take count (lexemes_of text))))
 
 -- the buffers have no room up to any cut after more than `count` lexemes
-abbrev pub IsLastCut : (is_front : Bool) → Text → Buffers → (count : ℕ) → Type 0
-IsLastCut is_front text buffers count = (more at : ℕ) → count < more → IsCutIn text is_front more at → LackRoom buffers text more
+abbrev pub IsLastCut : Option Text → (is_front : Bool) → Text → Buffers → (count : ℕ) → Type 0
+IsLastCut home is_front text buffers count = (more at : ℕ) → count < more → IsCutIn text is_front more at → LackRoom home buffers text more
 
 -- no cut is after one or more of the first `count` lexemes
 abbrev pub HasNoCut : (is_front : Bool) → Text → (count : ℕ) → Type 0
 HasNoCut is_front text count = (some at : ℕ) → 0 < some → some ≤ count → IsCutIn text is_front some at → ⊥
 
 -- the first piece of a text has so many lexemes and bytes of values: up to the first cut, or else all
-abbrev pub IsFirstPiece : (is_front : Bool) → Text → (lexemes bytes : ℕ) → Type 0
-IsFirstPiece is_front text lexemes bytes =
-    (HasNoCut is_front text (lexemes - 1) × ((at : ℕ) × IsCutIn text is_front lexemes at) × (bytes ≡ length (values (take lexemes (lexemes_of text)))))
-    ⊎ (HasNoCut is_front text lexemes × (lexemes ≡ length (lexemes_of text)) × (bytes ≡ length (all_values text)))
+abbrev pub IsFirstPiece : Option Text → (is_front : Bool) → Text → (lexemes bytes : ℕ) → Type 0
+IsFirstPiece home is_front text lexemes bytes =
+    (HasNoCut is_front text (lexemes - 1) × ((at : ℕ) × IsCutIn text is_front lexemes at) × (bytes ≡ length (values home (take lexemes (lexemes_of text)))))
+    ⊎ (HasNoCut is_front text lexemes × (lexemes ≡ length (lexemes_of text)) × (bytes ≡ length (all_values home text)))
 
 -- what the first piece of a text needs is wanted
-pub record WantsFirstPiece (is_front : Bool) (text : Text) (wanted : Filled) : Type 0 where
+pub record WantsFirstPiece (home : Option Text) (is_front : Bool) (text : Text) (wanted : Filled) : Type 0 where
   pub lexemes : ℕ
   pub bytes : ℕ
-  pub piece : IsFirstPiece is_front text lexemes bytes
+  pub piece : IsFirstPiece home is_front text lexemes bytes
   pub needs : wanted ≡ record { lexemes = capped lexemes; values = capped bytes }
 
 -- A piece ends at the last cut that the buffers have room for. There is none where the buffers are full: then the first
 -- piece is wanted. There is none in a front that ends as a whole text does.
-abbrev pub StopsAtLastCut : (is_front : Bool) → Text → Buffers → Ending → Type 0
-StopsAtLastCut is_front text buffers (ending.Piece filled next) = IsLastCut is_front text buffers filled.lexemes
-StopsAtLastCut is_front text buffers (ending.Full wanted) = IsLastCut is_front text buffers 0 × WantsFirstPiece is_front text wanted
-StopsAtLastCut true text buffers (ending.Whole filled) = IsLastCut true text buffers 0
-StopsAtLastCut true text buffers (ending.Fault filled fault) = IsLastCut true text buffers 0
-StopsAtLastCut is_front text buffers end = ⊤
+abbrev pub StopsAtLastCut : Option Text → (is_front : Bool) → Text → Buffers → Ending → Type 0
+StopsAtLastCut home is_front text buffers (ending.Piece filled next) = IsLastCut home is_front text buffers filled.lexemes
+StopsAtLastCut home is_front text buffers (ending.Full wanted) = IsLastCut home is_front text buffers 0 × WantsFirstPiece home is_front text wanted
+StopsAtLastCut home true text buffers (ending.Whole filled) = IsLastCut home true text buffers 0
+StopsAtLastCut home true text buffers (ending.Fault filled fault) = IsLastCut home true text buffers 0
+StopsAtLastCut home is_front text buffers end = ⊤

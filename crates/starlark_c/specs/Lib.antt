@@ -1,5 +1,6 @@
 pub mod KindClasses
 pub mod Kinds
+pub mod TextParts
 pub mod Records
 pub mod Endings
 pub mod LastCuts

@@ -1,7 +1,8 @@
 -- Lexemes and faults as plain records, with their values one after another.
-use Rattle.std.specs.Prelude.{ℕ, ℤ, pos, ◌+◌, Bool, true, false, List, [], ◌∷◌, length}
+use Rattle.std.specs.Prelude.{ℕ, ℤ, pos, ◌+◌, Bool, true, false, List, [], ◌∷◌, length, Option}
 use Rattle.std.specs.List.{flat_map}
 use Rattle.starlark_c.specs.Kinds.{kind_number}
+use Rattle.starlark_c.specs.TextParts.{part_in, record_with, stored}
 use Rattle.starlark_c.specs.declared.records.FaultRecord.{FaultRecord}
 use Rattle.starlark_c.specs.declared.records.LexemeRecord.{LexemeRecord}
 use Rattle.starlark_grammar.specs.Numbers.{Integer, Small, Big}
@@ -82,18 +83,26 @@ record_of at lexeme = record {
   value_len = length (value_bytes lexeme.node);
 }
 
+-- what is put among the values for a lexeme, where some stay in a text
+abbrev pub stored_bytes : Option Text → grammar.Spanned TokenView → Text
+stored_bytes home lexeme = stored (part_in home lexeme) (value_bytes lexeme.node)
+
+-- its record, where the values before it end at an offset among the values
+abbrev pub record_in : Option Text → ℕ → grammar.Spanned TokenView → LexemeRecord
+record_in home at lexeme = record_with (part_in home lexeme) (record_of at lexeme)
+
 -- the values of lexemes, one after another
-unfoldable pub values : List (grammar.Spanned TokenView) → Text
-values lexemes = flat_map (λ (lexeme : grammar.Spanned TokenView). value_bytes lexeme.node) lexemes
+unfoldable pub values : Option Text → List (grammar.Spanned TokenView) → Text
+values home lexemes = flat_map (λ (lexeme : grammar.Spanned TokenView). stored_bytes home lexeme) lexemes
 
 -- the records of lexemes whose values begin at an offset
-unfoldable pub records_from : ℕ → List (grammar.Spanned TokenView) → List LexemeRecord
-records_from at [] = []
-records_from at (lexeme ∷ lexemes) = record_of at lexeme ∷ records_from (at + length (value_bytes lexeme.node)) lexemes
+unfoldable pub records_from : Option Text → ℕ → List (grammar.Spanned TokenView) → List LexemeRecord
+records_from home at [] = []
+records_from home at (lexeme ∷ lexemes) = record_in home at lexeme ∷ records_from home (at + length (stored_bytes home lexeme)) lexemes
 
 -- the records of lexemes, with the values from the start on
-abbrev pub records : List (grammar.Spanned TokenView) → List LexemeRecord
-records lexemes = records_from 0 lexemes
+abbrev pub records : Option Text → List (grammar.Spanned TokenView) → List LexemeRecord
+records home lexemes = records_from home 0 lexemes
 
 -- the numbers of faults
 unfoldable pub fault_number : grammar.Fault → ℕ

@@ -1,13 +1,17 @@
 //! How far a text is lexed into buffers, and where it may be cut.
 
-ghost use Rattle.std.specs.Prelude.{◌≡◌, true};
+ghost use Rattle.std.specs.Prelude.{◌≡◌, ◌≤◌, true, length};
 ghost use Rattle.starlark_c.specs.Inner.Filling.{ends_line, wanted_with};
+ghost use Rattle.starlark_c.specs.Records.{stored_bytes, value_bytes};
+ghost use Rattle.starlark_c.specs.TextParts.{home, stored};
 ghost use Rattle.starlark_grammar.specs.Words.{Text};
 ghost use Rattle.starlark_lexemes.specs.PlainLexemes.{IsPlainIn, is_plain, plain_view};
+ghost use Rattle.starlark_token.specs.Lexemes.{lexeme_view};
 ghost use Rattle.starlark_token.specs.TokenViews.{token_view};
 
 use crate::endings::Filled;
-use crate::records::{bytes_of, bytes_of_plain};
+use crate::records::{bytes_of, stored_bytes};
+use crate::text_parts::{part_of, stored_plain};
 use starlark_syntax::lexer::{Kind, Passed, Token};
 
 /// An offset where the text may be cut, and what fills the buffers before it.
@@ -30,26 +34,27 @@ pub struct FillState {
     pub stop: CutPoint,
 }
 
-/// What is wanted with one more token.
-pub fn want(filled: Filled, token: &Token) -> Filled
-    ensures { result ≡ wanted_with filled (token_view token.now) }
+/// What is wanted with one more token, whose value may be a part of the text.
+pub fn want(filled: Filled, part: Option<usize>, token: &Token) -> Filled
+    ensures { result ≡ wanted_with filled (stored part (value_bytes (token_view token.now))) }
 {
-    filled.with(1, bytes_of(token).len())
+    filled.with(1, stored_bytes(part, bytes_of(token)).len())
 }
 
-/// What is wanted with one more plain lexeme.
-pub fn want_plain(filled: Filled, text: &str, plain: Passed) -> Filled
+/// What is wanted with one more plain lexeme of a text.
+pub fn want_plain(filled: Filled, text: &str, stays: bool, plain: Passed) -> Filled
     requires { IsPlainIn text.now plain }
-    ensures { result ≡ wanted_with filled (plain_view text.now plain).node }
+    ensures { result ≡ wanted_with filled (stored_bytes (home stays text.now) (plain_view text.now plain)) }
 {
-    filled.with(1, bytes_of_plain(text, plain).len())
+    filled.with(1, stored_plain(text, stays, plain).len())
 }
 
-/// What is wanted with one more lexeme, which it drops.
-pub fn want_lexeme(filled: Filled, lexeme: (usize, Token, usize)) -> Filled
-    ensures { result ≡ wanted_with filled (token_view lexeme.1) }
+/// What is wanted with one more lexeme of a text, which it drops.
+pub fn want_lexeme(filled: Filled, text: &str, stays: bool, lexeme: (usize, Token, usize)) -> Filled
+    requires { lexeme.2 ≤ length text.now }
+    ensures { result ≡ wanted_with filled (stored_bytes (home stays text.now) (lexeme_view lexeme)) }
 {
-    want(filled, &lexeme.1)
+    want(filled, part_of(text, stays, &lexeme), &lexeme.1)
 }
 
 /// Whether a plain lexeme can be the last of its line, and so the last before a cut: a `Newline`, or a

@@ -1,9 +1,10 @@
 //! Lexes bytes that may be no text into the caller's buffers.
 
-ghost use Rattle.std.specs.Prelude.{◌≡◌, ◌<◌, ◌^◌, [], IfOk, IfSome, None, false, length, true};
+ghost use Rattle.std.specs.Prelude.{◌≡◌, ◌<◌, ◌^◌, [], Option, IfOk, IfSome, None, false, length, true};
 ghost use Rattle.starlark_c.specs.Endings.{Buffers, Ends, EndsFront};
 ghost use Rattle.starlark_c.specs.Inner.Filling.{EndsWithCutPoint, has_stop};
 ghost use Rattle.starlark_c.specs.LastCuts.{StopsAtLastCut};
+ghost use Rattle.starlark_c.specs.TextParts.{home};
 ghost use Rattle.starlark_grammar.specs.Words.{Text};
 
 use crate::endings::{Ending, Filled};
@@ -34,16 +35,16 @@ fn lexer_of(alloc: Global, text: &str) -> Option<Lexer<'_>>
     Lexer::new(alloc, text, &Dialect::Extended, file).ok()
 }
 
-/// Lexes bytes into buffers, if they are a text or the front of one. Returns how that ended, and the
-/// last stop.
-fn lex_with_stop(
+/// Lexes bytes into buffers, if they are a text or the front of one. Values that are parts of it stay
+/// there if `STAYS` is true. Returns how that ended, and the last stop.
+fn lex_with_stop<const STAYS: bool>(
     alloc: Global,
     bytes: &[u8],
     is_front: bool,
     lexemes: &mut [LexemeRecord],
     values: &mut [u8],
 ) -> (Ending, CutPoint)
-    ensures { EndsWithCutPoint bytes.now is_front (record { lexemes = lexemes.old; values = values.old }) (record { lexemes = lexemes.new; values = values.new }) result }
+    ensures { EndsWithCutPoint (home STAYS bytes.now) bytes.now is_front (record { lexemes = lexemes.old; values = values.old }) (record { lexemes = lexemes.new; values = values.new }) result }
 {
     let none = CutPoint::none(is_front);
     if bytes.len() > u32::MAX as usize {
@@ -60,20 +61,40 @@ fn lex_with_stop(
         let filled = Filled::NOTHING;
         return (Ending::Memory { filled }, none);
     };
-    fill(text, is_front, &mut lexer, lexemes, values)
+    fill::<STAYS>(text, is_front, &mut lexer, lexemes, values)
 }
 
-/// Lexes bytes into buffers, if they are a text.
+/// Lexes bytes into buffers, as `lex_with_stop` does. Values that are parts of the text may stay there.
+// A loop for each form: one that asks at each lexeme whether its value stays costs a mix 14 % more.
+fn lex_bytes(
+    alloc: Global,
+    bytes: &[u8],
+    stays: bool,
+    is_front: bool,
+    lexemes: &mut [LexemeRecord],
+    values: &mut [u8],
+) -> (Ending, CutPoint)
+    ensures { EndsWithCutPoint (home stays bytes.now) bytes.now is_front (record { lexemes = lexemes.old; values = values.old }) (record { lexemes = lexemes.new; values = values.new }) result }
+{
+    if stays {
+        lex_with_stop::<true>(alloc, bytes, is_front, lexemes, values)
+    } else {
+        lex_with_stop::<false>(alloc, bytes, is_front, lexemes, values)
+    }
+}
+
+/// Lexes bytes into buffers, if they are a text. Values that are parts of it may stay there.
 pub fn lex_into(
     alloc: Global,
     bytes: &[u8],
+    stays: bool,
     lexemes: &mut [LexemeRecord],
     values: &mut [u8],
 ) -> Ending
-    ensures ends { Ends bytes.now (record { lexemes = lexemes.old; values = values.old }) (record { lexemes = lexemes.new; values = values.new }) result }
-    ensures last { StopsAtLastCut false bytes.now (record { lexemes = lexemes.old; values = values.old }) result }
+    ensures ends { Ends (home stays bytes.now) bytes.now (record { lexemes = lexemes.old; values = values.old }) (record { lexemes = lexemes.new; values = values.new }) result }
+    ensures last { StopsAtLastCut (home stays bytes.now) false bytes.now (record { lexemes = lexemes.old; values = values.old }) result }
 {
-    lex_with_stop(alloc, bytes, false, lexemes, values).0
+    lex_bytes(alloc, bytes, stays, false, lexemes, values).0
 }
 
 /// Whether the buffers have lexemes up to the last stop or further.
@@ -89,8 +110,8 @@ fn is_past_stop(ending: Ending) -> bool
 /// How lexing the front of a longer text ends: at the last stop, if there is one, and else as lexing
 /// it as a text does.
 fn front_ending(ending: Ending, stop: CutPoint) -> Ending
-    ensures ends { (text : Text) (before after : Buffers) → EndsWithCutPoint text true before after (ending, stop) → EndsFront text before after result }
-    ensures last { (text : Text) (before after : Buffers) → EndsWithCutPoint text true before after (ending, stop) → StopsAtLastCut true text before result }
+    ensures ends { (home : Option Text) (text : Text) (before after : Buffers) → EndsWithCutPoint home text true before after (ending, stop) → EndsFront home text before after result }
+    ensures last { (home : Option Text) (text : Text) (before after : Buffers) → EndsWithCutPoint home text true before after (ending, stop) → StopsAtLastCut home true text before result }
 {
     if stop.filled.lexemes == 0 {
         return ending;
@@ -105,15 +126,17 @@ fn front_ending(ending: Ending, stop: CutPoint) -> Ending
 }
 
 /// Lexes bytes into buffers up to the last stop, if they are the front of a text and there is one.
+/// Values that are parts of the front may stay there.
 pub fn lex_front(
     alloc: Global,
     bytes: &[u8],
+    stays: bool,
     lexemes: &mut [LexemeRecord],
     values: &mut [u8],
 ) -> Ending
-    ensures ends { EndsFront bytes.now (record { lexemes = lexemes.old; values = values.old }) (record { lexemes = lexemes.new; values = values.new }) result }
-    ensures last { StopsAtLastCut true bytes.now (record { lexemes = lexemes.old; values = values.old }) result }
+    ensures ends { EndsFront (home stays bytes.now) bytes.now (record { lexemes = lexemes.old; values = values.old }) (record { lexemes = lexemes.new; values = values.new }) result }
+    ensures last { StopsAtLastCut (home stays bytes.now) true bytes.now (record { lexemes = lexemes.old; values = values.old }) result }
 {
-    let (ending, stop) = lex_with_stop(alloc, bytes, true, lexemes, values);
+    let (ending, stop) = lex_bytes(alloc, bytes, stays, true, lexemes, values);
     front_ending(ending, stop)
 }

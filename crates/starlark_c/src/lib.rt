@@ -5,7 +5,7 @@
 //! `bindings/c/starlark_lex.h` declares all calls.
 #![tactic(auto)]
 
-ghost use Rattle.std.specs.Prelude.{◌≡◌, None, [], false, length, true};
+ghost use Rattle.std.specs.Prelude.{◌≡◌, None, Some, [], false, length, true};
 ghost use Rattle.starlark_c.specs.DocumentItems.{FillsWith, faults_touching, filled_record, lexemes_touching};
 ghost use Rattle.starlark_c.specs.DocumentSlots.{Edits, GivesText, IsOffsetAt, Opens, TellsPlaceOf};
 ghost use Rattle.starlark_c.specs.Endings.{Ends, EndsFront};
@@ -52,6 +52,7 @@ mod recovered_endings;
 mod recovered_outcomes;
 mod recovering;
 mod replies;
+mod text_parts;
 mod written_texts;
 
 use crate::document_calls::{
@@ -99,11 +100,11 @@ pub extern "C" fn starlark_lex(
     values: &mut [u8],
     outcome: &mut LexOutcome,
 ) -> u32
-    ensures lexed { (ending : Ending) × (outcome.new ≡ outcome_record (length text.now) ending) × Ends text.now (record { lexemes = lexemes.old; values = values.old }) (record { lexemes = lexemes.new; values = values.new }) ending × StopsAtLastCut false text.now (record { lexemes = lexemes.old; values = values.old }) ending }
+    ensures lexed { (ending : Ending) × (outcome.new ≡ outcome_record (length text.now) ending) × Ends None text.now (record { lexemes = lexemes.old; values = values.old }) (record { lexemes = lexemes.new; values = values.new }) ending × StopsAtLastCut None false text.now (record { lexemes = lexemes.old; values = values.old }) ending }
     ensures bounded { AreBounded (length text.now) outcome.new }
     ensures status { result ≡ outcome.new.status }
 {
-    *outcome = outcome_of(text.len(), lex_into(alloc, text, lexemes, values));
+    *outcome = outcome_of(text.len(), lex_into(alloc, text, false, lexemes, values));
     outcome.status
 }
 
@@ -121,11 +122,50 @@ pub extern "C" fn starlark_lex_front(
     values: &mut [u8],
     outcome: &mut LexOutcome,
 ) -> u32
-    ensures lexed { (ending : Ending) × (outcome.new ≡ outcome_record (length front.now) ending) × EndsFront front.now (record { lexemes = lexemes.old; values = values.old }) (record { lexemes = lexemes.new; values = values.new }) ending × StopsAtLastCut true front.now (record { lexemes = lexemes.old; values = values.old }) ending }
+    ensures lexed { (ending : Ending) × (outcome.new ≡ outcome_record (length front.now) ending) × EndsFront None front.now (record { lexemes = lexemes.old; values = values.old }) (record { lexemes = lexemes.new; values = values.new }) ending × StopsAtLastCut None true front.now (record { lexemes = lexemes.old; values = values.old }) ending }
     ensures bounded { AreBounded (length front.now) outcome.new }
     ensures status { result ≡ outcome.new.status }
 {
-    *outcome = outcome_of(front.len(), lex_front(alloc, front, lexemes, values));
+    *outcome = outcome_of(front.len(), lex_front(alloc, front, false, lexemes, values));
+    outcome.status
+}
+
+/// Does all as `starlark_lex`, but the values have only those that aren't parts of the text.
+///
+/// A value is one where the text has it right at the end of its lexeme, or before the one or three
+/// quotes that close it. Then the record says so, and its value begins at that offset of the text. The
+/// digits of an integer and the text that a fault names are always among the values.
+#[unsafe(no_mangle)]
+pub extern "C" fn starlark_lex_uncopied(
+    alloc: Global,
+    text: &[u8],
+    lexemes: &mut [LexemeRecord],
+    values: &mut [u8],
+    outcome: &mut LexOutcome,
+) -> u32
+    ensures lexed { (ending : Ending) × (outcome.new ≡ outcome_record (length text.now) ending) × Ends (Some text.now) text.now (record { lexemes = lexemes.old; values = values.old }) (record { lexemes = lexemes.new; values = values.new }) ending × StopsAtLastCut (Some text.now) false text.now (record { lexemes = lexemes.old; values = values.old }) ending }
+    ensures bounded { AreBounded (length text.now) outcome.new }
+    ensures status { result ≡ outcome.new.status }
+{
+    *outcome = outcome_of(text.len(), lex_into(alloc, text, true, lexemes, values));
+    outcome.status
+}
+
+/// Does all as `starlark_lex_front`, but the values have only those that aren't parts of the front, as
+/// `starlark_lex_uncopied` finds them.
+#[unsafe(no_mangle)]
+pub extern "C" fn starlark_lex_front_uncopied(
+    alloc: Global,
+    front: &[u8],
+    lexemes: &mut [LexemeRecord],
+    values: &mut [u8],
+    outcome: &mut LexOutcome,
+) -> u32
+    ensures lexed { (ending : Ending) × (outcome.new ≡ outcome_record (length front.now) ending) × EndsFront (Some front.now) front.now (record { lexemes = lexemes.old; values = values.old }) (record { lexemes = lexemes.new; values = values.new }) ending × StopsAtLastCut (Some front.now) true front.now (record { lexemes = lexemes.old; values = values.old }) ending }
+    ensures bounded { AreBounded (length front.now) outcome.new }
+    ensures status { result ≡ outcome.new.status }
+{
+    *outcome = outcome_of(front.len(), lex_front(alloc, front, true, lexemes, values));
     outcome.status
 }
 

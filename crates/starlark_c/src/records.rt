@@ -1,8 +1,9 @@
 //! Lexemes and faults as plain records of numbers, and the values that these point to.
 
-ghost use Rattle.std.specs.Prelude.{◌≡◌, ◌<◌, ◌^◌, IfSome, length};
+ghost use Rattle.std.specs.Prelude.{◌≡◌, ◌<◌, ◌^◌, Option, IfSome, length};
 ghost use Rattle.starlark_c.specs.Kinds.{token_number};
 ghost use Rattle.starlark_c.specs.Records.{detail, fault_bytes, fault_number, integer, quotes_number, record_of, value_bytes};
+ghost use Rattle.starlark_c.specs.TextParts.{record_with, stored};
 ghost use Rattle.starlark_grammar.specs.Words.{Text};
 ghost use Rattle.starlark_lexemes.specs.PlainLexemes.{IsPlainIn, plain_view, token_of};
 ghost use Rattle.starlark_token.specs.Lexemes.{fault_view, lexeme_view};
@@ -11,7 +12,10 @@ ghost use Rattle.starlark_token.specs.TokenViews.{fstring_quote_view, token_view
 use crate::lexeme_kinds::number_of_kind;
 use starlark_syntax::lexer::{FStringQuote, Kind, LexemeError, Passed, Token, TokenInt};
 
-/// A lexeme: its place in the text, its kind, and where its value is among the values.
+/// What a record has for `detail` where the text has its value.
+const IN_TEXT: u16 = 0x8000;
+
+/// A lexeme: its place in the text, its kind, and where its value is among the values or in the text.
 #[repr(C)]
 #[derive(Clone, Copy)]
 pub struct LexemeRecord {
@@ -22,11 +26,11 @@ pub struct LexemeRecord {
     /// The number of its kind.
     pub kind: u16,
     /// For an integer that doesn't fit in 32 bits the base of its digits, for the opening of an
-    /// f-string the number of its quotes, else 0.
+    /// f-string the number of its quotes, for a value in the text 32768, else 0.
     pub detail: u16,
     /// The value of an integer that fits in 32 bits, else 0.
     pub integer: i32,
-    /// Offset of its value among the values, in bytes.
+    /// Offset of its value among the values, or in the text, in bytes.
     pub value_begin: usize,
     /// Length of its value in bytes. It is 0 for a kind without a value.
     pub value_len: usize,
@@ -134,28 +138,64 @@ pub fn token_record_at(at: usize, begin: usize, token: &Token, end: usize) -> Le
     }
 }
 
-/// The record of a lexeme whose value begins at byte `at` of the values.
+/// What is put among the values for a value that may be a part of the text: nothing if it is.
 #[inline(always)]
-pub fn record_at(at: usize, lexeme: &(usize, Token, usize)) -> LexemeRecord
-    requires begin { lexeme.now.0 < 2 ^ 32 }
-    requires end { lexeme.now.2 < 2 ^ 32 }
-    ensures { result ≡ record_of at (lexeme_view lexeme.now) }
+pub fn stored_bytes(part: Option<usize>, bytes: &[u8]) -> &[u8]
+    ensures { result.now ≡ stored part bytes.now }
 {
-    let (begin, token, end) = lexeme;
-    token_record_at(at, *begin, token, *end)
+    match part {
+        Some(_) => &[],
+        None => bytes,
+    }
 }
 
-/// The record of a plain lexeme of a kind with a number, whose value is that of `len` bytes at byte
-/// `at` of the values.
+/// A record whose value may be a part of the text, and then begins there at this offset.
+#[inline(always)]
+fn record_with(part: Option<usize>, told: LexemeRecord) -> LexemeRecord
+    ensures { result ≡ record_with part told }
+{
+    match part {
+        Some(begin) => LexemeRecord {
+            begin: told.begin,
+            end: told.end,
+            kind: told.kind,
+            detail: IN_TEXT,
+            integer: told.integer,
+            value_begin: begin,
+            value_len: told.value_len,
+        },
+        None => told,
+    }
+}
+
+/// The record of a lexeme whose value begins at byte `at` of the values, or is a part of the text.
+#[inline(always)]
+pub fn record_at(at: usize, part: Option<usize>, lexeme: &(usize, Token, usize)) -> LexemeRecord
+    requires begin { lexeme.now.0 < 2 ^ 32 }
+    requires end { lexeme.now.2 < 2 ^ 32 }
+    ensures { result ≡ record_with part (record_of at (lexeme_view lexeme.now)) }
+{
+    let (begin, token, end) = lexeme;
+    record_with(part, token_record_at(at, *begin, token, *end))
+}
+
+/// The record of a plain lexeme of a kind with a number, whose value of `len` bytes begins at byte
+/// `at` of the values, or is a part of the text.
 #[tactic(auto, unfolding(crate::specs::Kinds::kind_number, crate::specs::Records::integer, crate::specs::Records::detail))]
 #[inline(always)]
-pub fn plain_record_at(at: usize, len: usize, number: u16, plain: Passed) -> LexemeRecord
+pub fn plain_record_at(
+    at: usize,
+    part: Option<usize>,
+    len: usize,
+    number: u16,
+    plain: Passed,
+) -> LexemeRecord
     requires number { (value : Text) → number ≡ token_number (token_of plain.kind value) }
     requires begin { plain.begin < 2 ^ 32 }
     requires end { plain.end < 2 ^ 32 }
-    ensures { (text : Text) → len ≡ length (value_bytes (plain_view text plain).node) → result ≡ record_of at (plain_view text plain) }
+    ensures { (text : Text) → len ≡ length (value_bytes (plain_view text plain).node) → result ≡ record_with part (record_of at (plain_view text plain)) }
 {
-    LexemeRecord {
+    let record = LexemeRecord {
         begin: plain.begin as u32,
         end: plain.end as u32,
         kind: number,
@@ -163,7 +203,8 @@ pub fn plain_record_at(at: usize, len: usize, number: u16, plain: Passed) -> Lex
         integer: 0,
         value_begin: at,
         value_len: len,
-    }
+    };
+    record_with(part, record)
 }
 
 /// The number of a fault's kind, and 0 for an error that isn't a fault of a text.

@@ -98,7 +98,7 @@ fn add_lexeme(
         lexemes: filled.lexemes,
         values: filled.values,
     };
-    match put_lexeme(lexemes, values, before, lexeme) {
+    match put_lexeme(lexemes, values, before, None, lexeme) {
         Some(after) => Taken::Put {
             filled: Counts {
                 lexemes: after.lexemes,

@@ -15,7 +15,7 @@ use Rattle.starlark_reader.specs.declared.reader.Stage.TheVariants as stages
 use Rattle.starlark_reader.proofs.TakenPieces.PieceTaken.{left_onward}
 use Rattle.starlark_lexemes.specs.Inner.LexerStates.{Course, IsCourse, HasAdvanced, HasAnswered, HasPassed, HasPassedAs, HasPassedNext, IsItemOf, IsLexing, IsTakenAs, IsTakenOf, StateView, is_out_of_memory, item_of, known_cut, left_in, lexer_view, made_view, passed_count, passed_of, valueless, view_of}
 use Rattle.starlark_lexemes.specs.Lexer.{is_ended_by, most_reads, yielded_by}
-use Rattle.starlark_lexemes.specs.PlainLexemes.{IsPlainIn, is_plain, plain_token, plain_value, plain_view, token_of}
+use Rattle.starlark_lexemes.specs.PlainLexemes.{IsPlainIn, closing_len, is_plain, plain_token, plain_value, plain_view, token_of}
 use Rattle.starlark_errors.specs.declared.error.kinds.ErrorKind.{ErrorKind}
 use Rattle.starlark_lexemes.proofs.LexerItems.{course_between}
 use Rattle.starlark_lexemes.proofs.LexerStates.{IsSameText, answers_within, lexing_read, or_true}
@@ -30,8 +30,9 @@ use Rattle.starlark_token.specs.declared.tokens.Token.{Token}
 
 -- a plain lexeme whose four offsets are in order, at character boundaries
 pub plain_inside : (text : Text) (it : Kind) (begin end value_begin value_end : ℕ) → is_plain it ≡ true → length text < 2 ^ 32 → begin ≤ end → value_begin ≤ value_end → IsCharBoundary text begin → IsCharBoundary text end → IsCharBoundary text value_begin → IsCharBoundary text value_end
+    → value_end + closing_len it ≡ end
     → IsPlainIn text (record { kind = it; begin = begin; end = end; value_begin = value_begin; value_end = value_end })
-plain_inside text it begin end value_begin value_end plain short order value first last from to = record {
+plain_inside text it begin end value_begin value_end plain short order value first last from to closes = record {
   kind = plain;
   lexeme = (order, last.0, short);
   value = (value, to.0, short);
@@ -39,6 +40,7 @@ plain_inside text it begin end value_begin value_end plain short order value fir
   end = last;
   value_begin = from;
   value_end = to;
+  closes = closes;
 }
 
 -- the offset of a reader in code is a character boundary
@@ -189,7 +191,7 @@ name_passed course first state mid new len same short on onward ahead at is =
     let last = reader_boundary text new is.0 course.fault onward is.2 in
     let past = subst (λ (view : Spanned TokenView). IsAheadPast course.origin text view new (left_in course state) course.fault) (name_shown text mid.at len new.at at) is in
     let both : IsPlainIn text (record { kind = kind.Identifier; begin = mid.at; end = new.at; value_begin = mid.at; value_end = new.at }) × IsAheadPast course.origin text (plain_view text (record { kind = kind.Identifier; begin = mid.at; end = new.at; value_begin = mid.at; value_end = new.at })) new (left_in course state) course.fault =
-    (plain_inside text kind.Identifier mid.at new.at mid.at new.at refl short (omega (arith, at)) (omega (arith, at)) front last front last, past) in
+    (plain_inside text kind.Identifier mid.at new.at mid.at new.at refl short (omega (arith, at)) (omega (arith, at)) front last front last (omega (arith)), past) in
     rw (same.0, same.1) at both
 
 -- a newline was passed
@@ -202,16 +204,21 @@ newline_passed course first state mid new len same short on ahead last is =
     let text = state.reader.text.now in
     let front = reader_boundary text mid (left_in course state) course.fault on ahead in
     let both : IsPlainIn text (record { kind = kind.Newline; begin = mid.at; end = mid.at + len; value_begin = mid.at + len; value_end = mid.at + len }) × IsAheadPast course.origin text (plain_view text (record { kind = kind.Newline; begin = mid.at; end = mid.at + len; value_begin = mid.at + len; value_end = mid.at + len })) new (left_in course state) course.fault =
-    (plain_inside text kind.Newline mid.at (mid.at + len) (mid.at + len) (mid.at + len) refl short (omega (arith)) (omega (arith)) front last last last, is) in
+    (plain_inside text kind.Newline mid.at (mid.at + len) (mid.at + len) (mid.at + len) refl short (omega (arith)) (omega (arith)) front last last last (omega (arith)), is) in
     rw (same.0, same.1) at both
 
+-- a kind without a value has no closing quotes
+no_closing : (it : Kind) (view : TokenView) → ((value : Text) → view ≡ Whole (token_of it value)) → closing_len it ≡ 0
+no_closing kind.String view token = let both : Whole (grammar.String []) ≡ Whole (grammar.String (0 ∷ [])) = sym (token []) ∙ token (0 ∷ []) in cc
+no_closing it view token = refl
+
 -- a keyword or symbol lies in the text
-pub symbol_inside : (course : Course) (state : LexerState) (lexeme : ℕ × Token × ℕ) (new : LexerState) (plain : Passed) → is_plain plain.kind ≡ true → IsCourse course state.reader.text.now
+pub symbol_inside : (course : Course) (state : LexerState) (lexeme : ℕ × Token × ℕ) (new : LexerState) (plain : Passed) → is_plain plain.kind ≡ true → closing_len plain.kind ≡ 0 → IsCourse course state.reader.text.now
     → HasAnswered course state (Some (Ok lexeme)) new → plain ≡ record { kind = plain.kind; begin = lexeme.0; end = lexeme.2; value_begin = lexeme.2; value_end = lexeme.2 } → IsPlainIn state.reader.text.now plain
-symbol_inside course state lexeme new plain sort inside is places =
+symbol_inside course state lexeme new plain sort bare inside is places =
     let within = answers_within course state (Some (Ok lexeme)) new refl inside is in
     let between = course_between course state.reader.text.now state.yielded_count _ is.0 inside is.1 in
-    subst (IsPlainIn state.reader.text.now) (sym places) (plain_inside state.reader.text.now plain.kind lexeme.0 lexeme.2 lexeme.2 lexeme.2 sort inside.fits within.0 (omega (arith)) between.0 between.1 between.1 between.1)
+    subst (IsPlainIn state.reader.text.now) (sym places) (plain_inside state.reader.text.now plain.kind lexeme.0 lexeme.2 lexeme.2 lexeme.2 sort inside.fits within.0 (omega (arith)) between.0 between.1 between.1 between.1 (omega (arith, bare)))
 
 pub symbol_shown : (text : Text) (lexeme : ℕ × Token × ℕ) (plain : Passed) → token_view lexeme.1 ≡ Whole (token_of plain.kind (plain_value text plain)) → plain ≡ record { kind = plain.kind; begin = lexeme.0; end = lexeme.2; value_begin = lexeme.2; value_end = lexeme.2 }
     → lexeme_view lexeme ≡ plain_view text plain
@@ -226,7 +233,7 @@ pub valueless_passed : (course : Course) (state : LexerState) (it : Kind) (lexem
 valueless_passed course state it lexeme new sort inside token is =
     let plain = valueless it lexeme.0 lexeme.2 in
     plain_passes course state it plain new sort (
-      symbol_inside course state lexeme new plain sort inside is refl,
+      symbol_inside course state lexeme new plain sort (no_closing it _ token) inside is refl,
       subst (λ (view : Spanned TokenView). IsAheadPast course.origin state.reader.text.now view new.reader (left_in course state) course.fault) (symbol_shown state.reader.text.now lexeme plain (token _) refl) is,
     )
 

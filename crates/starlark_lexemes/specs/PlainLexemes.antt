@@ -1,5 +1,5 @@
 -- Lexemes whose value, if they have one, is a part of the text.
-use Rattle.std.specs.Prelude.{◌≡◌, Bool, true, false, ◌-◌, drop, take}
+use Rattle.std.specs.Prelude.{◌≡◌, ℕ, ◌+◌, ◌-◌, Bool, true, false, drop, take}
 use Rattle.std.specs.Str.{IsCharBoundary}
 use Rattle.starlark_grammar.specs.Tokens as grammar
 use Rattle.starlark_grammar.specs.Words.{Text}
@@ -44,7 +44,13 @@ plain_token text plain = token_of plain.kind (plain_value text plain)
 abbrev pub plain_view : Text → Passed → grammar.Spanned TokenView
 plain_view text plain = record { begin = plain.begin; node = Whole (plain_token text plain); end = plain.end }
 
--- a plain lexeme and its value lie in the text, at character boundaries
+-- how many quotes close the value of a plain lexeme
+abbrev pub closing_len : Kind → ℕ
+closing_len kind.String = 1
+closing_len it = 0
+
+-- a plain lexeme and its value lie in the text, at character boundaries, and the value ends with the lexeme or before the quote
+-- that closes it
 pub record IsPlainIn (text : Text) (plain : Passed) : Type 0 where
   pub kind : is_plain plain.kind ≡ true
   pub lexeme : IsWithin text plain.begin plain.end
@@ -53,3 +59,4 @@ pub record IsPlainIn (text : Text) (plain : Passed) : Type 0 where
   pub end : IsCharBoundary text plain.end
   pub value_begin : IsCharBoundary text plain.value_begin
   pub value_end : IsCharBoundary text plain.value_end
+  pub closes : plain.value_end + closing_len plain.kind ≡ plain.end

@@ -118,7 +118,7 @@ impl<'a> Lexer<'a> {
         if passed.kind.is_plain() {
             return Step::Plain(passed);
         }
-        let item = self.state.item(passed);
+        let item = self.state.made_item(passed);
         if item.is_some() {
             return Step::Other(item);
         }

@@ -629,6 +629,23 @@ impl<'a> LexerState<'a> {
         }
     }
 
+    /// The item of what was passed last, which isn't plain: a lexeme, out of memory, or none.
+    // No arm for a plain kind: with the copies of their values a step is too large to be inlined twice.
+    #[inline(always)]
+    pub(crate) fn made_item(&mut self, passed: Passed) -> Option<Lexeme>
+        requires { is_plain passed.kind ≡ false }
+        ensures { IsItemOf self.old passed result self.new }
+    {
+        match passed.kind {
+            Kind::Made => {
+                let token = mem::replace(&mut self.token, Token::Newline);
+                Some(Ok((passed.begin, token, passed.end)))
+            }
+            Kind::OutOfMemory => Some(Err(OrMemory::Memory)),
+            _ => None,
+        }
+    }
+
     /// The next lexeme, or out of memory in its place; `None` after all, and after any error. No result
     /// is the fault: after `None`, `take_fault` returns it.
     #[inline(always)]

@@ -71,7 +71,7 @@ returns-in-Comment c = λ course at.
     let value = rw same at comment.1 in
     rw (c.put_valued.ensures.0, c.put_valued.ensures.1) (record {
       passed = (
-        plain_inside text kind.Comment mid.at new.at (mid.at + 1) new.at refl at.text.fits (omega (arith, inside.0, taken.1.0)) (omega (arith, inside.0, taken.1.0)) first last value last,
+        plain_inside text kind.Comment mid.at new.at (mid.at + 1) new.at refl at.text.fits (omega (arith, inside.0, taken.1.0)) (omega (arith, inside.0, taken.1.0)) first last value last (omega (arith)),
         subst (λ n. IsAheadPast course.origin text (comment_lexeme text mid.at n) new (left_in course old) course.fault) (sym taken.1.0) is,
       );
       lexing = past_lexing old _ new old.is_at_code mid.at new.at (mid.at + 1) new.at old.token (ap (λ (reader : Reader). reader.text) stepped ∙ same) at.text at.going is read (λ yes. rw same at (step_in_code mid new _ word.len _ stands stepped));

@@ -87,7 +87,7 @@ returns c = λ course lexing.
     let edges = rw c.plain_text.ensures.text at (text_edges mid c.in-Some-Ok.found c.plain_text.ensures.sound stands) in
     rw (c.put_valued.ensures.0, c.put_valued.ensures.1) (record {
       passed = (
-        plain_inside c.args.self.now.reader.text.now kind.FStringText at (at + plain.len) at (at + plain.len) refl lexing.0.fits (omega (arith)) (omega (arith)) edges.0 edges.1 edges.0 edges.1,
+        plain_inside c.args.self.now.reader.text.now kind.FStringText at (at + plain.len) at (at + plain.len) refl lexing.0.fits (omega (arith)) (omega (arith)) edges.0 edges.1 edges.0 edges.1 (omega (arith)),
         subst (λ (view : Spanned TokenView). IsAheadPast course.origin c.args.self.now.reader.text.now view c.pass_chunk.new.self (left_in course c.args.self.now) course.fault) (fstring_text_shown c.args.self.now.reader.text.now at plain.len) is,
       );
       lexing = past_lexing c.args.self.now _ c.pass_chunk.new.self c.args.self.now.is_at_code at (at + plain.len) at (at + plain.len) c.args.self.now.token (c.pass_chunk.ensures.text ∙ c.plain_text.ensures.text) lexing.0 c.requires.going is read (λ yes. cc);

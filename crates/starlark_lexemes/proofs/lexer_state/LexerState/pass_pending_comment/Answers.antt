@@ -25,7 +25,7 @@ returns c = λ course lexing.
     let read = lexing.3 c.requires.going in
     let has : HasRead text new = search (rules, read) in
     rw (c.put_valued.ensures.0, c.put_valued.ensures.1) (record {
-      passed = (plain_inside text kind.Comment place.0 place.1 (place.0 + 1) place.1 refl lexing.0.fits (omega (arith, inside.order)) (omega (arith, inside.order)) inside.first inside.last inside.value inside.last, is);
+      passed = (plain_inside text kind.Comment place.0 place.1 (place.0 + 1) place.1 refl lexing.0.fits (omega (arith, inside.order)) (omega (arith, inside.order)) inside.first inside.last inside.value inside.last (omega (arith)), is);
       lexing = past_lexing old _ new c.is_at_code-self.result place.0 place.1 (place.0 + 1) place.1 old.token refl lexing.0 c.requires.going is has (λ yes. c.is_at_code-self.ensures yes text is.2.is_pending);
       after = rw c.requires.going refl;
     })

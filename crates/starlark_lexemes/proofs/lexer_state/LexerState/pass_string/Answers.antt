@@ -61,7 +61,7 @@ returns-in-Ok c = λ course at.
       passed = (
         plain_inside text kind.String old.reader.at new.at (old.reader.at + len) (new.at - 1) refl at.text.fits
             (omega (arith, same, taken.1.0)) (omega (arith, same, taken.1.0)) first last
-            (subst (λ n. IsCharBoundary text (n + len)) same value.0) (subst (IsCharBoundary text) to value.1),
+            (subst (λ n. IsCharBoundary text (n + len)) same value.0) (subst (IsCharBoundary text) to value.1) (omega (arith, same, taken.1.0)),
         subst (λ (lexeme : Spanned TokenView). IsAheadPast course.origin text lexeme new (left_in course old) course.fault)
             (string_shown text old.reader.at mid.at len body new.at same taken.1.0) is,
       );
