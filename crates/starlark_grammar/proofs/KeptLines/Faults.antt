@@ -265,26 +265,6 @@ pub chunk_escapes_none : (opening : Opening) (text : Text) (body : Body) (stop :
 chunk_escapes_none opening text body OpeningBrace = refl
 chunk_escapes_none opening text body stop = refl
 
--- no unfinished literal is one
-pub unfinished_good : (mode : Mode) (kind : Kind) (opening : Opening) (remainder : Text) → is_bad_escape (unfinished mode kind opening remainder) ≡ false
-unfinished_good mode kind opening remainder = by mode kind
-  where
-    either : (test : Bool) → is_bad_escape (if test then UnfinishedFStringExpression else UnfinishedStringLiteral) ≡ false
-    either true = refl
-    either false = refl
-
-    by : (mode : Mode) (kind : Kind) → is_bad_escape (unfinished mode kind opening remainder) ≡ false
-    by Outside kind = refl
-    by (InText other) OfText = either (is_plain opening remainder)
-    by (InText other) OfBytes = refl
-    by (InText other) OfFString = refl
-    by AtTop OfText = either (is_plain opening remainder)
-    by AtTop OfBytes = refl
-    by AtTop OfFString = refl
-    by Deeper OfText = either (is_plain opening remainder)
-    by Deeper OfBytes = refl
-    by Deeper OfFString = refl
-
 margin_escapes_none : (len : ℕ) (lexemes : List Lexeme) (levels : List ℕ) (margin : Margin) → step_escapes (margin_step len lexemes levels margin) ≡ false
 unfolding margin_step
 margin_escapes_none len lexemes levels margin = go (not (is_content margin.remainder)) (has_tab margin) (fits (width_of margin) levels) _ _ (len + margin_len margin)

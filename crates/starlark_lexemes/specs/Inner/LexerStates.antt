@@ -5,11 +5,9 @@ use Rattle.std.specs.Str.{IsCharBoundary, IsUtf8}
 use Rattle.starlark_base.specs.Diagnostics.{Diagnosed}
 use Rattle.starlark_base.specs.Sources.{SourceFile}
 use Rattle.starlark_words.specs.Inner.Reads.{more_reads}
-use Rattle.starlark_grammar.specs.AfterFaults.{is_margin_tab, restart}
-use Rattle.starlark_grammar.specs.Inner.KeptFaults.{may_keep}
+use Rattle.starlark_grammar.specs.AfterFaults.{restart}
 use Rattle.starlark_grammar.specs.Laws.{AtBoundaries}
 use Rattle.starlark_grammar.specs.Reading.{outcome}
-use Rattle.starlark_grammar.specs.KeptLines.{passed_end}
 use Rattle.starlark_grammar.specs.Tokens as grammar
 use Rattle.starlark_grammar.specs.Tokens.{Fault, Spanned}
 use Rattle.starlark_grammar.specs.Words.{Text, begins, is_name_start}

@@ -9,7 +9,7 @@ use Rattle.starlark_grammar.specs.Found.{at_line}
 use Rattle.starlark_grammar.specs.Depths.{mode_after}
 use Rattle.starlark_grammar.specs.Front.{language_front}
 use Rattle.starlark_grammar.specs.Pieces as pieces
-use Rattle.starlark_grammar.specs.Pieces.{Before, Fails, Gap, Layout, Other, Step, Piece, counts, first_margin, is_bang}
+use Rattle.starlark_grammar.specs.Pieces.{Before, Fails, Gap, Layout, Other, Step, Piece, first_margin, is_bang}
 use Rattle.starlark_words.specs.Inner.ScannedWords.{word_view}
 use Rattle.starlark_words.specs.declared.scanner.word.Word.{Word}
 use Rattle.starlark_grammar.specs.Reading.{History, after_all, history_after, nothing, pieces_len, next_step, outcome_after, read_len}

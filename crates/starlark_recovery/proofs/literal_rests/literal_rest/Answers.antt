@@ -1,4 +1,4 @@
-use Rattle.std.proofs.Common.{◌-◌, ◌≡◌, ap, drop, false, length, sym, take, ◌∙◌}
+use Rattle.std.proofs.Common.{◌-◌, ap, drop, false, length, take, ◌∙◌}
 use Rattle.starlark_grammar.specs.KeptLines.{literal_rest, raw_opening, rest_from}
 use Rattle.starlark_grammar.specs.Tokens.{Opening}
 use Rattle.starlark_grammar.specs.Words.{Text}

@@ -1,9 +1,8 @@
-use Rattle.std.proofs.Common.{ℕ, ◌+◌, ◌-◌, ◌≡◌, ap, arith, drop, false, length, refl, sym, take, ◌∙◌}
+use Rattle.std.proofs.Common.{ℕ, ◌-◌, ◌≡◌, ap, arith, drop, false, length, sym, take, ◌∙◌}
 use Rattle.starlark_grammar.specs.Inner.Openings.{opening_view}
 use Rattle.std.specs.Prelude.{Bool, nat_eq}
 use Rattle.std.specs.List.{starts_with}
 use Rattle.starlark_grammar.specs.Words.{Text}
-use Rattle.starlark_grammar.specs.KeptLines.{longer_rest, rest_from}
 use Rattle.starlark_recovery.proofs.LiteralBytes.{closed_here, left_is, line_here, none_left, other_byte, taken_byte}
 use Rattle.starlark_recovery.proofs.literal_rests.rest_of.Goals as goal
 

@@ -5,7 +5,7 @@ use Rattle.starlark_lexemes.specs.Inner.LexerStates.{IsLexingIn, KeepsOpen, cour
 use Rattle.starlark_lexemes.proofs.MovedFaults.{raw_thrown}
 use Rattle.starlark_recovery.specs.Inner.RecoveryStates.{IsPaidTo, part_of, with_literal_here}
 use Rattle.starlark_recovery.proofs.Passes.{one_raw}
-use Rattle.starlark_recovery.proofs.RecoveryStates.{course_again, has_bytes, keeps_open, kept_on, last_fits}
+use Rattle.starlark_recovery.proofs.RecoveryStates.{course_again, keeps_open, kept_on, last_fits}
 use Rattle.starlark_recovery.proofs.recovery_state.RecoveryState.keep.Goals as goal
 
 pub go_on-requires-clause-fits : goal.go_on-requires-clause-fits

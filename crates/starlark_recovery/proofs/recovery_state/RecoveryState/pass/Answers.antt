@@ -1,11 +1,11 @@
-use Rattle.std.proofs.Common.{◌≡◌, ◌+◌, ◌-◌, Bool, true, false, ap, arith, length, subst, sym, ◌∙◌}
+use Rattle.std.proofs.Common.{◌≡◌, ◌+◌, ◌-◌, true, false, ap, arith, length, subst, sym, ◌∙◌}
 use Rattle.starlark_grammar.specs.KeptLines.{is_bad_escape, passed_end}
 use Rattle.starlark_grammar.specs.Tokens.{Fault, Spanned}
 use Rattle.starlark_grammar.specs.Words.{Text}
 use Rattle.starlark_lexemes.specs.Inner.LexerStates.{AreReadsTo, course_of}
 use Rattle.starlark_reader.specs.Inner.Reader.{IsRaw}
 use Rattle.starlark_recovery.specs.Inner.Passed.{error_keeps_line}
-use Rattle.starlark_recovery.specs.Inner.RecoveryStates.{IsPaidTo, IsStopped, is_end, part_of, rest_keeps, stays_open_here, with_literal_here}
+use Rattle.starlark_recovery.specs.Inner.RecoveryStates.{IsStopped, is_end, part_of, rest_keeps, stays_open_here, with_literal_here}
 use Rattle.starlark_recovery.specs.Restarts.{IsPlaceOf}
 use Rattle.starlark_recovery.proofs.Passes.{bad_kind, keeps_is, tab_kind}
 use Rattle.starlark_recovery.proofs.RecoveryStates.{later, other_here, own_paid}

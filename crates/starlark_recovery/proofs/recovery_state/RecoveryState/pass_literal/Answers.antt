@@ -1,9 +1,8 @@
-use Rattle.std.proofs.Common.{◌≡◌, ◌+◌, ◌-◌, Bool, true, false, ap, arith, length, subst, sym, ◌∙◌}
-use Rattle.starlark_grammar.specs.KeptLines.{LiteralRest, literal_rest, passed_end}
+use Rattle.std.proofs.Common.{◌≡◌, true, false, ap, arith, length, sym, ◌∙◌}
+use Rattle.starlark_grammar.specs.KeptLines.{LiteralRest, literal_rest}
 use Rattle.starlark_grammar.specs.Tokens.{Fault, Spanned}
 use Rattle.starlark_grammar.specs.Words.{Text}
 use Rattle.starlark_grammar.proofs.KeptLines.KeptFaultPlaces.{passed_literal}
-use Rattle.starlark_lexemes.specs.Inner.LexerStates.{AreReadsTo}
 use Rattle.starlark_reader.specs.Inner.Reader.{IsRaw}
 use Rattle.starlark_recovery.specs.Inner.Passed.{rest_view}
 use Rattle.starlark_recovery.specs.Inner.RecoveryStates.{part_of, with_literal_here}
