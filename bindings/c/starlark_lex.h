@@ -372,8 +372,8 @@ bool starlark_fault_is_final(const uint8_t *front, size_t front_len,
  * A reserved word, an integer with a leading 0, a character that begins no token, and a tab in code
  * keep their lines: lexing goes on after them, with all brackets, f-strings and blocks open. So it
  * does after a literal with a bad escape, if that is closed. After any other fault it begins again
- * at the next line, with the blocks alone open. Each fault that
- * keeps its line, but the tab, names its text: so a caller may take a reserved word as a name.
+ * at the next line, with the blocks alone open. Each fault that keeps its line, but the tab, names
+ * its text: so a caller may take a reserved word as a name.
  *
  * With STARLARK_STATUS_FULL one of the buffers has no room for all. A next call with buffers of the
  * wanted sizes has room. So one call with empty buffers tells how much a text needs. The buffers
@@ -381,8 +381,7 @@ bool starlark_fault_is_final(const uint8_t *front, size_t front_len,
  * STARLARK_STATUS_MEMORY they have the first lexemes and faults of the text. After what they have
  * they are as they were.
  *
- * The call tests once that the bytes are UTF-8, and lexes each byte once. Of a text with a fault
- * that keeps its line it allocates a copy, which it frees before it returns. */
+ * The call tests once that the bytes are UTF-8, and lexes each byte once. It copies no text. */
 STARLARK_LEX_API
 uint32_t starlark_lex_recovering(const uint8_t *text, size_t text_len,
                                  starlark_lexeme *lexemes, size_t lexemes_cap,
