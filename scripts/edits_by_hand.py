@@ -29,9 +29,10 @@ from pathlib import Path
 from shared.edits import edits_by_hand, last_refused, write_last_refused
 from shared.programs import TOP, give_up
 
-# A crate is proved once more before its first edit, by all processors that are free: 1 to 3 minutes. Then an edit takes 10 to 35
-# seconds of one processor. So this many end within five minutes.
+# A crate is proved once more before its first edit, by all processors that are free: 1 to 3 minutes, and 4 for the largest. Then
+# an edit takes 10 to 35 seconds of one processor. So this many end within five minutes.
 MOST_OF_A_SHARE = 14
+MOST_OF_THE_LARGEST = {"starlark_tokens": 4}
 TRIED = re.compile(r"(?m)^rt: must-fail (\S+/\S+\.edit): (.*)$")
 # That a proof names what an edit takes away says nothing of a contract.
 REFUSED = re.compile(r"refused, as it must be(?! \(only because a proof file names)")
@@ -46,7 +47,7 @@ def shares(edits):
     """The edits of each crate in parts of like size, none of which is too long."""
     for crate in sorted({edit.crate for edit in edits}):
         own = [edit for edit in edits if edit.crate == crate]
-        count = -(-len(own) // MOST_OF_A_SHARE)
+        count = -(-len(own) // MOST_OF_THE_LARGEST.get(crate, MOST_OF_A_SHARE))
         yield from (own[number * len(own) // count : (number + 1) * len(own) // count] for number in range(count))
 
 
