@@ -191,8 +191,8 @@ class Errors(unittest.TestCase):
         begin, end = ("Name", "x"), ("Name", "y")
         kept = [begin, ("Error", "!"), ("Literal.Number.Integer", "1"), ("Literal.String", "'é'"), end]
         self.assertEqual(named_parts("x ! 1 'é'\ny"), kept)
-        lost = [begin, ("Text", " '"), ("Error", "\\xg"), ("Text", "' 1 'é'\n"), end]
-        self.assertEqual(named_parts("x '\\xg' 1 'é'\ny"), lost)
+        lost = [begin, ("Literal.String", "f'"), ("Text", "\\x"), ("Error", "g"), ("Text", "' 1 'é'\n"), end]
+        self.assertEqual(named_parts("x f'\\xg' 1 'é'\ny"), lost)
 
     def test_tabs(self) -> None:
         tabs = {"a\tb": 1, "x\n\ty": 2, "x\r\n \ty": 4, "x\n# a\tb\n \ty": 9, "  \t# c\n\tx\ny": 7}

@@ -208,7 +208,8 @@ fn texts_are_lexed_on_after_faults() {
             assert_eq!(recovered_lines(text, 2 * text.len(), room), lines);
         }
     }
-    assert_eq!((rest, texts.len()), ("", 139));
+    assert_eq!(rest, "");
+    assert!(texts.len() >= 158);
 }
 
 #[test]

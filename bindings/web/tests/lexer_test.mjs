@@ -62,7 +62,7 @@ test("each stored text has the lines of the program", () => {
 
 test("each stored text with faults has the lines of the lexer that goes on after them", () => {
     const texts = recoveredTexts();
-    assert.equal(texts.length, 139);
+    assert.ok(texts.length >= 158);
     for (const { source, lines } of texts) {
         assert.equal(linesOfText(lexRecovering, source).trimEnd(), lines.trimEnd(), source.toString());
         assert.deepEqual(faults(source), lexRecovering(source).faults);
