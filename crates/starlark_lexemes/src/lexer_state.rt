@@ -24,8 +24,8 @@ use starlark_base::codemap::{CodeMap, OrMemory};
 use starlark_errors::eval_exception::EvalException;
 use starlark_errors::fault_exception::exception;
 use starlark_reader::nesting::LexerMode;
+use starlark_reader::own_token;
 use starlark_reader::reader::{Before, Reader, Stage, TakenLineEnd};
-use starlark_reader::{ends_expression, own_token};
 use starlark_token::lexeme_error::LexemeError;
 use starlark_token::tokens::Token;
 use starlark_words::scanner::{Class, LiteralKind, Quote, Terminal, Word};
@@ -73,21 +73,21 @@ fn pending_kind(token: &Token) -> Kind
     }
 }
 
-/// The kind of a keyword or symbol, whose token is dropped.
+/// The kind of a `}`, whose token is dropped.
+#[tactic(auto, unfolding(starlark_token::specs::TokenViews::token_view))]
 #[inline(always)]
-fn symbol_kind(token: Token, terminal: Terminal) -> Kind
-    requires { IsTokenOf terminal (token_view token) }
+fn closing_curly_kind(token: Token) -> Kind
+    requires { IsTokenOf Terminal.ClosingCurly (token_view token) }
     ensures plain { is_plain result ≡ true }
     ensures token { (value : Text) → token_view token ≡ Whole (token_of result value) }
 {
-    if ends_expression(&token) {
-        Kind::FStringExprEnd
-    } else {
-        Kind::Word(terminal)
+    match token {
+        Token::FStringExprEnd => Kind::FStringExprEnd,
+        _ => Kind::Word(Terminal::ClosingCurly),
     }
 }
 
-/// Whether code comes after a keyword or symbol: only the bracket depth can have changed it.
+/// Whether code comes after a `}`: only the depth in brackets can have changed it.
 #[inline(always)]
 fn stays_in_code(reader: &Reader<'_>) -> bool
     ensures { result ≡ true → IsInCode reader.now }
@@ -184,14 +184,23 @@ impl<'a> LexerState<'a> {
         self.put_taken(taken, is_at_code)
     }
 
-    /// Passes the string or bytes literal whose opener is here, after which a run of `run` bytes is known.
-    // A call: it needs registers that a literal without escapes doesn't.
+    /// Passes the string or bytes literal whose opener of `len` bytes is here, after which a run of `run`
+    /// bytes is known.
+    // A call: it needs registers that a literal without escapes doesn't. Not of a `Word`, which goes
+    // through memory (0.6 % of short strings).
     #[inline(never)]
-    fn pass_literal(&mut self, opener: Word, run: usize) -> Kind
-        requires { (course : Course) × IsAtLiteral course self.old opener run }
-        ensures { (course : Course) → IsAtLiteral course self.old opener run → HasPassedNext course self.old (passed_of self.new result) self.new }
+    fn pass_literal(
+        &mut self,
+        kind: LiteralKind,
+        is_raw: bool,
+        quote: Quote,
+        len: usize,
+        run: usize,
+    ) -> Kind
+        requires { (course : Course) × IsAtLiteral course self.old (record { class = Class.Opener kind is_raw quote; len = len }) run }
+        ensures { (course : Course) → IsAtLiteral course self.old (record { class = Class.Opener kind is_raw quote; len = len }) run → HasPassedNext course self.old (passed_of self.new result) self.new }
     {
-        let read = self.reader.read_literal(opener, run);
+        let read = self.reader.read_literal(kind, is_raw, quote, len, run);
         self.put_read(read)
     }
 
@@ -209,41 +218,35 @@ impl<'a> LexerState<'a> {
                 let taken = self.reader.take_plain_bytes(is_raw, quote, len, body);
                 self.put_taken(taken, true)
             }
-            Err(run) => {
-                let class = Class::Opener {
-                    kind: LiteralKind::Bytes,
-                    is_raw,
-                    quote,
-                };
-                self.pass_literal(Word { class, len }, run)
-            }
+            Err(run) => self.pass_literal(LiteralKind::Bytes, is_raw, quote, len, run),
         }
     }
 
     /// Passes the word here, of which only the whole tells what it is: the start of an f-string, a
     /// bytes literal, or a number; or stops at the fault that it is.
-    // A call: in line it costs each lexeme.
+    // A call: in line it costs each lexeme. Not of a `Word`: each lexeme zeroes memory for it (1.6 %).
     #[inline(never)]
-    fn pass_word(&mut self, word: Word) -> Kind
-        requires here { (course : Course) × IsAtWord course self.old word (most_peeked word) }
-        requires slow { is_slow word.class ≡ true }
-        ensures { (course : Course) → IsAtWord course self.old word (most_peeked word) → HasPassedNext course self.old (passed_of self.new result) self.new }
+    fn pass_word(&mut self, class: Class, len: usize) -> Kind
+        requires here { (course : Course) × IsAtWord course self.old (record { class = class; len = len }) (most_peeked (record { class = class; len = len })) }
+        requires slow { is_slow class ≡ true }
+        ensures { (course : Course) → IsAtWord course self.old (record { class = class; len = len }) (most_peeked (record { class = class; len = len })) → HasPassedNext course self.old (passed_of self.new result) self.new }
     {
-        match word.class {
+        match class {
             Class::Opener {
                 kind: LiteralKind::FString,
                 is_raw,
                 quote,
             } => {
-                let taken = self.reader.take_fstring(is_raw, quote, word.len);
+                let taken = self.reader.take_fstring(is_raw, quote, len);
                 self.put_taken(taken, false)
             }
             Class::Opener {
                 kind: LiteralKind::Bytes,
                 is_raw,
                 quote,
-            } => self.pass_bytes(is_raw, quote, word.len),
+            } => self.pass_bytes(is_raw, quote, len),
             _ => {
+                let word = Word { class, len };
                 if let Some(digit) = self.reader.single_digit(word) {
                     let lexeme = self.reader.take_digit(digit);
                     return self.put_taken(Ok(lexeme), true);
@@ -428,26 +431,34 @@ impl<'a> LexerState<'a> {
         let begin = self.reader.at;
         self.yielded_count += 1;
         self.reader.step_over(len, Before::Other);
-        let end = self.reader.at;
         Passed {
-            kind: Kind::Identifier,
-            begin,
-            end,
             value_begin: begin,
-            value_end: end,
+            ..Passed::valueless(Kind::Identifier, begin, self.reader.at)
         }
     }
 
-    /// Passes the keyword or symbol of `len` bytes here.
+    /// Passes the `}` of `len` bytes here, which may end an f-string's expression.
+    // A call: in line each keyword and symbol tests for an open f-string (1.2 %).
+    #[inline(never)]
+    fn pass_closing_curly(&mut self, len: usize) -> Kind
+        requires { (course : Course) × IsAtWord course self.old (record { class = Class.Fixed Terminal.ClosingCurly; len = len }) (5 * len - 2) }
+        ensures { (course : Course) → IsAtWord course self.old (record { class = Class.Fixed Terminal.ClosingCurly; len = len }) (5 * len - 2) → HasPassedNext course self.old (passed_of self.new result) self.new }
+    {
+        let (begin, token, end) = self.reader.take_terminal(Terminal::ClosingCurly, len);
+        self.is_at_code = stays_in_code(&self.reader);
+        self.put_plain(closing_curly_kind(token), begin, end)
+    }
+
+    /// Passes the keyword or symbol of `len` bytes here, which isn't a `}`.
     #[inline(always)]
     fn pass_symbol(&mut self, terminal: Terminal, len: usize) -> Passed
-        requires { (course : Course) × IsAtWord course self.old (record { class = Class.Fixed terminal; len = len }) (5 * len - 2) }
+        requires here { (course : Course) × IsAtWord course self.old (record { class = Class.Fixed terminal; len = len }) (5 * len - 2) }
+        requires other { terminal ≢ Terminal.ClosingCurly }
         ensures { (course : Course) → IsAtWord course self.old (record { class = Class.Fixed terminal; len = len }) (5 * len - 2) → HasPassedNext course self.old result self.new }
     {
+        let (begin, _token, end) = self.reader.take_terminal(terminal, len);
         self.yielded_count += 1;
-        let (begin, token, end) = self.reader.take_terminal(terminal, len);
-        self.is_at_code = stays_in_code(&self.reader);
-        Passed::valueless(symbol_kind(token, terminal), begin, end)
+        Passed::valueless(Kind::Word(terminal), begin, end)
     }
 
     /// Passes the string literal whose opener of `len` bytes is here.
@@ -467,20 +478,13 @@ impl<'a> LexerState<'a> {
                 self.yielded_count += 1;
                 let end = self.reader.at;
                 Passed {
-                    kind: Kind::String,
-                    begin,
-                    end,
                     value_begin: begin + len,
                     value_end: end - 1,
+                    ..Passed::valueless(Kind::String, begin, end)
                 }
             }
             Err(run) => {
-                let class = Class::Opener {
-                    kind: LiteralKind::Text,
-                    is_raw,
-                    quote,
-                };
-                let kind = self.pass_literal(Word { class, len }, run);
+                let kind = self.pass_literal(LiteralKind::Text, is_raw, quote, len, run);
                 self.passed(kind)
             }
         }
@@ -507,7 +511,7 @@ impl<'a> LexerState<'a> {
                 let end = self.reader.at;
                 self.put_valued(Kind::Comment, begin, end, begin + 1, end)
             }
-            _ => self.pass_word(word),
+            _ => self.pass_word(word.class, word.len),
         }
     }
 
@@ -538,6 +542,10 @@ impl<'a> LexerState<'a> {
             };
             match class {
                 Class::Identifier => return self.pass_name(len),
+                Class::Fixed(Terminal::ClosingCurly) => {
+                    let kind = self.pass_closing_curly(len);
+                    return self.passed(kind);
+                }
                 Class::Fixed(terminal) => return self.pass_symbol(terminal, len),
                 Class::LineEnd => {
                     let begin = self.reader.at;
@@ -564,7 +572,7 @@ impl<'a> LexerState<'a> {
                 } => return self.pass_string(is_raw, quote, len),
                 Class::Skipped => self.reader.step_over(len, Before::Gap),
                 _ => {
-                    let kind = self.pass_word(Word { class, len });
+                    let kind = self.pass_word(class, len);
                     return self.passed(kind);
                 }
             }

@@ -15,4 +15,4 @@ mod reading;
 mod widths;
 
 pub use margins::margin_of;
-pub use reading::terminals::{ends_expression, own_token};
+pub use reading::terminals::own_token;

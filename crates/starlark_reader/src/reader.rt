@@ -18,7 +18,7 @@ ghost use Rattle.starlark_grammar.specs.declared.class.LiteralKind.TheVariants a
 ghost use Rattle.starlark_reader.specs.Inner.Pending.{IsIdle, IsPendingToken, owed, pending_lexemes};
 ghost use Rattle.starlark_reader.specs.Inner.MarginCuts.{IsCutBefore};
 ghost use Rattle.starlark_reader.specs.Inner.ReadBounds.{HasStarted, HasScanned, HasScannedHere, HasRead, HasReadAt, HasReadLast, IsMarginRead, IsPassedBy, IsTaken};
-ghost use Rattle.starlark_reader.specs.Inner.Reader.{From, HasSomething, IsAhead, IsAtCode, IsAtEnd, IsAtLineEnd, IsAtStep, IsBangHere, IsInCode, IsLast, IsLineEndStep, IsPlainTextHere, IsReached, IsRead, IsReadPast, IsSound, IsStateAfter, IsTokenOf, IsWordHere, KeepsAhead, Line, Origin, Start, Takes, TakesNext, chunk_lexemes, has_read_none, kept_history, left_here, left_to_read, newline_of, remaining_outcome, step_here};
+ghost use Rattle.starlark_reader.specs.Inner.Reader.{From, HasSomething, IsAhead, IsAtCode, IsAtEnd, IsAtLineEnd, IsAtStep, IsBangHere, IsInCode, IsLast, IsLineEndStep, IsPlainTextHere, IsReached, IsRead, IsReadPast, IsSound, IsStateAfter, IsTokenOf, IsWordHere, KeepsAhead, Line, Origin, Start, Takes, TakesNext, chunk_lexemes, has_read_none, kept_history, left_here, left_to_read, newline_of, remaining_outcome, step_here, symbol_view};
 ghost use Rattle.starlark_reader.specs.Inner.PieceViews.{IsLineEnd};
 ghost use Rattle.starlark_reader.specs.Inner.Lookaheads.{HasPeeked, IsLiteralHere, IsTextRun};
 ghost use Rattle.starlark_grammar.specs.Cuts.{is_settled};
@@ -28,7 +28,7 @@ ghost use Rattle.starlark_token.specs.TokenViews.{TokenView, token_view};
 ghost use Rattle.starlark_grammar.specs.Tokens.{FStringStart, Fault, Spanned};
 ghost use Rattle.starlark_grammar.specs.Depths.{InText, mode_after};
 ghost use Rattle.starlark_grammar.specs.Front.{language_front};
-ghost use Rattle.starlark_reader.specs.Inner.Nesting.{keeps_nesting};
+ghost use Rattle.starlark_reader.specs.Inner.Nesting.{keeps_code};
 ghost use Rattle.starlark_grammar.specs.Words.{Text, begins, is_name_start};
 
 use crate::indent_stack::IndentStack;
@@ -300,7 +300,7 @@ impl<'a> Reader<'a> {
         ensures read { Takes self.old (λ history found. IsStep found (steps.Token token len)) (Some result) self.new }
         ensures taken { IsTaken len self.old self.new }
         ensures onward { IsInCode self.new → IsAtCode self.old.text.now self.new }
-        ensures stays { keeps_nesting (token_view token) ≡ true → IsInCode self.old → IsInCode self.new }
+        ensures stays { keeps_code (token_view token) ≡ true → IsInCode self.old → IsInCode self.new }
     {
         let begin = self.at;
         self.nesting.pass(&token);
@@ -701,6 +701,7 @@ impl<'a> Reader<'a> {
         ensures ahead { TakesNext self.old (Some result) self.new }
         ensures token { IsTokenOf terminal (token_view result.1) }
         ensures code { IsInCode self.new → IsAtCode self.old.text.now self.new }
+        ensures other { terminal ≢ Terminal.ClosingCurly → (token_view result.1 ≡ symbol_view false terminal) × IsInCode self.new }
         ensures taken { IsTaken len self.old self.new }
     {
         let token = match terminal {
@@ -780,32 +781,27 @@ impl<'a> Reader<'a> {
         Ok(self.take_token(token, word.len))
     }
 
-    /// Takes the string or bytes literal whose opener is here, or stops at its fault. The `run` bytes after
-    /// the opener are known.
+    /// Takes the string or bytes literal whose opener of `len` bytes is here, or stops at its fault. The
+    /// `run` bytes after the opener are known.
     pub fn read_literal(
         &mut self,
-        opener: Word,
+        kind: LiteralKind,
+        is_raw: bool,
+        quote: Quote,
+        len: usize,
         run: usize,
     ) -> Result<Option<(usize, Token, usize)>, AllocError>
         requires sound { IsSound self.old }
-        requires found { IsLiteralHere self.old.text.now self.old opener run }
+        requires found { IsLiteralHere self.old.text.now self.old (record { class = class.Opener kind is_raw quote; len = len }) run }
         ensures text { self.new.text ≡ self.old.text }
         ensures ahead { IfOk result (λ given. TakesNext self.old given self.new) }
         ensures end { IfOk result (λ given. given ≡ None → IsAtEnd self.old.text.now self.new) }
         ensures memory { OnErr result (HasSomething self.old) }
         ensures reads { OnOk result (HasRead self.old.text.now self.new) }
     {
-        let Class::Opener {
-            kind,
-            is_raw,
-            quote,
-        } = opener.class
-        else {
-            unreachable!()
-        };
         let mode = self.nesting.mode();
         let rest = &self.text[self.at..];
-        let remainder = &rest[opener.len..];
+        let remainder = &rest[len..];
         let opening = opening_of(&mut self.reads, is_raw, quote, remainder);
         let quotes = if opening.is_triple { 2 } else { 0 };
         let found = literal_piece(
@@ -813,7 +809,7 @@ impl<'a> Reader<'a> {
             self.alloc,
             mode,
             Literal { kind, opening },
-            opener.len + quotes,
+            len + quotes,
             run,
             &remainder[quotes..],
         )?;

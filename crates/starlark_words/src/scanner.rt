@@ -35,6 +35,7 @@ fn begins_number(text: &[u8]) -> bool
 /// Length of the run of spaces at the front of a text, and the byte after it; 0 after its end.
 ///
 /// Each byte is read once, and `word_after` counts the reads.
+// The first two bytes before the loop, since most gaps are one space (0.9 %).
 #[inline(always)]
 pub fn gap_and_next(text: &str) -> (usize, u8)
     ensures value { result.0 ≡ prefix_len (nat_eq 32) text.now }
@@ -44,8 +45,12 @@ pub fn gap_and_next(text: &str) -> (usize, u8)
     ensures within { result.0 ≤ length text.now }
 {
     let bytes = text.as_bytes();
-    let mut len = 0;
-    let mut next = byte_at(bytes, 0);
+    let first = byte_at(bytes, 0);
+    if first != b' ' {
+        return (0, first);
+    }
+    let mut len = 1;
+    let mut next = byte_at(bytes, 1);
     while next == b' ' {
         len += 1;
         next = byte_at(bytes, len);
@@ -59,8 +64,9 @@ pub fn gap_and_next(text: &str) -> (usize, u8)
 ///
 /// Of a mark whose first two bytes are the same, the third one is read, too: a symbol of three bytes
 /// begins so. `first` is the first byte, or 0. Its read and those of the spaces are counted with these.
-// The reads are added up once, before the mark is found: after it a count costs each lexeme 15
-// instructions, and each further count four. A line end is found before all else (8 % of blank lines).
+// The reads are added up before the mark is found: after it a count costs each lexeme 15 instructions.
+// The third one is counted by itself: in one sum it costs 1 %. A line end is found before all else (8 % of
+// blank lines).
 #[inline(always)]
 pub fn word_after(reads: &mut ReadCounter, gap: usize, first: u8, text: &str) -> Option<Word>
     requires few { gap < 2 ^ 32 }
@@ -89,12 +95,12 @@ pub fn word_after(reads: &mut ReadCounter, gap: usize, first: u8, text: &str) ->
     }
     let bytes = text.as_bytes();
     let second = byte_at(bytes, 1);
-    let (third, passed) = if second == first {
-        (byte_at(bytes, 2), passed + 2)
-    } else {
-        (0, passed + 1)
-    };
-    reads.add(passed);
+    reads.add(passed + 1);
+    let mut third = 0;
+    if second == first {
+        reads.add(1);
+        third = byte_at(bytes, 2);
+    }
     marks::mark(first, second, third)
 }
 

@@ -1,13 +1,14 @@
 -- The open f-strings of a text, one token further.
 use Rattle.std.proofs.Common.{◌≡◌, inl, inr, ℕ, zero, suc, ◌+◌, ◌-◌, ◌≤◌, ◌<◌, ◌^◌, Bool, true, false, List, [], ◌∷◌, ◌++◌, length, get_or, set, take, refl, ap, ◌∙◌, sym, subst, Option, Some, None, arith, append-nil}
-use Rattle.std.specs.Prelude.{◌⊎◌, count_by, is_some, option_map, option_to_list, reverse}
+use Rattle.std.specs.Prelude.{◌⊎◌, ◌==◌, ◌&&◌, if◌then◌else◌, count_by, is_some, not, option_map, option_to_list, reverse}
 use Rattle.std.specs.List.{slice_get}
+use Rattle.std.proofs.lemmas.Bool.{ne_eqb}
 use Rattle.std.proofs.lemmas.Option.{same_Some, none-some, slice_get_within, get_or_from_slice_get, slice_get-get_or}
 use Rattle.std.proofs.lemmas.List.{length-set, reverse-append, take_all, take_more, take_more_set}
 use Rattle.starlark_grammar.specs.declared.class.Terminal.TheVariants as terminal
 use Rattle.starlark_grammar.specs.Tokens.{Token, Opening, FStringStart, FStringEnd, FStringExprStart, FStringExprEnd, Word}
-use Rattle.starlark_grammar.specs.Depths.{Mode, Outside, Round, Square, Curly, braces, depth, is_any_opening, is_opening, inside, open_fstring, mode_by, mode_after}
-use Rattle.starlark_reader.specs.Inner.Nesting.{HasRoom, Represents, braces_after, depth_after, fstring_after, fstring_of, fstring_view, keeps_nesting}
+use Rattle.starlark_grammar.specs.Depths.{Mode, Outside, InText, AtTop, Deeper, Round, Square, Curly, braces, depth, is_any_opening, is_opening, inside, open_fstring, mode_by, mode_after}
+use Rattle.starlark_reader.specs.Inner.Nesting.{FStringDepths, HasRoom, Represents, braces_after, depth_after, fstring_after, fstring_of, fstring_view, keeps_code, keeps_nesting}
 use Rattle.starlark_reader.specs.Inner.PieceViews.{is_code}
 use Rattle.starlark_token.specs.TokenViews.{TokenView, Whole, token_view}
 use Rattle.starlark_token.specs.declared.tokens.Token as code
@@ -108,6 +109,49 @@ place_is fstring fstrings tokens mode h inner = go (open_fstring 0 tokens) (h 0)
 pub outside_is : (tokens : List Token) → AreOpen [] tokens → Outside ≡ mode_after tokens
 unfolding mode_after
 outside_is tokens h = rw (map_none fstring_of (open_fstring 0 tokens) (h 0)) refl
+
+-- Code after a token in code
+
+-- whether code comes after an open f-string's tokens, by its depths
+abbrev in_code : Option FStringDepths → Bool
+in_code None = true
+in_code (Some depths) = not (depths.braces == 0)
+
+code_by : (found : Option (Opening × List Token)) → is_code (mode_by found) ≡ in_code (option_map fstring_of found)
+unfolding fstring_of
+code_by None = refl
+code_by (Some found) = go found.0 (braces found.1 == 0) (braces found.1 == 1 && depth Round found.1 == 0 && depth Square found.1 == 0)
+  where
+    go : (opening : Opening) (text top : Bool) → is_code (if text then InText opening else (if top then AtTop else Deeper)) ≡ not text
+    go opening true top = refl
+    go opening false true = refl
+    go opening false false = refl
+
+more_braces : (n m : ℕ) → n ≤ m → not (n == 0) ≡ true → not (m == 0) ≡ true
+more_braces zero m le h = cc
+more_braces (suc n) m le h = ap not (ne_eqb m 0 (λ none. omega (arith, le, none)))
+
+no_brace_closed : (node : Token) → keeps_code (Whole node) ≡ true → (keeps node ≡ true) × ((n : ℕ) → n ≤ braces_after node n)
+no_brace_closed (Word terminal.ClosingCurly) h = cc
+no_brace_closed (FStringStart opening) h = cc
+no_brace_closed FStringExprStart h = cc
+no_brace_closed FStringExprEnd h = cc
+no_brace_closed FStringEnd h = cc
+no_brace_closed node h = (refl, λ n. omega arith)
+
+-- it does, whatever tokens the code represents
+pub code_stays : (node : Token) (tokens before : List Token) (new : Nesting) → keeps_code (Whole node) ≡ true → is_code (mode_after tokens) ≡ true → Represents (node ∷ tokens) new → Represents before new → is_code (mode_after before) ≡ true
+unfolding mode_after
+code_stays node tokens before new stays code here there =
+    let kept = no_brace_closed node stays in
+    let same : option_map fstring_of (open_fstring 0 before) ≡ option_map fstring_of (open_fstring 0 (node ∷ tokens)) = sym (there.fstrings 0) ∙ here.fstrings 0 in
+    code_by (open_fstring 0 before) ∙ ap in_code same ∙ ap (λ found. in_code (option_map fstring_of found)) (innermost_onward node tokens kept.0) ∙ go kept.1 (open_fstring 0 tokens) code
+  where
+    go : ((n : ℕ) → n ≤ braces_after node n) → (found : Option (Opening × List Token)) → is_code (mode_by found) ≡ true → in_code (option_map fstring_of (option_map (λ (found : Opening × List Token). (found.0, node ∷ found.1)) found)) ≡ true
+    go more None h = refl
+    go more (Some found) h =
+        let after = fstring_onward found node (brace_within node found (λ opens. h)) in
+        subst (λ (depths : FStringDepths). in_code (Some depths) ≡ true) after (more_braces (fstring_of found).braces _ (more (fstring_of found).braces) (sym (code_by (Some found)) ∙ h))
 
 -- The innermost f-string is the last of a list.
 

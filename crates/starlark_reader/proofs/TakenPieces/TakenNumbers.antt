@@ -15,7 +15,7 @@ use Rattle.starlark_token.specs.TokenViews.{Whole, token_view}
 use Rattle.starlark_token.specs.declared.tokens.Token.{Token}
 use Rattle.starlark_words.specs.Inner.ScannedWords.{is_number}
 use Rattle.starlark_words.specs.declared.scanner.word.Word.{Word}
-use Rattle.starlark_reader.specs.Inner.Nesting.{is_fstring_start, keeps_nesting}
+use Rattle.starlark_reader.specs.Inner.Nesting.{is_fstring_start, keeps_code}
 use Rattle.starlark_reader.specs.Inner.Reader.{IsStateAfter, IsWordHere, Origin, step_here}
 use Rattle.starlark_reader.specs.Inner.StepViews.{IsDigitAt, IsStep, number_of}
 use Rattle.starlark_reader.specs.Inner.StepViews as step
@@ -34,20 +34,20 @@ number_stands s class.Float word rest n plain = (refl, refl)
 number_stands s it word rest n plain = cc
 
 -- a number changes neither brackets nor f-strings
-pub number_changes : (it : Class) (word : Text) (found : Token) → token_view found ≡ Whole (number_of it word) → keeps_nesting (token_view found) ≡ true
-number_changes class.Decimal word found view = ap keeps_nesting view
-number_changes class.Hexadecimal word found view = ap keeps_nesting view
-number_changes class.Octal word found view = ap keeps_nesting view
-number_changes class.Binary word found view = ap keeps_nesting view
-number_changes class.Float word found view = ap keeps_nesting view
-number_changes class.Skipped word found view = ap keeps_nesting view
-number_changes class.LineEnd word found view = ap keeps_nesting view
-number_changes (class.Opener kind is_raw quote) word found view = ap keeps_nesting view
-number_changes class.Comment word found view = ap keeps_nesting view
-number_changes class.Tabs word found view = ap keeps_nesting view
-number_changes class.Reserved word found view = ap keeps_nesting view
-number_changes class.Identifier word found view = ap keeps_nesting view
-number_changes (class.Fixed terminal) word found view = ap keeps_nesting view
+pub number_changes : (it : Class) (word : Text) (found : Token) → token_view found ≡ Whole (number_of it word) → keeps_code (token_view found) ≡ true
+number_changes class.Decimal word found view = ap keeps_code view
+number_changes class.Hexadecimal word found view = ap keeps_code view
+number_changes class.Octal word found view = ap keeps_code view
+number_changes class.Binary word found view = ap keeps_code view
+number_changes class.Float word found view = ap keeps_code view
+number_changes class.Skipped word found view = ap keeps_code view
+number_changes class.LineEnd word found view = ap keeps_code view
+number_changes (class.Opener kind is_raw quote) word found view = ap keeps_code view
+number_changes class.Comment word found view = ap keeps_code view
+number_changes class.Tabs word found view = ap keeps_code view
+number_changes class.Reserved word found view = ap keeps_code view
+number_changes class.Identifier word found view = ap keeps_code view
+number_changes (class.Fixed terminal) word found view = ap keeps_code view
 
 -- the step of a number that isn't a 0 before more digits
 pub number_step : {origin : Origin} → (text : Text) (history : History) (reader : Reader) (word : Word) (found : Token) → IsStateAfter origin text history reader → IsWordHere text reader word → is_number word.class ≡ true

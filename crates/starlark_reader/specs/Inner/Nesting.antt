@@ -37,6 +37,15 @@ keeps_nesting (Whole grammar.FStringExprEnd) = false
 keeps_nesting (Whole grammar.FStringEnd) = false
 keeps_nesting view = true
 
+-- whether code comes after a token that is in code
+abbrev pub keeps_code : TokenView → Bool
+keeps_code (Whole (grammar.Word terminal.ClosingCurly)) = false
+keeps_code (Whole (grammar.FStringStart opening)) = false
+keeps_code (Whole grammar.FStringExprStart) = false
+keeps_code (Whole grammar.FStringExprEnd) = false
+keeps_code (Whole grammar.FStringEnd) = false
+keeps_code view = true
+
 -- the number of brackets so far, as the code counts them
 abbrev pub bracket_count : Nesting → ℕ
 bracket_count nesting = nesting.opened + nesting.closed

@@ -1,7 +1,6 @@
 //! Keywords and symbols as tokens.
 
 ghost use Rattle.std.specs.Prelude.{◌≡◌};
-ghost use Rattle.starlark_reader.specs.Inner.Reader.{is_expression_end};
 ghost use Rattle.starlark_token.specs.TokenViews.{Whole, token_view};
 ghost use Rattle.starlark_grammar.specs.Tokens.{Word};
 
@@ -21,13 +20,4 @@ pub fn own_token(terminal: Terminal) -> Token
     ensures { token_view result ≡ Whole (Word terminal) }
 {
     terminals!(match_terminals!(terminal, Terminal, token_of, {}))
-}
-
-/// Whether a token is the `}` that ends an f-string's expression.
-#[tactic(auto, unfolding(starlark_token::specs::TokenViews::token_view))]
-#[inline(always)]
-pub fn ends_expression(token: &Token) -> bool
-    ensures { result ≡ is_expression_end (token_view token.now) }
-{
-    matches!(token, Token::FStringExprEnd)
 }

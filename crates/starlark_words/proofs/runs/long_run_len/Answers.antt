@@ -1,7 +1,6 @@
 use Rattle.std.proofs.Common.{◌+◌, ◌-◌, ◌≤◌, drop, take, length, arith, refl, rules}
 use Rattle.std.proofs.lemmas.List.{length-drop, length-take-le}
 use Rattle.std.proofs.lemmas.List.Sums.{prefix_len-le-length}
-use Rattle.std.specs.List.{prefix_len}
 use Rattle.starlark_words.specs.Inner.PlainRuns.{is_in_run}
 use Rattle.starlark_words.specs.Inner.LiteralViews.{literal_view}
 use Rattle.starlark_words.proofs.LaneRuns.{step_ends, step_goes_on}

@@ -13,7 +13,7 @@ is_word : (c : goal.After-mark) → IsWord c.args.text.now c.mark.result
 is_word c =
     let small : (i : ℕ) → get_or c.args.text.now i 0 < 256 = λ i. omega (arith, c.type_inv.text i) in
     elim c.if-second-first.branch [
-      | then-second-first w ↦ by_three_bytes c.args.text.now c.mark.result small (rw (w.third-is, c.requires.first, c.byte_at-second.ensures, w.byte_at.ensures, c.as_bytes-bytes.ensures.value) at c.mark.ensures.word)
+      | then-second-first w ↦ by_three_bytes c.args.text.now c.mark.result small (rw (w.third-is, c.requires.first, c.byte_at-second.ensures, w.byte_at-third.ensures, c.as_bytes-bytes.ensures.value) at c.mark.ensures.word)
       | else-second-first w ↦ by_two_bytes c.args.text.now c.mark.result small (rw (c.requires.first, c.byte_at-second.ensures, c.as_bytes-bytes.ensures.value) at w.if-second-first.false) (rw (w.third-is, c.requires.first, c.byte_at-second.ensures, c.as_bytes-bytes.ensures.value) at c.mark.ensures.word)
     ]
 
@@ -28,7 +28,7 @@ returns-clause-rest c = (is_word c).1
 
 pub returns-clause-comment : goal.returns-clause-comment
 returns-clause-comment c =
-    mark_not_comment c.args.text.now c.mark.result c.args.first c.byte_at-second.result c.if-second-first.third.0 c.requires.first c.mark.ensures.word (is_word c).0
+    mark_not_comment c.args.text.now c.mark.result c.args.first c.byte_at-second.result c.if-second-first.third c.requires.first c.mark.ensures.word (is_word c).0
 
 pub returns-then-is_name_start-clause-comment : goal.returns-then-is_name_start-clause-comment
 returns-then-is_name_start-clause-comment c = name_not_comment c.args.text.now c.name_from.result (sym (rw c.requires.first at c.if-is_name_start.ensures)) c.name_from.ensures.word

@@ -26,8 +26,8 @@ returns-in-Identifier c =
     let first = since c.requires.0 c.requires.1 in
     record { ended = first.ended; passed = λ going course lexing. (since course lexing).passed going; lexing = λ course lexing. (since course lexing).lexing; after = first.after }
 
-pub pass_symbol-requires : goal.pass_symbol-requires
-pass_symbol-requires c =
+pub pass_symbol-requires-clause-here : goal.pass_symbol-requires-clause-here
+pass_symbol-requires-clause-here c =
     let inv = c.loop-self.invariant c.requires.0 c.requires.1 in
     (c.requires.0, rw c.in-Fixed.is at (at_word c.loop-self.self c.common_word.new.self c.in-Some.field-0 c.common_word.ensures.text inv.lexing c.if-not-self.false c.in-Some.ensures.lookahead c.common_word.ensures.ahead c.in-Some.ensures.stands))
 
@@ -39,6 +39,23 @@ returns-in-Fixed c =
     passed_since c.args.self.now c.loop-self.self c.common_word.new.self c.pass_symbol.result c.pass_symbol.new.self inv (inv.lexing.2 c.if-not-self.false) c.common_word.ensures.text (c.pass_symbol.ensures course at) in
     let first = since c.requires.0 c.requires.1 in
     record { ended = first.ended; passed = λ going course lexing. (since course lexing).passed going; lexing = λ course lexing. (since course lexing).lexing; after = first.after }
+
+pub pass_closing_curly-kind-requires : goal.pass_closing_curly-kind-requires
+pass_closing_curly-kind-requires c =
+    let found = c.in-Fixed-ClosingCurly in
+    let course = c.requires.0 in
+    let inv = c.loop-self.invariant course c.requires.1 in
+    (course, subst (λ it. IsAtWord course (record c.loop-self.self { reader = c.common_word.new.self }) (record { class = it; len = c.in-Some.field-0.len }) (5 * c.in-Some.field-0.len - 2)) (found.is ∙ ap (λ terminal. class.Fixed terminal) (rw found.is at found.field-0-is)) (at_word c.loop-self.self c.common_word.new.self c.in-Some.field-0 c.common_word.ensures.text inv.lexing c.if-not-self.false c.in-Some.ensures.lookahead c.common_word.ensures.ahead c.in-Some.ensures.stands))
+
+pub returns-in-Fixed-ClosingCurly : goal.returns-in-Fixed-ClosingCurly
+returns-in-Fixed-ClosingCurly c =
+    let found = c.in-Fixed-ClosingCurly in
+    let since = λ (course : Course) (lexing : IsLexing course c.args.self.now).
+    let inv = c.loop-self.invariant course lexing in
+    let at = subst (λ it. IsAtWord course (record c.loop-self.self { reader = c.common_word.new.self }) (record { class = it; len = c.in-Some.field-0.len }) (5 * c.in-Some.field-0.len - 2)) (found.is ∙ ap (λ terminal. class.Fixed terminal) (rw found.is at found.field-0-is)) (at_word c.loop-self.self c.common_word.new.self c.in-Some.field-0 c.common_word.ensures.text inv.lexing c.if-not-self.false c.in-Some.ensures.lookahead c.common_word.ensures.ahead c.in-Some.ensures.stands) in
+    passed_since c.args.self.now c.loop-self.self c.common_word.new.self _ c.pass_closing_curly-kind.new.self inv (inv.lexing.2 c.if-not-self.false) c.common_word.ensures.text (c.pass_closing_curly-kind.ensures course at) in
+    let first = since c.requires.0 c.requires.1 in
+    rw c.passed-in-Fixed-ClosingCurly.ensures (record { ended = first.ended; passed = λ going course lexing. (since course lexing).passed going; lexing = λ course lexing. (since course lexing).lexing; after = first.after })
 
 pub look_further-requires : goal.look_further-requires
 look_further-requires c =

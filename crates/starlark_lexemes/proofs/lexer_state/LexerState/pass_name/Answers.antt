@@ -23,8 +23,8 @@ returns c = λ course at.
     let taken = step_taken old.reader new c.args.len _ (word_inside_text old.reader _ sound at.stands).0 stepped in
     let read = peeked_taken text c.args.len (5 * c.args.len - 2) c.args.len old.reader new at.read (omega (arith)) (omega (arith)) (taken.1, taken.2) in
     let same = ap (λ (reader : Reader). reader.text) stepped in
-    record {
+    rw c.valueless.ensures (record {
       passed = name_passed course old old old.reader new c.args.len (refl, refl) at.text.fits at.stands.stage taken.2 at.ahead taken.1.0 is;
       lexing = past_lexing old _ new old.is_at_code old.begin old.end old.value_begin old.value_end old.token same at.text at.going is read (λ yes. step_in_code old.reader new _ c.args.len _ at.stands stepped);
       after = rw (same, at.going) refl;
-    }
+    })

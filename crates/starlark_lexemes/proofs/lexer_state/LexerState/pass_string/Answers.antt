@@ -57,7 +57,7 @@ returns-in-Ok c = λ course at.
     let last = reader_boundary text new _ _ taken.2 is.2 in
     let value = rw c.plain_body_len.ensures.text at (string_value mid c.args.is_raw c.args.quote len body sound stands c.in-Ok.ensures.plain) in
     let to : mid.at + len + body ≡ new.at - 1 = omega (arith, taken.1.0) in
-    record {
+    rw c.valueless.ensures (record {
       passed = (
         plain_inside text kind.String old.reader.at new.at (old.reader.at + len) (new.at - 1) refl at.text.fits
             (omega (arith, same, taken.1.0)) (omega (arith, same, taken.1.0)) first last
@@ -67,7 +67,7 @@ returns-in-Ok c = λ course at.
       );
       lexing = past_lexing old _ new old.is_at_code old.begin old.end old.value_begin old.value_end old.token (past ∙ c.plain_body_len.ensures.text) at.text at.going is read (λ yes. rw c.plain_body_len.ensures.text at (step_in_code mid new _ (len + body + 1) _ stands stepped));
       after = rw (past, c.plain_body_len.ensures.text, at.going) refl;
-    }
+    })
 
 pub pass_literal-kind-requires : goal.pass_literal-kind-requires
 pass_literal-kind-requires c = (c.requires.0, literal_here c.args.self.now c.plain_body_len.new.self literal.Text c.args.is_raw c.args.quote c.args.len c.in-Err.run' (λ e. cc) c.plain_body_len.ensures.text c.plain_body_len.ensures.ahead c.requires.1 c.plain_body_len.ensures.stands c.in-Err.ensures.other)

@@ -29,10 +29,10 @@ pub put_taken-requires-clause-read : goal.put_taken-requires-clause-read
 put_taken-requires-clause-read c =
     let state = c.args.self.now in
     let at = c.requires.here.1 in
-    let inside = word_inside state.reader.text.now state.reader _ _ c.args.word.class c.args.word.len at.stands.stage at.ahead (sym at.stands.front) in
+    let inside = word_inside state.reader.text.now state.reader _ _ c.args.class c.args.len at.stands.stage at.ahead (sym at.stands.front) in
     let peeked = rw c.in-Opener-FString-default-default.is at at.read in
     on_ok_weaker c.take_fstring-taken.result (λ begun. subst (λ (t : Text). HasRead t c.take_fstring-taken.new.self) (sym (ap (λ t. t.now) c.take_fstring-taken.ensures.text))
-    (peeked_begun state.reader.text.now c.args.word.len state.reader c.take_fstring-taken.new.self inside.0 peeked begun)) c.take_fstring-taken.ensures.begun
+    (peeked_begun state.reader.text.now c.args.len state.reader c.take_fstring-taken.new.self inside.0 peeked begun)) c.take_fstring-taken.ensures.begun
 
 pub returns-in-Some : goal.returns-in-Some
 returns-in-Some c = λ course at.
@@ -43,7 +43,7 @@ pub put_read-requires : goal.put_read-requires
 put_read-requires c =
     let state = c.args.self.now in
     let at = c.requires.here.1 in
-    let few = (most_few c.args.word).1 in
+    let few = (most_few (record { class = c.args.class; len = c.args.len })).1 in
     let is = c.refuse_word-read.ensures in (
       c.requires.here.0,
       read_here state c.refuse_word-read.new.self c.refuse_word-read.result is.text at.text at.going at.few at.ahead is.ahead is.end is.memory
@@ -63,7 +63,7 @@ returns-then-is_plain_number c = λ course at.
 pub returns-else-is_plain_number : goal.returns-else-is_plain_number
 returns-else-is_plain_number c = λ course at.
     let state = c.args.self.now in
-    let few = (most_few c.args.word).1 in
+    let few = (most_few (record { class = c.args.class; len = c.args.len })).1 in
     let is = c.refuse_word-read.ensures in
     next_same state _ _ c.put_read.new.self (ap (λ t. t.now) is.text, refl) (c.put_read.ensures course (read_here state c.refuse_word-read.new.self c.refuse_word-read.result is.text at.text at.going at.few at.ahead is.ahead is.end is.memory
     (on_ok_weaker c.refuse_word-read.result (λ reads. reads at.read.0 at.read.1 (at.read.2.0, omega (arith, at.read.2.1, few))) is.reads)))

@@ -1,17 +1,15 @@
-use Rattle.std.proofs.Common.{◌≡◌, ◌≤◌, ◌≢◌, subst, arith, ◌+◌, ◌*◌, ℕ, ap, drop, false, None, Option, Some, refl, sym, take, true, ◌∙◌}
+use Rattle.std.proofs.Common.{◌≡◌, ◌≤◌, ◌≢◌, arith, ◌+◌, ◌*◌, ℕ, ap, drop, false, None, Option, Some, refl, sym, take, true, ◌∙◌}
 use Rattle.starlark_grammar.proofs.KeptLines.Faults.{opener_lost}
 use Rattle.starlark_grammar.specs.AfterFaults.{next_line}
 use Rattle.starlark_grammar.specs.Front.{language_front}
 use Rattle.starlark_grammar.specs.Pieces as grammar
 use Rattle.starlark_grammar.specs.Tokens as grammar_tokens
-use Rattle.starlark_grammar.specs.declared.class.Class.{Class}
 use Rattle.starlark_grammar.specs.declared.class.Class.TheVariants as class
-use Rattle.starlark_reader.specs.Inner.Reader.{IsAtStep, IsStateAfter, IsWordHere, Origin, Takes, TakesNext, step_here}
+use Rattle.starlark_reader.specs.Inner.Reader.{IsAtStep, IsStateAfter, Origin, Takes, TakesNext, step_here}
 use Rattle.starlark_words.specs.declared.scanner.word.Word.{Word}
 use Rattle.starlark_grammar.specs.Reading.{History}
 use Rattle.starlark_token.specs.declared.tokens.Token.{Token}
 use Rattle.starlark_reader.specs.declared.reader.Reader.{Reader}
-use Rattle.starlark_reader.specs.Inner.Lookaheads.{IsOpened}
 use Rattle.starlark_reader.specs.Inner.Nesting.{mode_view}
 use Rattle.starlark_reader.proofs.ReadLiterals.LiteralPieces.{opener_literal, triple_edge}
 use Rattle.starlark_reader.proofs.ReadLiterals.StepReads.{later_reads, single_reads, split_reads, triple_reads}
@@ -46,20 +44,20 @@ no_quotes opening quotes is e = rw (is, e) refl
 
 pub range_from-remainder-requires : goal.range_from-remainder-requires
 range_from-remainder-requires c = λ some.
-    let stands = subst (λ (it : Class). IsWordHere c.args.self.now.text.now c.args.self.now (record { class = it; len = c.args.opener.len })) c.in-Opener.is c.requires.found.0 in
-    word_cut c.range_from-rest.result.now (class.Opener c.in-Opener.kind c.in-Opener.is_raw c.in-Opener.quote) c.args.opener.len c.range_from-rest.utf8 (ap language_front c.range_from-rest.ensures.value ∙ sym stands.front)
+    let stands = c.requires.found.0 in
+    word_cut c.range_from-rest.result.now (class.Opener c.args.kind c.args.is_raw c.args.quote) c.args.len c.range_from-rest.utf8 (ap language_front c.range_from-rest.ensures.value ∙ sym stands.front)
 
 pub range_from-requires : goal.range_from-requires
 range_from-requires c = λ some. elim c.if-opening.branch [
-  | then-opening w ↦ rw w.quotes-is (triple_edge c.range_from-remainder.result.now c.in-Opener.quote c.range_from-remainder.utf8 (sym (ap (λ (opening : grammar_tokens.Opening). opening.is_triple) c.opening_of-opening.ensures.opening) ∙ w.if-opening.true))
+  | then-opening w ↦ rw w.quotes-is (triple_edge c.range_from-remainder.result.now c.args.quote c.range_from-remainder.utf8 (sym (ap (λ (opening : grammar_tokens.Opening). opening.is_triple) c.opening_of-opening.ensures.opening) ∙ w.if-opening.true))
   | else-opening w ↦ absurd (omega (arith, some, w.quotes-is))
 ]
 
 -- the opener, and what is known of the text after it
-opened_at : (c : After-range_from) → (c.in-Opener.kind ≢ OfFString) × IsRun (single_literal c.in-Opener.kind c.in-Opener.is_raw c.in-Opener.quote) c.range_from-remainder.result.now c.args.run
+opened_at : (c : After-range_from) → (c.args.kind ≢ OfFString) × IsRun (single_literal c.args.kind c.args.is_raw c.args.quote) c.range_from-remainder.result.now c.args.run
 opened_at c =
     let old = c.args.self.now in
-    rw (c.range_from-remainder.ensures.value, c.range_from-rest.ensures.value) (subst (λ (it : Class). IsOpened it (drop c.args.opener.len (drop old.at old.text.now)) c.args.run) c.in-Opener.is c.requires.found.1)
+    rw (c.range_from-remainder.ensures.value, c.range_from-rest.ensures.value) c.requires.found.1
 
 pub literal_piece-requires : goal.literal_piece-requires
 literal_piece-requires c =
@@ -68,7 +66,7 @@ literal_piece-requires c =
     let triple = ap (λ (opening : grammar_tokens.Opening). opening.is_triple) is in
     elim c.if-opening.branch [
       | then-opening w ↦
-          let none = no_run_before_quotes c.in-Opener.kind c.in-Opener.is_raw c.in-Opener.quote c.range_from-remainder.result.now c.args.run opened.1 (sym triple ∙ w.if-opening.true) in
+          let none = no_run_before_quotes c.args.kind c.args.is_raw c.args.quote c.range_from-remainder.result.now c.args.run opened.1 (sym triple ∙ w.if-opening.true) in
           record { fits = omega (arith, w.quotes-is, c.range_from.ensures.len, c.range_from-remainder.ensures.len, c.range_from-rest.ensures.len); run = rw none (empty_run _ c.range_from.result.now c.range_from.utf8) }
       | else-opening w ↦
           record { fits = omega (arith, w.quotes-is, c.range_from.ensures.len, c.range_from-remainder.ensures.len, c.range_from-rest.ensures.len); run = rw (c.range_from.ensures.value, w.quotes-is, is, sym triple ∙ w.if-opening.false) opened.1 }
@@ -76,48 +74,48 @@ literal_piece-requires c =
 
 -- what is known where the literal was read
 abbrev Known : In_ok-found → Type 0
-Known c = (c.in-Opener.kind ≢ OfFString) × IsRun (single_literal c.in-Opener.kind c.in-Opener.is_raw c.in-Opener.quote) c.range_from-remainder.result.now c.args.run
+Known c = (c.args.kind ≢ OfFString) × IsRun (single_literal c.args.kind c.args.is_raw c.args.quote) c.range_from-remainder.result.now c.args.run
 
 -- the step that was read
-read_step : (c : In_ok-found) → Known c → IsStep (grammar.opener (mode_view c.mode-mode.result) c.in-Opener.kind (grammar.opening_of c.in-Opener.is_raw c.in-Opener.quote c.range_from-remainder.result.now) c.args.opener.len c.range_from-remainder.result.now) (literal_step c.in_ok-found.found)
+read_step : (c : In_ok-found) → Known c → IsStep (grammar.opener (mode_view c.mode-mode.result) c.args.kind (grammar.opening_of c.args.is_raw c.args.quote c.range_from-remainder.result.now) c.args.len c.range_from-remainder.result.now) (literal_step c.in_ok-found.found)
 read_step c opened =
     let opening = c.opening_of-opening.result in
     let more : c.if-opening.quotes ≡ grammar.more_quotes (opening_view opening) = elim c.if-opening.branch [
       | then-opening w ↦ two_quotes opening c.if-opening.quotes w.if-opening.true w.quotes-is
       | else-opening w ↦ no_quotes opening c.if-opening.quotes w.if-opening.false w.quotes-is
     ] in
-    rw (← c.opening_of-opening.ensures.opening, opener_literal (mode_view c.mode-mode.result) c.in-Opener.kind (opening_view opening) c.args.opener.len c.if-opening.quotes c.range_from-remainder.result.now c.range_from.result.now opened.0 more c.range_from.ensures.value) c.in_ok-found.ensures.step
+    rw (← c.opening_of-opening.ensures.opening, opener_literal (mode_view c.mode-mode.result) c.args.kind (opening_view opening) c.args.len c.if-opening.quotes c.range_from-remainder.result.now c.range_from.result.now opened.0 more c.range_from.ensures.value) c.in_ok-found.ensures.step
 
 -- it is the step at the reader's offset
 read_here : {origin : Origin} → (c : In_ok-found) → Known c → (history : History) → IsStateAfter origin c.args.self.now.text.now history c.args.self.now → IsStep (step_here c.args.self.now.text.now history c.args.self.now) (literal_step c.in_ok-found.found)
 read_here c opened history kept =
     let old = c.args.self.now in
-    let stands = subst (λ (it : Class). IsWordHere old.text.now old (record { class = it; len = c.args.opener.len })) c.in-Opener.is c.requires.found.0 in
-    let remainder : c.range_from-remainder.result.now ≡ drop c.args.opener.len (drop old.at old.text.now) = c.range_from-remainder.ensures.value ∙ ap (drop c.args.opener.len) c.range_from-rest.ensures.value in
-    literal_here old.text.now history old c.in-Opener.kind c.in-Opener.is_raw c.in-Opener.quote c.args.opener.len c.mode-mode.result c.range_from-remainder.result.now (literal_step c.in_ok-found.found) kept stands c.mode-mode.ensures remainder (read_step c opened)
+    let stands = c.requires.found.0 in
+    let remainder : c.range_from-remainder.result.now ≡ drop c.args.len (drop old.at old.text.now) = c.range_from-remainder.ensures.value ∙ ap (drop c.args.len) c.range_from-rest.ensures.value in
+    literal_here old.text.now history old c.args.kind c.args.is_raw c.args.quote c.args.len c.mode-mode.result c.range_from-remainder.result.now (literal_step c.in_ok-found.found) kept stands c.mode-mode.ensures remainder (read_step c opened)
 
 -- its reads
-step_reads : (c : In_ok-found) → Known c → (before : ℕ) → AreReads c.args.run (8 * c.args.run) before c.args.self.now.reads → AreWordReads c.args.opener.len 9 2 0 8 (literal_step c.in_ok-found.found) before c.literal_piece.new.reads
+step_reads : (c : In_ok-found) → Known c → (before : ℕ) → AreReads c.args.run (8 * c.args.run) before c.args.self.now.reads → AreWordReads c.args.len 9 2 0 8 (literal_step c.in_ok-found.found) before c.literal_piece.new.reads
 step_reads c opened = λ before read.
     let triple = ap (λ (opening : grammar_tokens.Opening). opening.is_triple) c.opening_of-opening.ensures.opening in
     let step = literal_step c.in_ok-found.found in
     elim c.if-opening.branch [
       | then-opening w ↦
-          let none = no_run_before_quotes c.in-Opener.kind c.in-Opener.is_raw c.in-Opener.quote c.range_from-remainder.result.now c.args.run opened.1 (sym triple ∙ w.if-opening.true) in
-          triple_reads c.args.opener.len step before c.opening_of-opening.new.reads _ (omega (arith, c.opening_of-opening.ensures.reads, none, read.0, read.1)) (rw w.quotes-is at (c.in_ok-found.ensures.reads c.opening_of-opening.new.reads (omega arith, omega arith)))
+          let none = no_run_before_quotes c.args.kind c.args.is_raw c.args.quote c.range_from-remainder.result.now c.args.run opened.1 (sym triple ∙ w.if-opening.true) in
+          triple_reads c.args.len step before c.opening_of-opening.new.reads _ (omega (arith, c.opening_of-opening.ensures.reads, none, read.0, read.1)) (rw w.quotes-is at (c.in_ok-found.ensures.reads c.opening_of-opening.new.reads (omega arith, omega arith)))
       | else-opening w ↦
-          let same : c.args.opener.len + c.if-opening.quotes ≡ c.args.opener.len = omega (arith, w.quotes-is) in
-          single_reads c.args.opener.len step before (more_reads before 2) _ refl (rw same at (c.in_ok-found.ensures.reads (more_reads before 2) (rw c.opening_of-opening.ensures.reads (later_reads c.args.run (8 * c.args.run) before c.args.self.now.reads read))))
+          let same : c.args.len + c.if-opening.quotes ≡ c.args.len = omega (arith, w.quotes-is) in
+          single_reads c.args.len step before (more_reads before 2) _ refl (rw same at (c.in_ok-found.ensures.reads (more_reads before 2) (rw c.opening_of-opening.ensures.reads (later_reads c.args.run (8 * c.args.run) before c.args.self.now.reads read))))
     ]
 
 -- and those up to a bad escape
 escape_reads : (c : In_ok-found) → Known c → (before : ℕ) → AreReads c.args.run (8 * c.args.run) before c.args.self.now.reads
-    → (between : ℕ) × (between ≤ before + 2) × AreEscapeReads (c.args.opener.len + c.if-opening.quotes) (literal_step c.in_ok-found.found) between c.literal_piece.new.reads
+    → (between : ℕ) × (between ≤ before + 2) × AreEscapeReads (c.args.len + c.if-opening.quotes) (literal_step c.in_ok-found.found) between c.literal_piece.new.reads
 escape_reads c opened = λ before read.
     let triple = ap (λ (opening : grammar_tokens.Opening). opening.is_triple) c.opening_of-opening.ensures.opening in
     elim c.if-opening.branch [
       | then-opening w ↦
-          let none = no_run_before_quotes c.in-Opener.kind c.in-Opener.is_raw c.in-Opener.quote c.range_from-remainder.result.now c.args.run opened.1 (sym triple ∙ w.if-opening.true) in
+          let none = no_run_before_quotes c.args.kind c.args.is_raw c.args.quote c.range_from-remainder.result.now c.args.run opened.1 (sym triple ∙ w.if-opening.true) in
           (c.opening_of-opening.new.reads, omega (arith, c.opening_of-opening.ensures.reads, none, read.1), c.in_ok-found.ensures.escape c.opening_of-opening.new.reads (omega arith, omega arith))
       | else-opening w ↦
           (more_reads before 2, omega arith, c.in_ok-found.ensures.escape (more_reads before 2) (rw c.opening_of-opening.ensures.reads (later_reads c.args.run (8 * c.args.run) before c.args.self.now.reads read)))
@@ -144,21 +142,21 @@ ahead c opened step given new is takes =
 reads_after : (c : In_ok-found) → Known c → (step : ReadStep) (new : Reader) → literal_step c.in_ok-found.found ≡ step → IsPassed (at_literal c) step new → HasRead c.args.self.now.text.now new
 reads_after c opened step new is passed =
     let old = c.args.self.now in
-    let stands = subst (λ (it : Class). IsWordHere old.text.now old (record { class = it; len = c.args.opener.len })) c.in-Opener.is c.requires.found.0 in
+    let stands = c.requires.found.0 in
     let peeked = c.requires.found.2 in
     let text = old.text.now in
     let left = state_here old c.requires.sound c.requires.found.0.stage in
-    let word : Word = record { class = class.Opener c.in-Opener.kind c.in-Opener.is_raw c.in-Opener.quote; len = c.args.opener.len } in
-    let front = take c.args.opener.len (drop old.at text) in
+    let word : Word = record { class = class.Opener c.args.kind c.args.is_raw c.args.quote; len = c.args.len } in
+    let front = take c.args.len (drop old.at text) in
     let mode = mode_view c.mode-mode.result in
-    let opening = grammar.opening_of c.in-Opener.is_raw c.in-Opener.quote c.range_from-remainder.result.now in
-    let parts = split_reads c.args.opener.len c.args.run peeked.0 old.reads peeked.2 in
+    let opening = grammar.opening_of c.args.is_raw c.args.quote c.range_from-remainder.result.now in
+    let parts = split_reads c.args.len c.args.run peeked.0 old.reads peeked.2 in
     let escape = escape_reads c opened parts.0 parts.2 in
-    let some = word_some (drop old.at text) word.class c.args.opener.len (sym stands.front) in
+    let some = word_some (drop old.at text) word.class c.args.len (sym stands.front) in
     word_step_reads text peeked.0 parts.0 c.literal_piece.new.reads left.1 word step old new left.2 stands (rw is at (read_here c opened left.1 left.2)) peeked.1 parts.1
-    (opener_reads c.args.opener.len (next_line front 0) step parts.0 c.literal_piece.new.reads (rw is at (step_reads c opened parts.0 parts.2)))
-    (escape_leaves (c.args.opener.len + c.if-opening.quotes) c.args.opener.len (5 * c.args.opener.len + 3) front (grammar.opener mode c.in-Opener.kind opening c.args.opener.len c.range_from-remainder.result.now) step parts.0 escape.0 c.literal_piece.new.reads
-    (rw is at (read_step c opened)) (opener_lost mode c.in-Opener.kind opening c.args.opener.len c.range_from-remainder.result.now) some (omega arith) (omega arith) escape.1 (rw is at escape.2))
+    (opener_reads c.args.len (next_line front 0) step parts.0 c.literal_piece.new.reads (rw is at (step_reads c opened parts.0 parts.2)))
+    (escape_leaves (c.args.len + c.if-opening.quotes) c.args.len (5 * c.args.len + 3) front (grammar.opener mode c.args.kind opening c.args.len c.range_from-remainder.result.now) step parts.0 escape.0 c.literal_piece.new.reads
+    (rw is at (read_step c opened)) (opener_lost mode c.args.kind opening c.args.len c.range_from-remainder.result.now) some (omega arith) (omega arith) escape.1 (rw is at escape.2))
     passed
 
 pub take_token-requires : goal.take_token-requires

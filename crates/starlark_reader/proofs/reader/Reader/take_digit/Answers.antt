@@ -4,7 +4,7 @@ use Rattle.starlark_grammar.specs.Tokens as tokens
 use Rattle.starlark_token.specs.TokenViews.{Whole, token_view}
 use Rattle.starlark_token.specs.declared.token_int.TokenInt.TheVariants as int
 use Rattle.starlark_token.specs.declared.tokens.Token.TheVariants as token
-use Rattle.starlark_reader.specs.Inner.Nesting.{keeps_nesting}
+use Rattle.starlark_reader.specs.Inner.Nesting.{keeps_code}
 use Rattle.starlark_reader.proofs.TakenPieces.PieceTaken.{digit_step}
 use Rattle.starlark_reader.proofs.TakenPieces.SameTexts.{at_step, code_after, taken_here}
 use Rattle.starlark_reader.proofs.reader.Reader.take_digit.Goals as goal
@@ -30,4 +30,4 @@ returns-clause-ahead c =
     (λ origin history kept. c.take_token.ensures.read origin history kept (digit_step c.args.self.now.text.now history c.args.self.now c.args.digit (token.Int (int.I32 (to_z w32 (of_z w32 c.from.result)))) kept c.requires.stands c.requires.digit (view (goal.at.returns-clause-ahead c).After-from)))
 
 pub returns-clause-code : goal.returns-clause-code
-returns-clause-code c = code_after c.args.self.now c.take_token.new.self c.take_token.ensures.text (c.take_token.ensures.onward (c.take_token.ensures.stays (ap keeps_nesting (view (goal.at.returns-clause-code c).After-from)) c.requires.stands.code))
+returns-clause-code c = code_after c.args.self.now c.take_token.new.self c.take_token.ensures.text (c.take_token.ensures.onward (c.take_token.ensures.stays (ap keeps_code (view (goal.at.returns-clause-code c).After-from)) c.requires.stands.code))

@@ -1,10 +1,12 @@
-use Rattle.std.proofs.Common.{ℕ, ◌+◌, ◌∷◌, [], ap, append-nil, arith, refl, rules, sym, ◌∙◌, None, Some}
+use Rattle.std.proofs.Common.{ℕ, ◌≡◌, true, subst, ◌+◌, ◌∷◌, [], ap, append-nil, arith, refl, rules, sym, ◌∙◌, None, Some}
 use Rattle.starlark_grammar.specs.Margins.{open_widths}
 use Rattle.starlark_grammar.specs.Pieces as grammar
 use Rattle.starlark_grammar.specs.Pieces.{Piece}
 use Rattle.starlark_grammar.specs.Tokens.{Token}
+use Rattle.starlark_reader.specs.Inner.Nesting.{keeps_code}
 use Rattle.starlark_reader.specs.Inner.Pending.{owed}
 use Rattle.starlark_reader.specs.declared.reader.Reader.{Reader}
+use Rattle.starlark_reader.proofs.OpenBrackets.OpenFStrings.{code_stays}
 use Rattle.starlark_reader.proofs.TakenPieces.Here.{piece_here, shown_here}
 use Rattle.starlark_reader.proofs.TakenPieces.PieceTaken.{brace_in_code}
 use Rattle.starlark_reader.proofs.TakenPieces.Taken.{took}
@@ -41,3 +43,11 @@ returns-clause-taken c =
     let here = piece_here c.args.self.now.text.now stands.1 c.args.self.now (one c.args.len stands.3.0) stands.2 stands.3.3 in
     let is = c.step_over.ensures in
     (here.0, (ap (λ (reader : Reader). reader.at) is, ap (λ (reader : Reader). reader.reads) is, omega (arith, ap (λ (reader : Reader). owed reader.pending) is)), ap (λ (reader : Reader). reader.stage) is)
+
+pub returns-clause-stays : goal.returns-clause-stays
+returns-clause-stays c = λ keeps code before represents.
+    let stands = c.requires.stands in
+    let history = stands.1 in
+    let node = stands.3 in
+    let new = c.pass.ensures.passes history.tokens node.0 node.1 node.2 (brace_in_code c.args.self.now.text.now history c.args.self.now c.args.len node.0 stands.2 node.3) stands.2.nesting in
+    code_stays node.0 history.tokens before c.pass.new.self (subst (λ view. keeps_code view ≡ true) node.1 keeps) (code history.tokens stands.2.nesting) new (rw c.step_over.ensures at represents)
