@@ -371,9 +371,14 @@ bool starlark_fault_is_final(const uint8_t *front, size_t front_len,
  *
  * A reserved word, an integer with a leading 0, a character that begins no token, and a tab in code
  * keep their lines: lexing goes on after them, with all brackets, f-strings and blocks open. So it
- * does after a literal with a bad escape, if that is closed. After any other fault it begins again
+ * does after a literal with a bad escape, if that is closed, and at the line end that stops an open
+ * quote outside of f-strings, where the brackets in it count. After any other fault it begins again
  * at the next line, with the blocks alone open. Each fault that keeps its line, but the tab, names
- * its text: so a caller may take a reserved word as a name.
+ * its text.
+ *
+ * The first lexeme after the fault stands for it, where it is a reserved word (an identifier), an
+ * integer with a leading 0 (an integer, in decimal), or such a literal (a string or bytes, with its
+ * body as it is written). So a parser can go on, and a caller may take a reserved word as a name.
  *
  * With STARLARK_STATUS_FULL one of the buffers has no room for all. A next call with buffers of the
  * wanted sizes has room. So one call with empty buffers tells how much a text needs. The buffers

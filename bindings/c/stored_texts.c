@@ -992,28 +992,30 @@ static bool is_reserved(const starlark_found_fault *fault, const uint8_t *values
            && fault->end == name->end;
 }
 
-/* Whether one call finds a reserved word where another finds a name, and else the same lexemes. */
+/* Whether one call finds the lexemes of another, and its faults are reserved words for which names
+ * stand. */
 static bool has_reserved(const recovery *call, const char *word, const recovery *names)
 {
-    size_t at = 0;
-    size_t fault = 0;
-    while (at + fault < names->outcome.lexemes) {
-        const starlark_lexeme *wanted = &names->into.lexemes[at + fault];
-        if (fault < call->outcome.faults && call->faults[fault].lexemes_before == at) {
-            if (!is_reserved(&call->faults[fault++], call->into.values, word, wanted))
-                return false;
-            continue;
-        }
-        const starlark_lexeme *found = &call->into.lexemes[at++];
-        if (at > call->outcome.lexemes || found->kind != wanted->kind
-            || found->begin != wanted->begin || found->end != wanted->end)
+    if (call->outcome.lexemes != names->outcome.lexemes)
+        return false;
+    for (size_t at = 0; at < names->outcome.lexemes; at++) {
+        const starlark_lexeme *found = &call->into.lexemes[at];
+        const starlark_lexeme *wanted = &names->into.lexemes[at];
+        if (found->kind != wanted->kind || found->begin != wanted->begin
+            || found->end != wanted->end)
             return false;
     }
-    return at == call->outcome.lexemes && fault == call->outcome.faults;
+    for (size_t at = 0; at < call->outcome.faults; at++) {
+        const starlark_found_fault *fault = &call->faults[at];
+        const starlark_lexeme *name = &call->into.lexemes[fault->lexemes_before];
+        if (!is_reserved(fault, call->into.values, word, name))
+            return false;
+    }
+    return true;
 }
 
-/* Lexes a function with a reserved word on each line, which costs that word alone: the layout and
- * all other lexemes are those of the function with names. */
+/* Lexes a function with a reserved word on each line, which costs nothing but its fault: all lexemes
+ * are those of the function with names. */
 static void pass_reserved_words(void)
 {
     text words = calls_of("assert");

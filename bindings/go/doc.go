@@ -27,7 +27,9 @@
 // Recover goes on after faults. It returns all tokens, and an ErrorList. A reserved word, an integer
 // with a leading 0, a character that begins no token, and a tab in code keep their lines: lexing goes
 // on after them with all brackets, f-strings and blocks open, and so it does after a literal with a
-// bad escape. After any other fault it begins again at the next line, with the blocks alone open.
+// bad escape, and at the line end of an open quote, whose brackets count. A token stands for such a
+// word, integer or literal. After any other fault it begins again at the next line, with the blocks
+// alone open.
 //
 // # Edited texts
 //

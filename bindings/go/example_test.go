@@ -100,25 +100,24 @@ func ExampleRecover() {
 		}
 	}
 	// Output:
-	// 9 tokens
+	// 11 tokens
 	// SL008 BUILD:1:6: Parse error: integer cannot have leading 0, got `01`
 	// SL007 BUILD:2:3: Parse error: cannot use reserved keyword `class`
 	// SL004 BUILD:3:5: Parse error: unfinished string literal
 }
 
-// In starlark-go assert is a name. Here it is a reserved word, which keeps its line: a caller takes it
-// as a name.
+// In starlark-go assert is a name. Here it is a reserved word, for which an identifier stands: a caller
+// leaves the fault out.
 func ExampleRecover_assert() {
 	src := "assert.eq(x,\n  y)\n"
 	tokens, err := starlarklexer.Recover("test.star", src)
 	faults, _ := err.(starlarklexer.ErrorList)
-	for i, tok := range tokens {
-		for len(faults) > 0 && faults[0].TokensBefore == i {
-			if fault := faults[0]; src[fault.Begin:fault.End] == "assert" {
-				fmt.Println("name assert")
-			}
-			faults = faults[1:]
+	for _, fault := range faults {
+		if src[fault.Begin:fault.End] != "assert" {
+			fmt.Println(fault)
 		}
+	}
+	for _, tok := range tokens {
 		if tok.Kind == starlarklexer.Identifier {
 			fmt.Println("name", tok.Value)
 		}

@@ -218,8 +218,8 @@ func TestRecoverFindsAll(t *testing.T) {
 		"SL008 a.bzl:1:6: Parse error: integer cannot have leading 0, got `01`",
 		"SL007 a.bzl:2:3: Parse error: cannot use reserved keyword `class`",
 		"SL004 a.bzl:3:5: Parse error: unfinished string literal",
-		"Identifier x", "Equal =", "OpeningSquare [", "Comma ,", "ClosingSquare ]", "Newline \n",
-		"Identifier y", "Equal =", "Newline ",
+		"Identifier x", "Equal =", "OpeningSquare [", "Int 01", "Comma ,", "Identifier class",
+		"ClosingSquare ]", "Newline \n", "Identifier y", "Equal =", "Newline ",
 	})
 	var fault *starlarklexer.Error
 	if !errors.As(err, &fault) || fault != list[0] {

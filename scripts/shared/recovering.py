@@ -1,15 +1,16 @@
 """All that is found in a text that is lexed on after its faults, by the plain lexer.
 
 A fault that keeps its line is passed as a token is, and so reading goes on in what was open. So is a whole literal that has a bad
-escape. After any other fault, and after a literal that isn't closed, lexing begins again at the next line, where the blocks are
-still open.
+escape, and an open quote: a literal outside of f-strings that its line end stops, of which the brackets count. A lexeme stands for
+each of these literals, for a reserved word, and for an integer with a leading 0. After any other fault, and after a literal
+with a bad escape that isn't closed, lexing begins again at the next line, where the blocks are still open.
 """
 
 import re
 
 from shared.plain_lexer import (
-    LINE_END, Fault, Lexeme, Situation, body_at, comment_lines, fault_line, indentation, lexeme_line, longest_word, moved_lexeme,
-    next_line, opening_at, restart, step,
+    LINE_END, Fault, Lexeme, Situation, body_at, comment_lines, fault_line, indentation, integer_text, lexeme_line, longest_word,
+    moved_lexeme, next_line, opening_at, restart, step,
 )
 
 TABS = re.compile(rb"\t*")
@@ -34,6 +35,34 @@ def literal_end(text, offset, fault):
     if stop == "Closing":
         return end + len(opening.quotes), True
     return max(fault.end, end if stop == "Line" else len(text)), False
+
+
+def quote_end(text, fault, situation):
+    """The line end that stops the literal of a fault outside of f-strings, whose brackets are counted; None where none does."""
+    if fault.args[0] != "UnfinishedStringLiteral" or situation.where() != "Outside" or fault.end == len(text):
+        return None
+    for b in text[fault.begin:fault.end]:
+        if b in b"([{":
+            situation.brackets += 1
+        elif b in b")]}" and situation.brackets > 0:
+            situation.brackets -= 1
+    return fault.end
+
+
+def stand_ins(text, offset, fault, end):
+    """The lexemes that stand for a fault that is passed up to an offset: a literal is at its own offset, as it is written."""
+    written = text[fault.begin:fault.end]
+    if fault.args[0] == "ReservedKeyword":
+        return [Lexeme(fault.begin, fault.end, "Identifier", written.decode())]
+    if fault.args[0] == "StartsZero":
+        return [Lexeme(fault.begin, fault.end, "Int", integer_text(written, 10))]
+    if fault.args[0] == "InvalidEscapeSequence":
+        opening = opening_at(text, offset, longest_word(text, offset)[0])
+        return [Lexeme(offset, end, opening.kind, text[opening.end:end - len(opening.quotes)].hex())]
+    if fault.args[0] == "UnfinishedStringLiteral":
+        opening = opening_at(text, offset, longest_word(text, offset)[0])
+        return [Lexeme(offset, end, opening.kind, text[opening.end:end].hex())]
+    return []
 
 
 def restart_after(text, fault):
@@ -68,8 +97,11 @@ def pass_piece(text, offset, situation, items):
             fault.last, is_closed = literal_end(text, offset, fault)
             end = fault.last if is_closed else None
         if end is None:
+            end = quote_end(text, fault, situation)
+        if end is None:
             raise
         items.append(("fault", fault))
+        items += [("lexeme", lexeme) for lexeme in stand_ins(text, offset, fault, end)]
         return end
     for lexeme in piece:
         situation.count(lexeme.kind)

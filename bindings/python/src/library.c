@@ -215,8 +215,10 @@ static PyMethodDef methods[] = {
          "It raises `StarlarkFault` after the tokens before the first fault. With `recover` it\n"
          "raises no fault. A reserved word, an integer with a leading 0, a character that\n"
          "begins no token, and a tab in code keep their lines: it goes on after them, with all\n"
-         "brackets, f-strings and blocks open, and so it does after a literal with a bad escape.\n"
-         "After any other fault it begins again at the next line, with the blocks alone open.\n\n"
+         "brackets, f-strings and blocks open, and so it does after a literal with a bad escape,\n"
+         "and at the line end that stops an open quote, where the brackets in it count. A token\n"
+         "stands for such a word, integer or literal. After any other fault it begins again at\n"
+         "the next line, with the blocks alone open.\n\n"
          "The call itself raises `TypeError` for what neither is a `str` nor has bytes,\n"
          "`UnicodeError` for what isn't UTF-8, and `ValueError` for more than 4294967295 bytes."),
     CALL(lex,

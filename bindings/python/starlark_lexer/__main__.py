@@ -4,11 +4,9 @@ usage: python -m starlark_lexer [--json | --html] [FILE]..
 
 Without FILE, or for `-`, it reads standard input. A token is printed as `python -m tokenize` does.
 --json prints what the program `starlark_tokens --json` prints, --html a page with the text in colours
-and its faults marked. It goes on after faults: within the line after a reserved word, an integer
-with a leading 0, a character that begins no token, a tab in code or a literal with a bad escape, after
-any other fault at the next line. Each fault has a line on standard error. The exit status is 0 without a fault, 1 with one or
-more, and 2 where a file can't be read or the output can't be written. It is 141 where nobody reads
-the output any more.
+and its faults marked. It goes on after each fault, within the line or at the next. Each fault has a
+line on standard error. The exit status is 0 without a fault, 1 with one or more, and 2 where a file
+can't be read or the output can't be written. It is 141 where nobody reads the output any more.
 """
 
 from __future__ import annotations

@@ -58,7 +58,7 @@ def _integer(value: int, written: str) -> str:
     if value < _TOO_LARGE:
         return str(value)
     form = _BASES.get(written[1:2].lower())
-    return f'"{format(value, form) if form else written}"'
+    return f'"{format(value, form) if form else written.lstrip("0")}"'
 
 
 def _value(value: Value, written: str) -> str:

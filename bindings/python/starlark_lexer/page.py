@@ -2,8 +2,9 @@
 
 from __future__ import annotations
 
+from bisect import bisect_left
 from html import escape
-from typing import List, NamedTuple, Sequence, Tuple, Union
+from typing import Iterator, List, NamedTuple, Sequence, Tuple, Union
 
 from .kinds import KindClass
 from .tokens import Fault, Token
@@ -75,10 +76,25 @@ class File(NamedTuple):
 Part = Tuple[int, int, str, str]
 
 
+def _around(tokens: List[Token], faults: List[Fault]) -> Iterator[Part]:
+    """The parts of tokens that have a colour, without the bytes of the faults that they stand for."""
+    begins = [fault.span[0] for fault in faults]
+    for token in tokens:
+        style = _STYLES.get(token.type.kind_class, "")
+        begin, end = token.span
+        number = bisect_left(begins, begin)
+        while style and number < len(faults) and begins[number] < end:
+            if begin < begins[number]:
+                yield begin, begins[number], style, ""
+            begin = faults[number].span[1]
+            number += 1
+        if style and begin < end:
+            yield begin, end, style, ""
+
+
 def _parts(length: int, tokens: List[Token], faults: List[Fault]) -> List[Part]:
     """The parts of a text with a colour each, in order, without gaps."""
-    styles = ((*token.span, _STYLES.get(token.type.kind_class, ""), "") for token in tokens)
-    coloured: List[Part] = [part for part in styles if part[2]]
+    coloured = list(_around(tokens, faults))
     coloured += [(*fault.span, "fault", fault.message) for fault in faults]
     parts: List[Part] = []
     at = 0

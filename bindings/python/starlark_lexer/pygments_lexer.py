@@ -9,7 +9,7 @@ from __future__ import annotations
 import re
 from itertools import chain
 from operator import itemgetter
-from typing import Any, Iterable, Iterator, List, Tuple
+from typing import Any, Iterable, Iterator, List, Sequence, Tuple
 
 from pygments.lexer import Lexer
 from pygments.token import (
@@ -128,13 +128,26 @@ def _token_parts(columns: Columns) -> Iterator[Part]:
     return chain.from_iterable(map(some, range(0, len(columns), _AT_ONCE)))
 
 
+def _around(parts: Iterable[Part], faults: Sequence[Part]) -> Iterator[Part]:
+    """The parts of tokens, without the characters of the fault that one stands for."""
+    number = 0
+    for begin, end, kind, after in parts:
+        while number < len(faults) and faults[number][1] <= begin:
+            number += 1
+        if number < len(faults) and begin <= faults[number][0] and faults[number][1] <= end:
+            yield begin, faults[number][0], kind, after
+            yield faults[number][1], end, kind, after
+        else:
+            yield begin, end, kind, after
+
+
 def _parts(text: str, columns: Columns) -> Iterable[Part]:
     """The parts of the tokens and faults of a text, in order of their begins."""
     parts = _token_parts(columns)
     if not columns.faults:
         return parts
-    faults = (_fault_part(text, fault) for fault in columns.faults)
-    return sorted([*faults, *parts], key=itemgetter(0))
+    faults = [_fault_part(text, fault) for fault in columns.faults]
+    return sorted([*faults, *_around(parts, faults)], key=itemgetter(0))
 
 
 def _gap_type(gap: str) -> TokenType:

@@ -164,6 +164,8 @@ class Json(unittest.TestCase):
                 '{"file":"<stdin>","kind":"Fault","begin":2,"end":4,"line":1,"column":3,"end_line":1,'
                 '"end_column":5,"utf16_column":3,"value":"integer cannot have leading 0, got `01`",'
                 '"code":"SL008","help":"write 0o in front of an octal number, or leave the zeros out"}',
+                '{"file":"<stdin>","kind":"Int","begin":2,"end":4,"line":1,"column":3,"end_line":1,'
+                '"end_column":5,"utf16_column":3,"value":1}',
                 '{"file":"<stdin>","kind":"Newline","begin":4,"end":5,"line":1,"column":5,"end_line":2,'
                 '"end_column":1,"utf16_column":5,"value":null}',
                 '{"file":"<stdin>","kind":"Newline","begin":5,"end":5,"line":2,"column":1,"end_line":2,'

@@ -191,6 +191,9 @@ class Errors(unittest.TestCase):
         begin, end = ("Name", "x"), ("Name", "y")
         kept = [begin, ("Error", "!"), ("Literal.Number.Integer", "1"), ("Literal.String", "'é'"), end]
         self.assertEqual(named_parts("x ! 1 'é'\ny"), kept)
+        quote = ("Literal.String", "'")
+        split = [begin, quote, ("Error", "\\xg"), quote, *kept[2:]]
+        self.assertEqual(named_parts("x '\\xg' 1 'é'\ny"), split)
         lost = [begin, ("Literal.String", "f'"), ("Text", "\\x"), ("Error", "g"), ("Text", "' 1 'é'\n"), end]
         self.assertEqual(named_parts("x f'\\xg' 1 'é'\ny"), lost)
 

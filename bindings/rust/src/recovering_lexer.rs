@@ -8,8 +8,10 @@ use std::iter::FusedIterator;
 /// It yields what a [`Lexer`] yields up to the first fault. A reserved word, an integer with a
 /// leading 0, a character that begins no token, and a tab in code keep their lines: it goes on after
 /// them, with all brackets, f-strings and blocks open, and so it does after a literal with a bad
-/// escape. After any other fault it begins again at the next line, with the blocks alone open. So an
-/// editor keeps its colours after an open quote, and a linter shows each fault of a file.
+/// escape, and at the line end of an open quote, whose brackets count. Right after the fault of such a
+/// word, integer or literal a lexeme stands for it. After any other fault it begins again at the next
+/// line, with the blocks alone open. So a parser goes on, an editor keeps its colours after an open
+/// quote, and a linter shows each fault of a file.
 ///
 /// What comes after the first fault is lexed at once, and kept until it is yielded: 32 bytes for each
 /// lexeme, and 40 for each fault. So a text with many faults takes no longer than one with few.

@@ -297,7 +297,7 @@ fn a_reserved_word_may_be_taken_as_a_name() {
     let place = names
         .iter()
         .position(|token| *token == Token::Identifier("asserx".into()));
-    names.remove(place.unwrap());
+    names[place.unwrap()] = Token::Identifier("assert".into());
     assert_eq!(tokens, names);
     assert_eq!(faults, [("assert", FaultKind::ReservedKeyword)]);
     assert!(none.is_empty());
@@ -357,8 +357,11 @@ fn many_faults_take_no_longer() {
             (at + 5..at + 6, Ok(Token::Equal)),
             (at + 7..at + 18, Ok(Token::String("é汉🔬".into()))),
             (at + 19..at + 19 + len, Err((kind, message.to_owned()))),
-            (at + 19 + len..text.len(), Ok(Token::Newline)),
         ]);
+        if kind == FaultKind::StartsZero {
+            wanted.push((at + 19..at + 19 + len, Ok(Token::Int(TokenInt::I32(1)))));
+        }
+        wanted.push((at + 19 + len..text.len(), Ok(Token::Newline)));
     }
     wanted.push((text.len()..text.len(), Ok(Token::Newline)));
 

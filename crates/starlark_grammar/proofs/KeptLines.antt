@@ -2,3 +2,5 @@
 pub mod Faults
 pub mod KeptFaultPlaces
 pub mod LiteralRests
+pub mod OpenQuotes
+pub mod StandIns

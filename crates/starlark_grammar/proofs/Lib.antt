@@ -43,6 +43,8 @@
 -- Words/EachByte: bytes of words: a test that the bytes of names and numbers pass.
 -- Reading/Onward: readings and outcomes after a history.
 -- KeptLines/Faults, KeptFaultPlaces: faults that keep their lines: where they are, and that they have a byte.
+-- KeptLines/LiteralRests, StandIns: literals with a bad escape, and what stands for faults: they stay and move with a text.
+-- KeptLines/OpenQuotes: open quotes: where they are, and their brackets.
 -- Found/Order, Apart: order: all that is found in order, and no lexeme in a fault.
 -- Found/Cuts, CutItems: newlines among what is found: they close the text up to there, and what is found in it.
 -- Rows: worked texts, by computing: outcomes, bodies, cuts, joins and fronts; Rows/Shapes: how a row is written.

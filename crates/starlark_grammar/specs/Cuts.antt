@@ -3,14 +3,10 @@ use Rattle.std.specs.Prelude.{ℕ, ◌-◌, Bool, true, false, ◌&&◌, ◌==�
 use Rattle.std.specs.List.{ends_with}
 use Rattle.starlark_grammar.specs.Words.{Text, Table, language}
 use Rattle.starlark_grammar.specs.Tokens.{Token, Newline, Lexeme, moved, InvalidTab, Outcome}
-use Rattle.starlark_grammar.specs.Depths.{Mode, Outside, mode_after, is_balanced}
+use Rattle.starlark_grammar.specs.Depths.{mode_after, is_balanced, is_outside}
 use Rattle.starlark_grammar.specs.Margins.{open_widths}
 use Rattle.starlark_grammar.specs.Pieces.{Before, Layout, Step, Fails}
 use Rattle.starlark_grammar.specs.Reading.{History, nothing, after_all, Reading, read, pieces_len}
-
-abbrev pub is_outside : Mode → Bool
-is_outside Outside = true
-is_outside mode = false
 
 abbrev pub is_layout : Before → Bool
 is_layout Layout = true

@@ -74,6 +74,10 @@ pub data Mode : Type 0 where
   AtTop : Mode
   Deeper : Mode
 
+abbrev pub is_outside : Mode → Bool
+is_outside Outside = true
+is_outside mode = false
+
 abbrev pub inside : Opening × List Token → Mode
 inside found =
     if braces found.1 == 0 then InText found.0

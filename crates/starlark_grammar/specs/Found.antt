@@ -4,9 +4,10 @@ use Rattle.std.specs.Prelude.{ℕ, zero, suc, if◌then◌else◌, List, [], ◌
 use Rattle.starlark_grammar.specs.Words.{Text}
 use Rattle.starlark_grammar.specs.AfterFaults.{restart}
 use Rattle.starlark_grammar.specs.Tokens.{Lexeme, Spanned, moved, Fault}
-use Rattle.starlark_grammar.specs.KeptLines.{passed_end, stays_open, with_literal}
+use Rattle.starlark_grammar.specs.KeptLines.{passed_end, stays_open, tokens_past, with_literal}
 use Rattle.starlark_grammar.specs.Pieces.{Nothing, Other}
 use Rattle.starlark_grammar.specs.Reading.{History, history_after, nothing, outcome_after}
+use Rattle.starlark_grammar.specs.StandIns.{stand_ins}
 
 -- what is found in a text: a lexeme or a fault
 pub data Item : Type 0 where
@@ -21,28 +22,34 @@ moved_item n (Refused fault) = Refused (moved n fault)
 abbrev pub given : List Lexeme → List Item
 given lexemes = map (λ (lexeme : Lexeme). Given lexeme) lexemes
 
--- how many bytes of a text are passed up to the end of its fault, and what was read before the rest
+-- how many bytes of a text are passed up to the end of its fault, the lexemes that stand for it, and what was read before the
+-- rest
 pub record Passed : Type 0 where
   pub len : ℕ
+  pub stand_ins : List Lexeme
   pub history : History
 
 -- at the start of a line, with blocks open
 abbrev pub at_line : List ℕ → History
 at_line widths = record { tokens = []; widths = widths; before = Nothing }
 
--- A fault that keeps its line is passed with all that is open, and so is a literal with a bad escape that is closed; after any
--- other fault, and a literal that isn't, the next line begins, with the blocks open.
+-- A fault that keeps its line is passed with all that is open, and so are a literal with a bad escape that is closed, and an
+-- open quote, of which only brackets count; after any other fault the next line begins, with the blocks open. What stands for a
+-- fault opens and closes nothing, so the history has no token of it.
 unfoldable pub passed : History → Text → Spanned Fault → Passed
 passed history text fault =
     if stays_open history text fault
-    then record { len = passed_end text (with_literal history text fault); history = record (history_after history text) { before = Other } }
-    else record { len = restart text (with_literal history text fault); history = at_line (history_after history text).widths }
+    then record { len = passed_end text (with_literal history text fault); stand_ins = stand_ins history text fault; history = record (history_after history text) { tokens = tokens_past (history_after history text).tokens text fault; before = Other } }
+    else record { len = restart text (with_literal history text fault); stand_ins = []; history = at_line (history_after history text).widths }
+
+-- a fault, what stands for it, and what is found in the rest of its text
+abbrev pub found_from : Text → Spanned Fault → Passed → (History → Text → List Item) → List Item
+found_from text fault past again = Refused fault ∷ (given past.stand_ins ++ map (moved_item past.len) (again past.history (drop past.len text)))
 
 -- the lexemes of a text, and then its fault if there is one, and what is found after that
 abbrev pub found_by : History → Text → Option (Spanned Fault) → (History → Text → List Item) → List Item
 found_by history text None again = given (outcome_after history text).lexemes
-found_by history text (Some fault) again =
-    given (outcome_after history text).lexemes ++ (Refused fault ∷ map (moved_item (passed history text fault).len) (again (passed history text fault).history (drop (passed history text fault).len text)))
+found_by history text (Some fault) again = given (outcome_after history text).lexemes ++ found_from text fault (passed history text fault) again
 
 -- with so many faults at most
 unfoldable pub found_within : ℕ → History → Text → List Item

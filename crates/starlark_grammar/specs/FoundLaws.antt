@@ -1,9 +1,9 @@
 -- What the laws of all that is found in a text say.
-use Rattle.std.specs.Prelude.{◌≡◌, ◌<◌, ◌≤◌, Bool, true, false, not, List, [], ◌∷◌, ◌++◌, length, map, drop, take, Some, None, ⊤}
+use Rattle.std.specs.Prelude.{◌≡◌, ◌<◌, ◌≤◌, ◌⊎◌, Bool, true, false, not, List, [], ◌∷◌, ◌++◌, length, drop, take, Some, None, ⊤}
 use Rattle.std.specs.List.{AllByRecursion, list_all}
 use Rattle.starlark_grammar.specs.Words.{Text}
 use Rattle.starlark_grammar.specs.ClosedTexts.{IsClosed, parted}
-use Rattle.starlark_grammar.specs.Found.{Given, Item, Refused, faults_in, found, found_after, given, lexemes_in, moved_item, passed}
+use Rattle.starlark_grammar.specs.Found.{Given, Item, Refused, faults_in, found, found_after, found_from, given, lexemes_in, passed}
 use Rattle.starlark_grammar.specs.RecoveryLaws.{AreInOrder}
 use Rattle.starlark_grammar.specs.KeptLines.{is_comment}
 use Rattle.starlark_grammar.specs.Reading.{History, nothing, outcome, outcome_after}
@@ -15,10 +15,10 @@ use Rattle.starlark_grammar.specs.Tokens.{Fault, Lexeme, Spanned}
 abbrev pub FaultlessFound : Type 0
 FaultlessFound = (history : History) (text : Text) → (outcome_after history text).fault ≡ None → found_after history text ≡ given (outcome_after history text).lexemes
 
--- … in any other these, the fault, and what is found in the rest after it.
+-- … in any other these, the fault, what stands for it, and what is found in the rest after it.
 abbrev pub FoundAfterFaults : Type 0
 FoundAfterFaults = (history : History) (text : Text) (fault : Spanned Fault) → (outcome_after history text).fault ≡ Some fault
-    → found_after history text ≡ given (outcome_after history text).lexemes ++ (Refused fault ∷ map (moved_item (passed history text fault).len) (found_after (passed history text fault).history (drop (passed history text fault).len text)))
+    → found_after history text ≡ given (outcome_after history text).lexemes ++ found_from text fault (passed history text fault) found_after
 
 -- After no history that is a text's outcome.
 abbrev pub OutcomeAfterNothing : Type 0
@@ -44,13 +44,17 @@ FoundFaultsInOrder = (text : Text) → AreInOrder 0 (faults_in (found text)) (le
 abbrev pub EndsBefore : Lexeme → Spanned Fault → Type 0
 EndsBefore lexeme fault = is_comment lexeme.node ≡ false → lexeme.end ≤ fault.begin
 
--- each lexeme ends before all later faults, and begins after all earlier ones
+-- a lexeme begins after a fault, unless it stands for the fault: then it has all of the fault's bytes
+abbrev pub BeginsAfter : Spanned Fault → Lexeme → Type 0
+BeginsAfter fault lexeme = (fault.end ≤ lexeme.begin) ⊎ ((lexeme.begin ≤ fault.begin) × (fault.end ≤ lexeme.end))
+
+-- each lexeme ends before all later faults, and begins after all earlier ones or stands for them
 abbrev pub AreApart : List Item → Type 0
 AreApart [] = ⊤
 AreApart (Given lexeme ∷ items) = AllByRecursion (EndsBefore lexeme) (faults_in items) × AreApart items
-AreApart (Refused fault ∷ items) = AllByRecursion (λ (lexeme : Lexeme). fault.end ≤ lexeme.begin) (lexemes_in items) × AreApart items
+AreApart (Refused fault ∷ items) = AllByRecursion (BeginsAfter fault) (lexemes_in items) × AreApart items
 
--- No lexeme that is found lies in the span of a fault, but for comments.
+-- No lexeme that is found has a part of a fault's bytes, but for comments.
 abbrev pub FoundApart : Type 0
 FoundApart = (text : Text) → AreApart (found text)
 

@@ -6,8 +6,8 @@ use Rattle.starlark_grammar.specs.Words.{Text}
 use Rattle.starlark_grammar.specs.Tokens.{Dedent, Token, Lexeme, Spanned, moved, Fault}
 use Rattle.starlark_grammar.specs.Margins.{is_blank, is_lf}
 use Rattle.starlark_grammar.specs.Words.{language}
-use Rattle.starlark_grammar.specs.Cuts.{is_faultless, is_layout, is_outside, is_newline}
-use Rattle.starlark_grammar.specs.Depths.{is_balanced, mode_after}
+use Rattle.starlark_grammar.specs.Cuts.{is_faultless, is_layout, is_newline}
+use Rattle.starlark_grammar.specs.Depths.{is_balanced, mode_after, is_outside}
 use Rattle.starlark_grammar.specs.Reading.{History, history_after, nothing, outcome, read_after}
 use Rattle.starlark_grammar.specs.Recovery.{Recovered, restart}
 

@@ -1,15 +1,17 @@
 -- Faults that keep their lines: lexing goes on after their bytes, with all that was open. So it does after a literal with a
--- bad escape that is closed.
-use Rattle.std.specs.Prelude.{ℕ, ◌+◌, Bool, true, false, ◌&&◌, ◌||◌, not, ◌==◌, if◌then◌else◌, max, nat_eq, List, [], ◌∷◌, drop, length, take, codes}
+-- bad escape that is closed, and after one that the end of its line stops, whose brackets count.
+use Rattle.std.specs.Prelude.{ℕ, ◌+◌, ◌-◌, Bool, true, false, ◌&&◌, ◌||◌, not, ◌==◌, if◌then◌else◌, max, nat_eq, nat_lt, List, [], ◌∷◌, count_by, drop, length, take, codes}
 use Rattle.std.specs.List.{prefix_len, starts_with}
 use Rattle.std.specs.Str.{byte, bytes_eq}
+use Rattle.starlark_grammar.specs.declared.class.Terminal.TheVariants.{ClosingRound, OpeningRound}
 use Rattle.starlark_grammar.specs.Words.{Text, SingleQuote, DoubleQuote}
+use Rattle.starlark_grammar.specs.Depths.{Mode, is_any_closing, is_any_opening, mode_after, is_outside}
 use Rattle.starlark_grammar.specs.Items.{closing_quotes, quote_byte}
 use Rattle.starlark_grammar.specs.AfterFaults.{is_tab}
 use Rattle.starlark_grammar.specs.Margins.{begins_with_line_end}
 use Rattle.starlark_grammar.specs.Pieces.{Before, is_nothing, opening_of}
-use Rattle.starlark_grammar.specs.Reading.{History, outcome_after, read_len}
-use Rattle.starlark_grammar.specs.Tokens.{Token, Comment, Lexeme, Opening, Spanned, Fault, InvalidEscapeSequence, InvalidInput, InvalidTab, ReservedKeyword, StartsZero}
+use Rattle.starlark_grammar.specs.Reading.{History, history_after, outcome_after, read_len}
+use Rattle.starlark_grammar.specs.Tokens.{Token, Comment, Lexeme, Opening, Spanned, Fault, InvalidEscapeSequence, InvalidInput, InvalidTab, ReservedKeyword, StartsZero, UnfinishedStringLiteral, Word}
 
 abbrev pub is_comment : Token → Bool
 is_comment (Comment text) = true
@@ -73,9 +75,13 @@ abbrev pub is_bad_escape : Fault → Bool
 is_bad_escape (InvalidEscapeSequence text) = not (bytes_eq text (codes "\\"))
 is_bad_escape fault = false
 
--- what is left of the literal from byte `at` on at its bad escape, which begins at an offset; an opening has at most five bytes
+-- the opening of the literal from byte `at` on, whose bad escape begins at an offset; it has at most five bytes
+abbrev pub literal_opening : (at : ℕ) → Text → ℕ → Opening
+literal_opening at text begin = raw_opening (take 5 (drop at (take begin text)))
+
+-- what is left of it at the bad escape
 unfoldable pub literal_rest : (at : ℕ) → Text → ℕ → LiteralRest
-literal_rest at text begin = rest_from (raw_opening (take 5 (drop at (take begin text)))) false (drop begin text)
+literal_rest at text begin = rest_from (literal_opening at text begin) false (drop begin text)
 
 -- A fault with all of its literal, if it is a bad escape in that from byte `at` on.
 unfoldable pub with_literal_at : (at : ℕ) → Text → Spanned Fault → Spanned Fault
@@ -85,10 +91,44 @@ with_literal_at at text fault = if is_bad_escape fault.node then record fault { 
 abbrev pub closes_literal : (at : ℕ) → Text → Spanned Fault → Bool
 closes_literal at text fault = is_bad_escape fault.node && (literal_rest at text fault.begin).is_closed
 
+-- Open quotes
+
+abbrev pub is_unfinished : Fault → Bool
+is_unfinished UnfinishedStringLiteral = true
+is_unfinished fault = false
+
+-- An open quote: a literal of text or bytes outside of f-strings that the end of its line stops. One with three quotes ends
+-- with the text.
+abbrev pub is_open_quote : Mode → Text → Spanned Fault → Bool
+is_open_quote mode text fault = is_unfinished fault.node && is_outside mode && nat_lt fault.end (length text)
+
+abbrev pub is_opening_byte : ℕ → Bool
+is_opening_byte b = b == byte "(" || b == byte "[" || b == byte "{"
+
+abbrev pub is_closing_byte : ℕ → Bool
+is_closing_byte b = b == byte ")" || b == byte "]" || b == byte "}"
+
+-- the tokens with a byte of an open quote, if that is a bracket: a closing one counts if more were opened than closed
+abbrev pub with_bracket : ℕ → List Token → List Token
+with_bracket b tokens =
+    if is_opening_byte b then Word OpeningRound ∷ tokens
+    else (if is_closing_byte b && nat_lt (count_by is_any_closing tokens) (count_by is_any_opening tokens) then Word ClosingRound ∷ tokens
+    else tokens)
+
+-- The tokens with all brackets of an open quote. Their shapes make no difference outside of f-strings.
+unfoldable pub with_brackets : List Token → Text → List Token
+with_brackets tokens [] = tokens
+with_brackets tokens (b ∷ bs) = with_brackets (with_bracket b tokens) bs
+
+-- The tokens before what is passed with a fault, and those that count in it.
+abbrev pub tokens_past : List Token → Text → Spanned Fault → List Token
+tokens_past tokens text fault = if is_open_quote (mode_after tokens) text fault then with_brackets tokens (take (fault.end - fault.begin) (drop fault.begin text)) else tokens
+
 -- The fault of a text after a history, with all of its literal, …
 abbrev pub with_literal : History → Text → Spanned Fault → Spanned Fault
 with_literal history text fault = with_literal_at (read_len history text) text fault
 
 -- … and whether all stays open after it.
 abbrev pub stays_open : History → Text → Spanned Fault → Bool
-stays_open history text fault = keeps_line history.before text (outcome_after history text).lexemes fault || closes_literal (read_len history text) text fault
+stays_open history text fault =
+    keeps_line history.before text (outcome_after history text).lexemes fault || closes_literal (read_len history text) text fault || is_open_quote (mode_after (history_after history text).tokens) text fault

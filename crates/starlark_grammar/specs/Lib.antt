@@ -26,6 +26,7 @@ pub mod RecoveryLaws
 pub mod Joining
 pub mod KeptLines
 pub mod KeptLineLaws
+pub mod StandIns
 pub mod Found
 pub mod ClosedTexts
 pub mod FoundLaws

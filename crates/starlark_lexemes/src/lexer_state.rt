@@ -11,7 +11,8 @@ ghost use Rattle.starlark_reader.specs.Inner.Lookaheads.{is_slow, most_peeked};
 ghost use Rattle.starlark_reader.specs.Inner.Pending.{IsIdle, IsPendingToken, IsPending};
 ghost use Rattle.starlark_reader.specs.Inner.ReadBounds.{HasRead};
 ghost use Rattle.starlark_reader.specs.Inner.Reader.{IsAtCode, IsAtEnd, IsInCode, IsTokenOf, Line};
-ghost use Rattle.starlark_lexemes.specs.Inner.LexerStates.{Course, HasAdvanced, HasAnswered, HasFound, HasPassed, HasPassedNext, HasTakenLast, HasThrown, IsAtFault, IsAtLiteral, IsAtText, IsAtWord, IsAtWordless, IsBegun, IsCourse, IsItemOf, IsLexing, IsLexingIn, IsReadNext, IsTakenNext, IsTakenOf, IsUnnamed, KeepsOpen, course_of, course_past, has_fault, is_out_of_memory, passed_count, passed_of, taken_count, thrown_count, view_of, whole};
+ghost use Rattle.starlark_lexemes.specs.Inner.LexerStates.{Course, HasAdvanced, HasAnswered, HasFound, HasPassed, HasPassedNext, HasTakenLast, HasThrown, IsAtFault, IsAtLiteral, IsAtText, IsAtWord, IsAtWordless, IsBegun, IsCourse, IsItemOf, IsLexing, IsLexingIn, IsQuoteOf, IsReadNext, IsTakenNext, IsTakenOf, IsUnnamed, KeepsOpen, course_of, course_past, course_quoted, has_fault, is_out_of_memory, passed_count, passed_of, taken_count, thrown_count, view_of, whole};
+ghost use Rattle.starlark_reader.specs.Inner.Nesting.{bracket_count};
 ghost use Rattle.starlark_lexemes.specs.Lexer.{is_ended_by, most_reads, yielded_by};
 ghost use Rattle.starlark_lexemes.specs.Inner.RawItems.{OffsetsHold};
 ghost use Rattle.starlark_lexemes.specs.PlainLexemes.{IsPlainIn, is_plain, plain_value, token_of};
@@ -703,6 +704,20 @@ impl<'a> LexerState<'a> {
         self.has_ended = false;
         self.is_at_code = false;
         self.reader.go_on(end, looked);
+    }
+
+    /// Goes on after the open quote that was taken, by its bytes, at the start of another text: the one
+    /// from its line end on. Its brackets count, and all else stays open. Lexemes are counted anew.
+    pub fn go_on_after_quote(&mut self, quote: &[u8], text: &'a str)
+        requires room { bracket_count self.old.reader.nesting + length quote.now + length text.now < 2 ^ 33 }
+        ensures lexing { (course : Course) (whole : Text) (fault : Spanned Fault) → IsAtFault course whole fault self.old → IsQuoteOf course whole fault quote.now text.now → IsCourse (course_quoted course whole quote.now text.now) text.now →
+            IsLexingIn (course_quoted course whole quote.now text.now) text.now self.new }
+        ensures begun { view_of self.new ≡ record { text = text.now; yielded_count = 0; has_ended = false; reads = 0 } }
+    {
+        self.yielded_count = 0;
+        self.has_ended = false;
+        self.is_at_code = false;
+        self.reader.go_on_after_quote(quote, text);
     }
 
     /// Whether a fault is left after the last lexeme.

@@ -1,10 +1,11 @@
 //! The nesting of brackets and f-strings at an offset of a text.
 
-ghost use Rattle.std.specs.Prelude.{◌≡◌, ◌+◌, ◌<◌, ◌≤◌, ◌^◌, ◌∷◌, [], List, false, true, OnErr, OnOk};
+ghost use Rattle.std.specs.Prelude.{◌≡◌, ◌+◌, ◌<◌, ◌≤◌, ◌^◌, ◌∷◌, [], List, false, length, true, OnErr, OnOk};
 ghost use Rattle.starlark_grammar.specs.Depths.{Curly, is_balanced, is_opening, mode_after};
 ghost use Rattle.starlark_reader.specs.Inner.Nesting.{HasRoom, IsUnchanged, Represents, bracket_count, fstring_after, fstring_view, is_fstring_start, keeps_nesting, mode_view};
 ghost use Rattle.starlark_reader.specs.Inner.PieceViews.{is_code};
 ghost use Rattle.starlark_grammar.specs.Inner.Openings.{opening_view};
+ghost use Rattle.starlark_grammar.specs.KeptLines.{is_closing_byte, is_opening_byte, with_bracket, with_brackets};
 ghost use Rattle.starlark_token.specs.TokenViews.{Whole, token_view};
 ghost use Rattle.starlark_grammar.specs.Pieces.{counts};
 ghost use Rattle.starlark_grammar.specs.Tokens as grammar;
@@ -12,6 +13,20 @@ ghost use Rattle.starlark_grammar.specs.Tokens as grammar;
 use starlark_grammar::class::Opening;
 use starlark_token::tokens::Token;
 use std::alloc::{AllocError, Global};
+
+/// Whether a byte is an opening bracket.
+fn opens_bracket(byte: u8) -> bool
+    ensures { result ≡ is_opening_byte byte }
+{
+    matches!(byte, b'(' | b'[' | b'{')
+}
+
+/// Whether a byte is a closing bracket.
+fn closes_bracket(byte: u8) -> bool
+    ensures { result ≡ is_closing_byte byte }
+{
+    matches!(byte, b')' | b']' | b'}')
+}
 
 /// The lexer mode: code, f-string text, or f-string expression.
 #[derive(Clone, Copy)]
@@ -127,6 +142,33 @@ impl Nesting {
         }
         if let Some(innermost) = self.fstrings.last_mut() {
             innermost.pass(token);
+        }
+    }
+
+    /// Advances past a byte of an open quote, which is outside of f-strings: a closing bracket counts if
+    /// more were opened than closed.
+    fn pass_byte(&mut self, byte: u8)
+        requires room { bracket_count self.old + 2 < 2 ^ 64 }
+        ensures passes { (tokens : List grammar.Token) → Represents tokens self.old → Represents (with_bracket byte tokens) self.new }
+        ensures count { bracket_count self.new ≤ bracket_count self.old + 1 }
+    {
+        if opens_bracket(byte) {
+            self.pass(&Token::OpeningRound);
+        } else if closes_bracket(byte) && self.closed < self.opened {
+            self.pass(&Token::ClosingRound);
+        }
+    }
+
+    /// Advances past the bytes of an open quote. Of these only brackets count.
+    pub(crate) fn pass_quote(&mut self, bytes: &[u8])
+        requires room { bracket_count self.old + length bytes.now + 2 < 2 ^ 64 }
+        ensures passes { (tokens : List grammar.Token) → Represents tokens self.old → Represents (with_brackets tokens bytes.now) self.new }
+        ensures count { bracket_count self.new ≤ bracket_count self.old + length bytes.now }
+    {
+        let mut at = 0;
+        while at < bytes.len() {
+            self.pass_byte(bytes[at]);
+            at += 1;
         }
     }
 

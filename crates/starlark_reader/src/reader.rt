@@ -18,7 +18,7 @@ ghost use Rattle.starlark_grammar.specs.declared.class.LiteralKind.TheVariants a
 ghost use Rattle.starlark_reader.specs.Inner.Pending.{IsIdle, IsPendingToken, owed, pending_lexemes};
 ghost use Rattle.starlark_reader.specs.Inner.MarginCuts.{IsCutBefore};
 ghost use Rattle.starlark_reader.specs.Inner.ReadBounds.{HasStarted, HasScanned, HasScannedHere, HasRead, HasReadAt, HasReadLast, IsMarginRead, IsPassedBy, IsTaken};
-ghost use Rattle.starlark_reader.specs.Inner.Reader.{From, HasSomething, IsAhead, IsAtCode, IsAtEnd, IsAtLineEnd, IsAtStep, IsBangHere, IsInCode, IsLast, IsLineEndStep, IsPlainTextHere, IsReached, IsRead, IsReadPast, IsSound, IsStateAfter, IsTokenOf, IsWordHere, KeepsAhead, Line, Origin, Start, Takes, TakesNext, chunk_lexemes, has_read_none, kept_history, left_here, left_to_read, newline_of, remaining_outcome, step_here, symbol_view};
+ghost use Rattle.starlark_reader.specs.Inner.Reader.{From, HasSomething, IsAhead, IsAtCode, IsAtEnd, IsAtLineEnd, IsAtStep, IsBangHere, IsInCode, IsLast, IsLineEndStep, IsPlainTextHere, IsReached, IsRead, IsReadPast, IsSound, IsStateAfter, IsTokenOf, IsWordHere, KeepsAhead, Line, Origin, Start, Takes, TakesNext, chunk_lexemes, has_read_none, kept_history, left_here, left_to_read, newline_of, quoted_history, remaining_outcome, step_here, symbol_view};
 ghost use Rattle.starlark_reader.specs.Inner.PieceViews.{IsLineEnd};
 ghost use Rattle.starlark_reader.specs.Inner.Lookaheads.{HasPeeked, IsLiteralHere, IsTextRun};
 ghost use Rattle.starlark_grammar.specs.Cuts.{is_settled};
@@ -28,7 +28,7 @@ ghost use Rattle.starlark_token.specs.TokenViews.{TokenView, token_view};
 ghost use Rattle.starlark_grammar.specs.Tokens.{FStringStart, Fault, Spanned};
 ghost use Rattle.starlark_grammar.specs.Depths.{InText, mode_after};
 ghost use Rattle.starlark_grammar.specs.Front.{language_front};
-ghost use Rattle.starlark_reader.specs.Inner.Nesting.{keeps_code};
+ghost use Rattle.starlark_reader.specs.Inner.Nesting.{Represents, bracket_count, keeps_code};
 ghost use Rattle.starlark_grammar.specs.Words.{Text, begins, is_name_start};
 
 use crate::indent_stack::IndentStack;
@@ -502,6 +502,25 @@ impl<'a> Reader<'a> {
         self.before = Before::Other;
         self.pending = Pending::nothing();
         self.stage = Stage::Onward;
+    }
+
+    /// Goes on after the open quote that was taken, by its bytes, at the start of another text: the one
+    /// from its line end on. Its brackets count, and all else stays open.
+    pub fn go_on_after_quote(&mut self, quote: &[u8], text: &'a str)
+        requires room { bracket_count self.old.nesting + length quote.now + length text.now < 2 ^ 33 }
+        ensures text { self.new.text.now ≡ text.now }
+        ensures ahead { (history : History) → Represents history.tokens self.old.nesting → self.old.levels ≡ open_widths history.widths → bracket_count self.old.nesting + length quote.now + length text.now < 2 ^ 32 →
+            IsAhead (From (quoted_history history quote.now) 0) text.now self.new self.new.stage (map shown_lexeme (remaining_outcome (quoted_history history quote.now) 0 text.now).lexemes) (remaining_outcome (quoted_history history quote.now) 0 text.now).fault }
+        ensures reads { (any : Text) → HasRead any self.new }
+        ensures unread { self.new.reads ≡ 0 }
+    {
+        self.nesting.pass_quote(quote);
+        self.text = text;
+        self.at = 0;
+        self.before = Before::Other;
+        self.pending = Pending::nothing();
+        self.stage = Stage::Onward;
+        self.reads = ReadCounter::new();
     }
 
     /// The next word if its first two bytes tell its kind, as of `word_after`; `None` if something else

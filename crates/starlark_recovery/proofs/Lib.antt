@@ -4,6 +4,8 @@
 -- PartRests: what is left of a part: its outcome, its fault, and where that is passed.
 -- RecoveryStates: a lexer that goes on: what is left to it after each fault.
 -- RecoverySteps: its answers.
+-- PassedQuotes: open quotes that are passed: the part that begins at their line end.
+-- StandingLexemes: what stands for a fault that is passed.
 -- Passes: a fault that was passed, and whether it keeps its line.
 -- LiteralBytes: literals with a bad escape: what is left of one, byte by byte.
 pub mod LiteralBytes
@@ -12,4 +14,6 @@ pub mod RecoveredItems
 pub mod RestartPlaces
 pub mod RecoveryStates
 pub mod RecoverySteps
+pub mod PassedQuotes
+pub mod StandingLexemes
 pub mod Passes

@@ -1,13 +1,20 @@
 -- What is left of a literal, byte by byte.
-use Rattle.std.proofs.Common.{◌≡◌, ◌≤◌, ◌<◌, ◌+◌, ◌-◌, ℕ, zero, suc, Bool, true, false, not, [], ◌∷◌, drop, get_or, length, take, refl, ap, sym, ◌∙◌, arith, ◌⊎◌, inl, inr}
-use Rattle.std.specs.Prelude.{◌&&◌, ◌==◌, min, nat_eq}
-use Rattle.std.proofs.lemmas.Bool.{cases_lt}
-use Rattle.std.specs.List.{starts_with}
+use Rattle.std.proofs.Common.{◌≡◌, ◌≤◌, ◌<◌, ◌+◌, ◌-◌, ℕ, zero, suc, Bool, true, false, not, [], ◌∷◌, drop, get_or, length, take, refl, ap, subst, sym, ◌∙◌, arith, ◌⊎◌, inl, inr}
+use Rattle.std.specs.Prelude.{◌&&◌, ◌||◌, ◌==◌, codes, min, nat_eq}
+use Rattle.std.proofs.lemmas.Bool.{and_parts, cases_lt, eqb-true}
+use Rattle.std.proofs.lemmas.Str.{IsCharBoundary-after_ascii}
+use Rattle.std.specs.List.{prefix_len, starts_with}
+use Rattle.std.specs.Str.{IsCharBoundary, IsUtf8}
+use Rattle.std.proofs.lemmas.List.Sums.{prefix_len_stops}
 use Rattle.std.proofs.lemmas.List.{drop-take, drop_all, length-drop, take_all}
 use Rattle.starlark_grammar.specs.Items.{closing_quotes}
 use Rattle.starlark_grammar.specs.KeptLines.{LiteralRest, longer_rest, rest_from}
+use Rattle.starlark_grammar.specs.StandIns.{is_quote}
 use Rattle.starlark_grammar.specs.Tokens.{Opening}
 use Rattle.starlark_grammar.specs.Words.{Text}
+use Rattle.starlark_grammar.proofs.ClosingQuotes.{some_quotes}
+use Rattle.starlark_grammar.proofs.KeptLines.LiteralRests.{quotes_last}
+use Rattle.starlark_grammar.proofs.Literals.Bodies.{starts_fits}
 
 first_of : (at : ℕ) (text : Text) → at < length text → drop at text ≡ get_or text at 0 ∷ drop (at + 1) text
 first_of at [] less = absurd (omega (arith, less))
@@ -77,3 +84,34 @@ front_is n at begin text order = by (cases_lt n (length part)) ∙ ap (take n) s
     by : (n < length part) ⊎ (length part ≤ n) → take (min (length part) n) part ≡ take n part
     by (inl less) = let is : min (length part) n ≡ n = omega (arith, less) in ap (λ m. take m part) is
     by (inr over) = let is : min (length part) n ≡ length part = omega (arith, over) in ap (λ m. take m part) is ∙ take_all (length part) part (omega arith) ∙ sym (take_all n part over)
+
+-- Where a literal is cut
+
+-- after its quotes
+pub quotes_boundary : (opening : Opening) (text : Text) → IsUtf8 text → starts_with nat_eq text (closing_quotes opening) ≡ true → IsCharBoundary text (length (closing_quotes opening))
+quotes_boundary opening text utf8 starts =
+    let some = some_quotes opening in
+    let fits = starts_fits text (closing_quotes opening) starts in
+    let end : length (closing_quotes opening) - 1 + 1 ≡ length (closing_quotes opening) = omega (arith, some) in
+    subst (IsCharBoundary text) end (IsCharBoundary-after_ascii text (length (closing_quotes opening) - 1) utf8 (omega (arith, some, fits)) (quotes_last opening text starts))
+
+-- after the letter of bytes
+pub letter_boundary : (text : Text) → IsUtf8 text → starts_with nat_eq text (codes "b") ≡ true → IsCharBoundary text 1
+letter_boundary [] utf8 starts = cc
+letter_boundary (b ∷ bs) utf8 starts =
+    let letter = eqb-true 98 b (and_parts (nat_eq 98 b) true starts).0 in
+    IsCharBoundary-after_ascii (b ∷ bs) 0 utf8 (omega arith) (omega (arith, letter))
+
+-- after its first quote
+quote_ascii : (b : ℕ) → not (is_quote b) ≡ false → b < 128
+quote_ascii b h = by (b == 39) (b == 34) refl refl h
+  where
+    by : (single double : Bool) → (b == 39) ≡ single → (b == 34) ≡ double → not (single || double) ≡ false → b < 128
+    by true double e f h = let same = eqb-true b 39 e in omega (arith, same)
+    by false true e f h = let same = eqb-true b 34 f in omega (arith, same)
+    by false false e f h = cc
+
+pub first_quote_boundary : (text : Text) → IsUtf8 text → prefix_len (λ b. not (is_quote b)) text < length text → IsCharBoundary text (prefix_len (λ b. not (is_quote b)) text + 1)
+first_quote_boundary text utf8 less =
+    let n = prefix_len (λ b. not (is_quote b)) text in
+    IsCharBoundary-after_ascii text n utf8 less (quote_ascii (get_or text n 0) (prefix_len_stops (λ b. not (is_quote b)) text 0 less))

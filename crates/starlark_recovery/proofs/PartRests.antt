@@ -1,5 +1,5 @@
 -- What is left of a part: its outcome, by that of the rest after what was read before; its fault; where that is passed.
-use Rattle.std.proofs.Common.{◌≡◌, ◌≤◌, ◌<◌, ◌+◌, ◌-◌, ◌==◌, ℕ, suc, Bool, true, false, List, [], ◌∷◌, ◌++◌, cond, map, length, drop, refl, ap, sym, subst, ◌∙◌, arith, None, Some, IfSome, inl, inr, ◌⊎◌}
+use Rattle.std.proofs.Common.{◌≡◌, ◌≤◌, ◌<◌, ◌+◌, ◌-◌, ◌==◌, ℕ, suc, zero, Bool, true, false, List, [], ◌∷◌, ◌++◌, cond, map, length, drop, refl, ap, sym, subst, ◌∙◌, arith, None, Some, IfSome, inl, inr, ◌⊎◌}
 use Rattle.std.proofs.lemmas.Bool.{and_parts, both_ways, cases_lt, eqb-true}
 use Rattle.std.proofs.lemmas.Bool.Decides.{nat_tests}
 use Rattle.std.proofs.lemmas.List.{length-drop, length-map}
@@ -14,7 +14,7 @@ use Rattle.starlark_grammar.specs.Laws.{AtBoundaries}
 use Rattle.starlark_grammar.specs.Margins.{begins_with_line_end, fits, has_tab, is_content, margin_of, open_widths, width_of}
 use Rattle.starlark_grammar.specs.Pieces.{Before, Ends, Fails, Stands, Step, first_margin, margin_step}
 use Rattle.starlark_grammar.specs.Reading.{History, outcome_after}
-use Rattle.starlark_grammar.specs.Tokens.{Fault, InvalidInput, InvalidTab, Lexeme, Outcome, Spanned, moved}
+use Rattle.starlark_grammar.specs.Tokens.{Fault, Indentation, InvalidInput, InvalidTab, Lexeme, Outcome, Spanned, moved}
 use Rattle.starlark_grammar.specs.Words.{Text}
 use Rattle.starlark_grammar.specs.Found.{at_line}
 use Rattle.starlark_grammar.proofs.Choices.{either}
@@ -108,15 +108,28 @@ module _ (origin : Origin) (part : Text) (boundary : IsCharBoundary part (begin_
 
 -- Whether its fault keeps its line
 
-start_is : (origin : Origin) → IsBegun origin → is_nothing (history_before origin).before ≡ (begin_of origin == 0)
-start_is (Line widths) begun = refl
-start_is (From history at) begun = ap is_nothing begun.1 ∙ sym (not_zero at begun.0)
-
 first_zero : (at n : ℕ) → (at == 0 && n == 0) ≡ (at + n == 0)
 first_zero at n = grind (arith, nat_tests)
 
 same_zero : (at n : ℕ) → (at == 0 && at + n == 0) ≡ (at + n == 0)
 same_zero at n = grind (arith, nat_tests)
+
+-- what is in the margin at an offset, where `m` is that of the part or of the rest
+margin_by : (origin : Origin) (part : Text) (n m : ℕ) → IsBegun origin part → (begin_of origin == 0 && m == 0) ≡ (begin_of origin + n == 0)
+    → ((is_nothing (history_before origin).before && m == 0) || begins_with_line_end (drop (begin_of origin + n) part)) ≡ (begin_of origin + n == 0 || begins_with_line_end (drop (begin_of origin + n) part))
+margin_by (Line widths) part n m begun start = ap (λ test. test || begins_with_line_end (drop (0 + n) part)) start
+margin_by (From history at) part n m (inl some, other) start =
+    ap (λ before. (is_nothing before && m == 0) || begins_with_line_end (drop (at + n) part)) other
+    ∙ ap (λ test. test || begins_with_line_end (drop (at + n) part)) (ap (λ test. test && m == 0) (sym (not_zero at some)) ∙ start)
+margin_by (From history at) part n m (inr line, other) start =
+    ap (λ before. (is_nothing before && m == 0) || begins_with_line_end (drop (at + n) part)) other ∙ by n
+  where
+    first : (n : ℕ) → at + n ≡ 0 → begins_with_line_end (drop (at + n) part) ≡ (at + n == 0 || begins_with_line_end (drop (at + n) part))
+    first n none = rw (none, line.1) refl
+
+    by : (n : ℕ) → begins_with_line_end (drop (at + n) part) ≡ (at + n == 0 || begins_with_line_end (drop (at + n) part))
+    by zero = first 0 (omega (arith, line.0))
+    by (suc n) = ap (λ test. test || begins_with_line_end (drop (at + suc n) part)) (sym (not_zero (at + suc n) (omega arith)))
 
 moved_equal : (at n m : ℕ) → (at + n == at + m) ≡ (n == m)
 moved_equal at n m = grind (arith, nat_tests)
@@ -127,7 +140,7 @@ ends_moved at n [] = refl
 ends_moved at n (lexeme ∷ []) = rw (moved_equal at lexeme.end n) refl
 ends_moved at n (lexeme ∷ more ∷ lexemes) = ends_moved at n (more ∷ lexemes)
 
-module _ (origin : Origin) (part : Text) (begun : IsBegun origin) where
+module _ (origin : Origin) (part : Text) (begun : IsBegun origin part) where
   abbrev from : ℕ
   from = begin_of origin
 
@@ -137,14 +150,10 @@ module _ (origin : Origin) (part : Text) (begun : IsBegun origin) where
   -- a tab in the margin of the rest is in that of the part
   in_margin : (n : ℕ) → is_in_margin before (drop from part) n ≡ (from + n == 0 || begins_with_line_end (drop (from + n) part))
   in_margin n =
-      ap (λ test. (test && n == 0) || begins_with_line_end (drop n (drop from part))) (start_is origin begun)
-      ∙ ap (λ test. test || begins_with_line_end (drop n (drop from part))) (first_zero from n)
-      ∙ ap (λ (t : Text). from + n == 0 || begins_with_line_end t) (sym (drop-sum from n part))
+      ap (λ (t : Text). (is_nothing before && n == 0) || begins_with_line_end t) (sym (drop-sum from n part)) ∙ margin_by origin part n n begun (first_zero from n)
 
   pub in_part : (n : ℕ) → is_in_margin before part (from + n) ≡ (from + n == 0 || begins_with_line_end (drop (from + n) part))
-  in_part n =
-      ap (λ test. (test && from + n == 0) || begins_with_line_end (drop (from + n) part)) (start_is origin begun)
-      ∙ ap (λ test. test || begins_with_line_end (drop (from + n) part)) (same_zero from n)
+  in_part n = margin_by origin part n (from + n) begun (same_zero from n)
 
   keeps_moved : (lexemes : List Lexeme) (fault : Spanned Fault) → keeps_line before part (map (moved from) lexemes) (moved from fault) ≡ keeps_line before (drop from part) lexemes fault
   unfolding keeps_line
@@ -226,26 +235,29 @@ stands_first (Line widths) part fault has may inside = by (first_margin (open_wi
     by (Stands piece) e = refl
     by Ends e = refl
 
--- nor is a bad escape in it
-good_first : (levels : List ℕ) (text : Text) → Each (λ piece. ⊤) (λ fault. is_bad_escape fault.node ≡ false) (first_margin levels text)
+-- nor is a fault in it that is of a literal
+literal_first : (test : Fault → Bool) → test InvalidTab ≡ false → test Indentation ≡ false → (levels : List ℕ) (text : Text) → Each (λ piece. ⊤) (λ fault. test fault.node ≡ false) (first_margin levels text)
 unfolding margin_step
-good_first levels text =
-    either (Each (λ piece. ⊤) (λ fault. is_bad_escape fault.node ≡ false)) (not (is_content (margin_of text).remainder)) _ _ tt
-    (either (Each (λ piece. ⊤) (λ fault. is_bad_escape fault.node ≡ false)) (has_tab (margin_of text)) _ _ refl
-    (either (Each (λ piece. ⊤) (λ fault. is_bad_escape fault.node ≡ false)) (fits (width_of (margin_of text)) levels) _ _ tt refl))
+literal_first test tab indent levels text =
+    either (Each (λ piece. ⊤) (λ fault. test fault.node ≡ false)) (not (is_content (margin_of text).remainder)) _ _ tt
+    (either (Each (λ piece. ⊤) (λ fault. test fault.node ≡ false)) (has_tab (margin_of text)) _ _ tab
+    (either (Each (λ piece. ⊤) (λ fault. test fault.node ≡ false)) (fits (width_of (margin_of text)) levels) _ _ tt indent))
 
-pub stands_escape : (origin : Origin) (part : Text) (fault : Spanned Fault) → (course_of origin part).fault ≡ Some fault → is_bad_escape fault.node ≡ true → begins_with_fault origin part ≡ false
-stands_escape (From history at) part fault has bad = refl
-stands_escape (Line widths) part fault has bad = by (first_margin (open_widths widths) part) refl
+pub stands_literal : (test : Fault → Bool) → test InvalidTab ≡ false → test Indentation ≡ false → (origin : Origin) (part : Text) (fault : Spanned Fault) → (course_of origin part).fault ≡ Some fault → test fault.node ≡ true → begins_with_fault origin part ≡ false
+stands_literal test tab indent (From history at) part fault has bad = refl
+stands_literal test tab indent (Line widths) part fault has bad = by (first_margin (open_widths widths) part) refl
   where
     by : (step : Step) → first_margin (open_widths widths) part ≡ step → is_refused step ≡ false
     by (Fails first) e =
         let both : Some (moved 0 first) ≡ Some fault = sym (ap (λ (o : Outcome). o.fault) (line_fails widths part first e)) ∙ has in
         let same : moved 0 first ≡ fault = cc in
-        let good = subst (Each (λ piece. ⊤) (λ fault. is_bad_escape fault.node ≡ false)) e (good_first (open_widths widths) part) in
-        absurd (both_ways _ (sym (ap (λ (f : Spanned Fault). is_bad_escape f.node) same) ∙ good) bad)
+        let good = subst (Each (λ piece. ⊤) (λ fault. test fault.node ≡ false)) e (literal_first test tab indent (open_widths widths) part) in
+        absurd (both_ways _ (sym (ap (λ (f : Spanned Fault). test f.node) same) ∙ good) bad)
     by (Stands piece) e = refl
     by Ends e = refl
+
+pub stands_escape : (origin : Origin) (part : Text) (fault : Spanned Fault) → (course_of origin part).fault ≡ Some fault → is_bad_escape fault.node ≡ true → begins_with_fault origin part ≡ false
+stands_escape origin part fault has bad = stands_literal is_bad_escape refl refl origin part fault has bad
 
 -- Where it is passed
 

@@ -5,7 +5,7 @@ use Rattle.std.specs.Prelude.{◌&&◌, ◌||◌, Bool, Option, codes, if◌then
 use Rattle.std.specs.Str.{IsCharBoundary, bytes_eq}
 use Rattle.starlark_grammar.specs.Margins.{begins_with_line_end}
 use Rattle.starlark_grammar.specs.Inner.KeptFaults.{is_in_margin}
-use Rattle.starlark_grammar.specs.KeptLines.{ends_by_comment, is_bad_escape, keeps_line, passed_end}
+use Rattle.starlark_grammar.specs.KeptLines.{ends_by_comment, is_bad_escape, is_unfinished, keeps_line, passed_end}
 use Rattle.starlark_grammar.specs.Tokens.{Fault, Spanned}
 use Rattle.starlark_grammar.specs.Tokens as grammar
 use Rattle.std.proofs.lemmas.Str.{IsCharBoundary-from_rest}
@@ -16,7 +16,7 @@ use Rattle.starlark_lexemes.specs.Inner.LexerStates.{course_of}
 use Rattle.starlark_reader.specs.Inner.Reader.{IsRaw, Origin, begin_of, history_before}
 use Rattle.starlark_recovery.specs.Inner.RecoveryStates.{IsBegun, rest_keeps}
 use Rattle.starlark_recovery.proofs.PartRests.{in_part}
-use Rattle.starlark_recovery.specs.Inner.Passed.{HasPassed, error_keeps_line, is_bad_escape_error, is_tab_error, up_to}
+use Rattle.starlark_recovery.specs.Inner.Passed.{HasPassed, error_keeps_line, is_bad_escape_error, is_tab_error, is_unfinished_error, up_to}
 use Rattle.starlark_grammar.specs.Recovery.{is_tab, restart}
 use Rattle.starlark_recovery.specs.Restarts.{IsPlaceOf}
 use Rattle.starlark_lexemes.specs.Lexer.{search_reads}
@@ -39,7 +39,12 @@ pub tab_kind : (error : LexemeError) (node : Fault) → fault_view error ≡ Som
 tab_kind error.InvalidTab node is = ap (λ found. is_tab (fault_of found)) is
 tab_kind it node is = ap (λ found. is_tab (fault_of found)) is
 
--- a bad escape is that of the code
+-- so are an unfinished literal, …
+pub unfinished_kind : (error : LexemeError) (node : Fault) → fault_view error ≡ Some node → is_unfinished_error error ≡ is_unfinished node
+unfinished_kind error.UnfinishedStringLiteral node is = ap (λ found. is_unfinished (fault_of found)) is
+unfinished_kind it node is = ap (λ found. is_unfinished (fault_of found)) is
+
+-- … and a bad escape
 pub bad_kind : (error : LexemeError) (node : Fault) → fault_view error ≡ Some node → is_bad_escape_error error ≡ is_bad_escape node
 bad_kind (error.InvalidEscapeSequence text) node is = ap (λ found. is_bad_escape (fault_of found)) is
 bad_kind it node is = ap (λ found. is_bad_escape (fault_of found)) is
@@ -70,7 +75,7 @@ pub end_is : (text : Text) (begin end len : ℕ) (tab : Bool) → len ≡ (if ta
 end_is text begin end len tab is fault place = rw (is, place.begins, place.ends, place.is_tab) refl
 
 -- whether the code's fault keeps its line
-pub keeps_is : (origin : Origin) (part : Text) (found : Spanned Fault) (begin end : ℕ) (fault : LexemeError) (follows_comment : Bool) → IsBegun origin → begin_of origin ≤ found.begin → IsRaw found (begin, fault, end)
+pub keeps_is : (origin : Origin) (part : Text) (found : Spanned Fault) (begin end : ℕ) (fault : LexemeError) (follows_comment : Bool) → IsBegun origin part → begin_of origin ≤ found.begin → IsRaw found (begin, fault, end)
     → follows_comment ≡ ends_by_comment found.begin (course_of origin part).lexemes → error_keeps_line part begin fault follows_comment ≡ rest_keeps origin part found
 unfolding keeps_line
 keeps_is origin part found begin end fault follows_comment begun later raw follows =

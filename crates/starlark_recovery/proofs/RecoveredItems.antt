@@ -2,7 +2,7 @@
 use Rattle.std.proofs.Common.{◌≡◌, ℕ, zero, suc, ◌+◌, List, [], ◌∷◌, ◌++◌, ◌≤◌, length, map, drop, refl, ap, sym, ◌∙◌, arith, None, Some}
 use Rattle.std.proofs.lemmas.List.{append-nil, drop-map}
 use Rattle.std.specs.Prelude.{Option}
-use Rattle.starlark_grammar.specs.Found.{Given, Item, Passed, Refused, found_after, given, moved_item, passed}
+use Rattle.starlark_grammar.specs.Found.{Given, Item, Passed, Refused, found_after, found_from, given, moved_item, passed}
 use Rattle.starlark_grammar.specs.Reading.{History, outcome_after}
 use Rattle.starlark_grammar.specs.Tokens.{Fault, Lexeme, Outcome, Spanned, moved}
 use Rattle.starlark_grammar.specs.Words.{Text}
@@ -35,9 +35,9 @@ all_moved_by_none (item ∷ more) = rw (moved_by_none item, all_moved_by_none mo
 
 -- The items of what is left of a text: its lexemes, and what is after them
 
--- those after its fault, by what is passed with that
+-- what stands for its fault, and those after that, by what is passed with it
 abbrev pub items_past : Origin → Text → Passed → List Item
-items_past origin text past = map (moved_item (begin_of origin + past.len)) (found_after past.history (drop (begin_of origin + past.len) text))
+items_past origin text past = given (map (moved (begin_of origin)) past.stand_ins) ++ map (moved_item (begin_of origin + past.len)) (found_after past.history (drop (begin_of origin + past.len) text))
 
 -- its fault, and those after it
 abbrev pub after_lexemes : Origin → Text → Option (Spanned Fault) → List Item
@@ -47,7 +47,7 @@ after_lexemes origin text (Some fault) = Refused (moved (begin_of origin) fault)
 abbrev pub tail_of : Origin → Text → List Item
 tail_of origin text = after_lexemes origin text (outcome_after (history_before origin) (drop (begin_of origin) text)).fault
 
-lexemes_moved : (n : ℕ) (lexemes : List Lexeme) (items : List Item) → map (moved_item n) (given lexemes ++ items) ≡ given (map (moved n) lexemes) ++ map (moved_item n) items
+pub lexemes_moved : (n : ℕ) (lexemes : List Lexeme) (items : List Item) → map (moved_item n) (given lexemes ++ items) ≡ given (map (moved n) lexemes) ++ map (moved_item n) items
 lexemes_moved n [] items = refl
 lexemes_moved n (lexeme ∷ lexemes) items = ap (λ l. Given (moved n lexeme) ∷ l) (lexemes_moved n lexemes items)
 
@@ -68,8 +68,9 @@ module _ (origin : Origin) (text : Text) where
   items_by None e = ap (map (moved_item at)) (faultless_found history rest e ∙ sym (append-nil (given lexemes))) ∙ lexemes_moved at lexemes []
   items_by (Some fault) e =
       let past = passed history rest fault in
-      ap (map (moved_item at)) (found_after_faults history rest fault e) ∙ lexemes_moved at lexemes (Refused fault ∷ map (moved_item past.len) (found_after past.history (drop past.len rest)))
-      ∙ ap (λ l. given (map (moved at) lexemes) ++ (Refused (moved at fault) ∷ l))
+      ap (map (moved_item at)) (found_after_faults history rest fault e) ∙ lexemes_moved at lexemes (found_from rest fault past found_after)
+      ∙ ap (λ l. given (map (moved at) lexemes) ++ (Refused (moved at fault) ∷ l)) (lexemes_moved at past.stand_ins (map (moved_item past.len) (found_after past.history (drop past.len rest))))
+      ∙ ap (λ l. given (map (moved at) lexemes) ++ (Refused (moved at fault) ∷ (given (map (moved at) past.stand_ins) ++ l)))
       (all_moved_twice at past.len (found_after past.history (drop past.len rest)) ∙ ap (λ (t : Text). map (moved_item (at + past.len)) (found_after past.history t)) (sym (drop-sum at past.len text)))
 
   pub items_are : items_since origin text ≡ given (course_of origin text).lexemes ++ tail_of origin text
@@ -94,6 +95,13 @@ past_given zero lexemes items few = refl
 past_given (suc k) (lexeme ∷ lexemes) items few = past_given k lexemes items (omega (arith, few))
 past_given (suc k) [] items few = absurd (omega (arith, few))
 
+-- None waits of the lexemes that stand for a fault: these are passed.
+pub past_stands : (count k : ℕ) (stands : List Lexeme) (items : List Item) → count ≤ length stands → drop count (map shown_lexeme stands) ≡ [] → drop (count + k) (given stands ++ items) ≡ drop k items
+past_stands zero k [] items few none = let same : 0 + k ≡ k = omega arith in ap (λ n. drop n items) same
+past_stands zero k (lexeme ∷ stands) items few none = cc
+past_stands (suc count) k [] items few none = absurd (omega (arith, few))
+past_stands (suc count) k (lexeme ∷ stands) items few none = let same : suc count + k ≡ suc (count + k) = omega arith in ap (λ n. drop n (given (lexeme ∷ stands) ++ items)) same ∙ past_stands count k stands items (omega (arith, few)) none
+
 -- none is left
 pub no_lexemes : (lexemes : List Lexeme) (k : ℕ) → drop k (map shown_lexeme lexemes) ≡ [] → drop k lexemes ≡ []
 no_lexemes lexemes k none = by (drop k lexemes) (sym (drop-map shown_lexeme k lexemes) ∙ none)
@@ -114,11 +122,17 @@ after_lexemes_moved : (at : ℕ) (lexemes : List Lexeme) (fault : Spanned Fault)
 after_lexemes_moved at [] fault items = refl
 after_lexemes_moved at (lexeme ∷ lexemes) fault items = after_lexemes_moved at lexemes fault items
 
+-- lexemes before the fault make no difference
+after_given : (lexemes : List Lexeme) (items : List Item) → after_faults 1 (given lexemes ++ items) ≡ after_faults 1 items
+after_given [] items = refl
+after_given (lexeme ∷ lexemes) items = after_given lexemes items
+
 -- those after one more fault are those after the fault of what is lexed
-pub after_fault : (n at : ℕ) (origin : Origin) (text : Text) (items : List Item) (fault : Spanned Fault) → after_faults n items ≡ map (moved_item at) (items_since origin text)
+pub after_fault : (n at : ℕ) (origin : Origin) (text : Text) (items : List Item) (stands : List Lexeme) (fault : Spanned Fault) → after_faults n items ≡ given stands ++ map (moved_item at) (items_since origin text)
     → (outcome_after (history_before origin) (drop (begin_of origin) text)).fault ≡ Some fault → after_faults (n + 1) items ≡ map (moved_item at) (items_past origin text (passed (history_before origin) (drop (begin_of origin) text) fault))
-after_fault n at origin text items fault is has =
+after_fault n at origin text items stands fault is has =
     let next : n + 1 ≡ suc n = omega arith in
     let left = items_are origin text ∙ ap (λ f. given (course_of origin text).lexemes ++ after_lexemes origin text f) has in
-    ap (λ k. after_faults k items) next ∙ one_more_fault n items ∙ ap (λ (l : List Item). after_faults 1 l) (is ∙ ap (λ (l : List Item). map (moved_item at) l) left)
+    ap (λ k. after_faults k items) next ∙ one_more_fault n items ∙ ap (λ (l : List Item). after_faults 1 l) is ∙ after_given stands (map (moved_item at) (items_since origin text))
+    ∙ ap (λ (l : List Item). after_faults 1 (map (moved_item at) l)) left
     ∙ after_lexemes_moved at (course_of origin text).lexemes (moved (begin_of origin) fault) (items_past origin text (passed (history_before origin) (drop (begin_of origin) text) fault))

@@ -3,23 +3,28 @@ use Rattle.std.proofs.Common.{◌≡◌, ◌≤◌, ◌<◌, ◌+◌, ◌-◌, �
 use Rattle.std.proofs.lemmas.Bool.{and_parts, cases_lt}
 use Rattle.std.proofs.lemmas.List.{drop_all, length-drop, length-take-le, take-append-drop}
 use Rattle.std.proofs.lemmas.Str.{IsCharBoundary-start, IsUtf8-drop}
-use Rattle.std.specs.Prelude.{◌^◌, ◌||◌, Bool, Option, ◌++◌, max}
+use Rattle.std.specs.Option.{option_map}
+use Rattle.std.specs.Prelude.{◌^◌, ◌||◌, Bool, Option, ◌++◌, max, option_to_list}
 use Rattle.std.specs.Str.{IsCharBoundary, IsUtf8}
 use Rattle.starlark_base.specs.Diagnostics.{Diagnosed}
 use Rattle.starlark_grammar.specs.AfterFaults.{is_margin_tab, restart}
-use Rattle.starlark_grammar.specs.Found.{Item, Passed as PassedOver, at_line, found, found_after, moved_item, passed as passed_by}
+use Rattle.starlark_grammar.specs.Found.{Item, Passed as PassedOver, at_line, found, found_after, given, moved_item, passed as passed_by}
 use Rattle.starlark_grammar.specs.Inner.KeptFaults.{may_keep}
 use Rattle.starlark_grammar.specs.KeptLineLaws.{KeepsLine}
-use Rattle.starlark_grammar.specs.KeptLines.{LiteralRest, closes_literal, ends_by_comment, is_bad_escape, keeps_line, literal_rest, passed_end, stays_open, with_literal, with_literal_at}
+use Rattle.starlark_grammar.specs.KeptLines.{LiteralRest, closes_literal, ends_by_comment, is_bad_escape, is_open_quote, is_unfinished, keeps_line, literal_rest, passed_end, stays_open, with_literal, with_literal_at}
 use Rattle.starlark_grammar.specs.Margins.{open_widths}
-use Rattle.starlark_grammar.specs.Depths.{mode_after}
+use Rattle.starlark_grammar.specs.Depths.{Mode, mode_after}
 use Rattle.starlark_grammar.specs.Reading.{History, history_after, outcome_after, read_len}
-use Rattle.starlark_grammar.specs.Tokens.{Fault, Outcome, Spanned, moved}
+use Rattle.starlark_grammar.specs.StandIns.{stand_ins, stand_ins_at}
+use Rattle.starlark_grammar.specs.Tokens.{Fault, Lexeme, Outcome, Spanned, UnfinishedStringLiteral, moved}
 use Rattle.starlark_grammar.specs.Words.{Text}
 use Rattle.starlark_grammar.proofs.Found.FoundItems.{passed_kept, passed_lost}
+use Rattle.starlark_grammar.proofs.Found.PassedFaults.{quote_moved}
 use Rattle.starlark_grammar.proofs.KeptLines.Faults.{is_in_text}
 use Rattle.starlark_grammar.proofs.KeptLines.KeptFaultPlaces.{IsKept, kept, kept_faults_have_bytes, kept_other, open_place, or_none, passed_literal, whole_untabbed}
 use Rattle.starlark_grammar.proofs.KeptLines.LiteralRests.{closed_later, whole_bad, whole_ends, whole_moved, whole_other, whole_same}
+use Rattle.starlark_grammar.proofs.KeptLines.OpenQuotes.{past_fault}
+use Rattle.starlark_grammar.proofs.KeptLines.StandIns.{stand_ins_moved}
 use Rattle.starlark_grammar.proofs.Lists.{drop-sum}
 use Rattle.starlark_grammar.proofs.Order.Rests.{rest_ends, rest_levels}
 use Rattle.starlark_grammar.proofs.Reading.Onward.{outcome_after_nothing, stops_at}
@@ -35,15 +40,27 @@ use Rattle.starlark_reader.proofs.NextLines.{next_line_least, next_line_later, r
 use Rattle.starlark_reader.proofs.TakenPieces.SearchReads.{other_search}
 use Rattle.starlark_reader.proofs.TakenPieces.KeptReads.{moved_passed}
 use Rattle.starlark_recovery.specs.Inner.Passed.{HasPassed, up_to}
-use Rattle.starlark_recovery.specs.Inner.RecoveryStates.{HasPassedOn, HasReadBefore, IsLeftOf, IsOnward, IsPaidTo, IsPart, IsRest, IsStopped, after_faults, items_since, part_of, rest_keeps, stays_open_here, with_literal_here}
+use Rattle.starlark_recovery.specs.Inner.RecoveryStates.{HasPassedOn, HasReadBefore, IsLeftOf, IsOnward, IsPaidTo, IsPart, IsPlacedIn, IsRest, IsStopped, StandsFor, Waits, after_faults, is_open_here, items_since, part_of, rest_keeps, stays_open_here, with_literal_here}
 use Rattle.starlark_recovery.specs.RecoveringLexer.{AreReadsOn}
 use Rattle.starlark_recovery.specs.declared.passed_faults.Passed.{Passed}
 use Rattle.starlark_recovery.specs.declared.recovery_state.RecoveryState.{RecoveryState}
 use Rattle.starlark_recovery.proofs.PartRests.{RestFault, is_course, keeps_rest, kept_no_margin, literal_boundary, lost_tab, passed_boundary, rest_fault, restart_rest, stands_escape, stands_first, whole_up_to}
-use Rattle.starlark_recovery.proofs.RecoveredItems.{after_fault, all_moved_by_none, all_moved_twice, items_past}
+use Rattle.starlark_recovery.proofs.RecoveredItems.{after_fault, all_moved_by_none, all_moved_twice, items_past, lexemes_moved}
 use Rattle.starlark_text.specs.declared.or_memory.OrMemory.TheVariants.{Error}
 use Rattle.starlark_lexemes.specs.Lexer.{search_reads}
+use Rattle.starlark_token.specs.Lexemes.{lexeme_view, shown_lexeme}
+use Rattle.starlark_token.specs.declared.tokens.Token.{Token}
 use Rattle.starlark_words.specs.Inner.Reads.{AreReads, more_reads}
+
+-- faults that keep their lines, and bad escapes, are no unfinished literals
+kept_finished : (node : Fault) → may_keep node ≡ true → is_unfinished node ≡ false
+unfolding may_keep
+kept_finished UnfinishedStringLiteral keeps = cc
+kept_finished node keeps = refl
+
+escape_finished : (node : Fault) → is_bad_escape node ≡ true → is_unfinished node ≡ false
+escape_finished UnfinishedStringLiteral bad = cc
+escape_finished node bad = refl
 
 -- The part
 
@@ -123,7 +140,7 @@ module _ (old : RecoveryState) (fault : Spanned Fault) (stopped : IsStopped old 
   pub in_rest : RestFault origin part fault
   in_rest = rest_fault origin part fault stopped.here.has
 
-  begins : at + in_rest.inner.begin ≡ fault.begin
+  pub begins : at + in_rest.inner.begin ≡ fault.begin
   begins = ap (λ (f : Spanned Fault). f.begin) in_rest.same
 
   pub later : (at ≤ fault.begin) × (at < length part)
@@ -133,7 +150,7 @@ module _ (old : RecoveryState) (fault : Spanned Fault) (stopped : IsStopped old 
   abbrev pub open_now : List ℕ
   open_now = (history_since origin part).widths
 
-  widths_before : length (open_widths open_now) ≤ old.begin + fault.begin
+  pub widths_before : length (open_widths open_now) ≤ old.begin + fault.begin
   widths_before =
       let here = stops_at history rest in_rest.inner in_rest.has in
       let levels = rest_levels history rest here.pieces here.longest.reads in
@@ -141,8 +158,8 @@ module _ (old : RecoveryState) (fault : Spanned Fault) (stopped : IsStopped old 
       omega (arith, levels, same, here.begin, begins, stopped.rest.widths)
 
   -- what is left after it, by what is passed with it
-  left_past : after_faults (old.fault_count + 1) (found old.text.now) ≡ map (moved_item old.begin) (items_past origin part (passed_by history rest in_rest.inner))
-  left_past = after_fault old.fault_count old.begin origin part (found old.text.now) in_rest.inner stopped.left in_rest.has
+  pub left_past : after_faults (old.fault_count + 1) (found old.text.now) ≡ map (moved_item old.begin) (items_past origin part (passed_by history rest in_rest.inner))
+  left_past = let left = stopped.left in after_fault old.fault_count old.begin origin part (found old.text.now) left.0 in_rest.inner left.1 in_rest.has
 
   -- its literal, in the part and in what is left of that
 
@@ -154,6 +171,12 @@ module _ (old : RecoveryState) (fault : Spanned Fault) (stopped : IsStopped old 
       let len : length (take at part) ≡ at = length-take-le at part stopped.rest.inside in
       subst (λ (t : Text). (with_literal_at (at + n) t (moved at in_rest.inner) ≡ moved at (with_literal_at n rest in_rest.inner)) × (closes_literal (at + n) t (moved at in_rest.inner) ≡ closes_literal n rest in_rest.inner)) (take-append-drop at part)
       (subst (λ m. (with_literal_at (m + n) (take at part ++ rest) (moved m in_rest.inner) ≡ moved m (with_literal_at n rest in_rest.inner)) × (closes_literal (m + n) (take at part ++ rest) (moved m in_rest.inner) ≡ closes_literal n rest in_rest.inner)) len (whole_moved n (take at part) rest in_rest.inner))
+
+  pub stands_moved : (n : ℕ) → stand_ins_at (at + n) part (moved at in_rest.inner) ≡ map (moved at) (stand_ins_at n rest in_rest.inner)
+  stands_moved n =
+      let len : length (take at part) ≡ at = length-take-le at part stopped.rest.inside in
+      subst (λ (t : Text). stand_ins_at (at + n) t (moved at in_rest.inner) ≡ map (moved at) (stand_ins_at n rest in_rest.inner)) (take-append-drop at part)
+      (subst (λ m. stand_ins_at (m + n) (take at part ++ rest) (moved m in_rest.inner) ≡ map (moved m) (stand_ins_at n rest in_rest.inner)) len (stand_ins_moved n (take at part) rest in_rest.inner))
 
   literal_here : (with_literal_here old fault ≡ moved at (with_literal history rest in_rest.inner)) × (closes_literal old.state.reader.at part fault ≡ closes_literal (read_len history rest) rest in_rest.inner)
   literal_here = by (is_bad_escape fault.node) refl
@@ -168,10 +191,26 @@ module _ (old : RecoveryState) (fault : Spanned Fault) (stopped : IsStopped old 
           (subst (λ (f : Spanned Fault). (with_literal_at (at + read_len history rest) part f ≡ moved at (with_literal history rest in_rest.inner)) × (closes_literal (at + read_len history rest) part f ≡ closes_literal (read_len history rest) rest in_rest.inner)) in_rest.same (literal_moved (read_len history rest)))
       by false e = (whole_other old.state.reader.at part fault e ∙ sym in_rest.same ∙ ap (moved at) (sym (whole_other (read_len history rest) rest in_rest.inner (inner_bad ∙ e))), rw (e, inner_bad ∙ e) refl)
 
-  stays_is : stays_open_here old origin fault ≡ stays_open history rest in_rest.inner
+  pub open_is : (mode : Mode) → is_open_quote mode part fault ≡ is_open_quote mode rest in_rest.inner
+  open_is mode =
+      let len : length (take at part) ≡ at = length-take-le at part stopped.rest.inside in
+      ap (is_open_quote mode part) (sym in_rest.same)
+      ∙ subst (λ (t : Text). is_open_quote mode t (moved at in_rest.inner) ≡ is_open_quote mode rest in_rest.inner) (take-append-drop at part)
+      (subst (λ n. is_open_quote mode (take at part ++ rest) (moved n in_rest.inner) ≡ is_open_quote mode rest in_rest.inner) len (quote_moved mode (take at part) rest in_rest.inner))
+
+  pub stays_is : (stays_open_here old origin fault || is_open_here old origin fault) ≡ stays_open history rest in_rest.inner
   stays_is =
-      ap (λ keeps. keeps || closes_literal old.state.reader.at part fault) (keeps_rest origin part stopped.rest.begun fault in_rest)
-      ∙ ap (λ closes. keeps_line history.before rest (outcome_after history rest).lexemes in_rest.inner || closes) literal_here.1
+      ap (λ keeps. keeps || closes_literal old.state.reader.at part fault || is_open_here old origin fault) (keeps_rest origin part stopped.rest.begun fault in_rest)
+      ∙ ap (λ closes. keeps_line history.before rest (outcome_after history rest).lexemes in_rest.inner || closes || is_open_here old origin fault) literal_here.1
+      ∙ ap (λ quote. keeps_line history.before rest (outcome_after history rest).lexemes in_rest.inner || closes_literal (read_len history rest) rest in_rest.inner || quote) (open_is (mode_after (history_since origin part).tokens))
+
+  -- the kind of the fault of what is left
+  pub node_is : in_rest.inner.node ≡ fault.node
+  node_is = ap (λ (f : Spanned Fault). f.node) in_rest.same
+
+  -- only an unfinished literal is an open quote
+  pub finished : is_unfinished fault.node ≡ false → (is_open_here old origin fault ≡ false) × (is_open_quote (mode_after (history_after history rest).tokens) rest in_rest.inner ≡ false)
+  finished none = (rw none refl, rw (ap is_unfinished node_is ∙ none) refl)
 
   -- with it the fault ends no sooner, and in the part
   pub literal_ends : (fault.end ≤ (with_literal_here old fault).end) × ((with_literal_here old fault).end ≤ length part)
@@ -207,8 +246,15 @@ module _ (old : RecoveryState) (fault : Spanned Fault) (stopped : IsStopped old 
     pub literal_open : stays_open_here old origin fault ≡ left.is_closed
     literal_open = ap (λ keeps. keeps || closes_literal old.state.reader.at part fault) bad_loses ∙ literal_kind
 
+    pub literal_single : is_open_here old origin fault ≡ false
+    literal_single = (finished (escape_finished fault.node bad)).0
+
     reads_few : old.state.reader.reads ≤ 10 * fault.begin + (fault.end - fault.begin) + 8
     reads_few = stopped.here.leaves.1 bad
+
+    -- it begins between characters
+    pub literal_begin : IsCharBoundary part old.state.reader.at
+    literal_begin = (stopped.here.stores.whole (stands_escape origin part fault stopped.here.has bad)).boundary
 
     pub literal_paid : left.is_closed ≡ true → IsPaidTo old fault (with_literal_here old fault).end ((with_literal_here old fault).end - fault.begin + left.len)
     literal_paid closed =
@@ -230,7 +276,7 @@ module _ (old : RecoveryState) (fault : Spanned Fault) (stopped : IsStopped old 
     own_kept : IsKept history.before rest in_rest.inner
     own_kept = kept history.before rest (outcome_after history rest).lexemes in_rest.inner (sym (keeps_rest origin part stopped.rest.begun fault in_rest) ∙ own)
 
-    own_may : may_keep fault.node ≡ true
+    pub own_may : may_keep fault.node ≡ true
     own_may = ap (λ (f : Spanned Fault). may_keep f.node) (sym in_rest.same) ∙ own_kept.may
 
     own_margin : is_margin_tab part fault ≡ false
@@ -246,7 +292,7 @@ module _ (old : RecoveryState) (fault : Spanned Fault) (stopped : IsStopped old 
     last = passed_end part (with_literal_here old fault)
 
     keeps_line_here : KeepsLine history rest in_rest.inner
-    keeps_line_here = (in_rest.has, sym stays_is ∙ line)
+    keeps_line_here = (in_rest.has, sym stays_is ∙ ap (λ stays. stays || is_open_here old origin fault) line)
 
     by_kind : {A : Type 0} → (rest_keeps origin part fault ≡ true → A) → (closes_literal old.state.reader.at part fault ≡ true → A) → A
     by_kind {A} own literal = go (rest_keeps origin part fault) refl line
@@ -254,6 +300,13 @@ module _ (old : RecoveryState) (fault : Spanned Fault) (stopped : IsStopped old 
         go : (keeps : Bool) → rest_keeps origin part fault ≡ keeps → (keeps || closes_literal old.state.reader.at part fault) ≡ true → A
         go true e is = own e
         go false e is = literal is
+
+    -- it is no open quote, so its bytes count no bracket
+    single : is_open_quote (mode_after (history_after history rest).tokens) rest in_rest.inner ≡ false
+    single = (finished (by_kind (λ own. kept_finished fault.node (own_may own)) (λ closes. escape_finished fault.node (and_parts (is_bad_escape fault.node) _ closes).0))).1
+
+    past_is : past_fault (history_after history rest) rest in_rest.inner ≡ kept_history (history_since origin part)
+    past_is = rw single refl
 
     last_is : last ≡ at + passed_end rest (with_literal history rest in_rest.inner)
     last_is =
@@ -268,7 +321,7 @@ module _ (old : RecoveryState) (fault : Spanned Fault) (stopped : IsStopped old 
     pub last_fits : last < 2 ^ 32
     last_fits = omega (arith, has_bytes.1, part_fits old stopped.is_part)
 
-    part_end : IsCharBoundary part last
+    pub part_end : IsCharBoundary part last
     part_end = by_kind
         (λ own.
         let other = kept_other history.before rest (outcome_after history rest).lexemes in_rest.inner (sym (keeps_rest origin part stopped.rest.begun fault in_rest) ∙ own) in
@@ -318,23 +371,34 @@ module _ (old : RecoveryState) (fault : Spanned Fault) (stopped : IsStopped old 
             rw none tt
 
     pub is_again : IsRest old.begin part again
-    is_again = record { begun = (omega (arith, has_bytes.0), refl); inside = has_bytes.1; widths = opened_widths; fault = more_bytes }
+    is_again = record { begun = (inl (omega (arith, has_bytes.0)), refl); inside = has_bytes.1; widths = opened_widths; fault = more_bytes }
 
     pub course_again : IsCourse (course_of again part) part
     course_again =
         let bytes = has_bytes in
         is_course again part part_end (part_utf8 old stopped.is_part) (omega (arith, opened_widths, bytes.1, part_len old stopped.is_part, part_begins old stopped.is_part, stopped.is_part.fits)) (part_fits old stopped.is_part)
 
-    left_kept : after_faults (old.fault_count + 1) (found old.text.now) ≡ map (moved_item old.begin) (items_since again part)
+    -- what stands for it, in the part
+    stands_here : stand_ins_at old.state.reader.at part fault ≡ map (moved at) (stand_ins history rest in_rest.inner)
+    stands_here =
+        let place : old.state.reader.at ≡ at + read_len history rest = stopped.here.stores.at standing in
+        ap (λ n. stand_ins_at n part fault) place ∙ ap (stand_ins_at (at + read_len history rest) part) (sym in_rest.same) ∙ stands_moved (read_len history rest)
+
+    abbrev stands : List Lexeme
+    stands = map (moved old.begin) (map (moved at) (stand_ins history rest in_rest.inner))
+
+    left_kept : after_faults (old.fault_count + 1) (found old.text.now) ≡ given stands ++ map (moved_item old.begin) (items_since again part)
     left_kept =
         left_past
         ∙ ap (λ (p : PassedOver). map (moved_item old.begin) (items_past origin part p)) (passed_kept history rest in_rest.inner keeps_line_here.1)
-        ∙ ap (λ n. map (moved_item old.begin) (items_since (From opened n) part)) (sym last_is)
+        ∙ ap (λ (h : History). map (moved_item old.begin) (given (map (moved at) (stand_ins history rest in_rest.inner)) ++ items_since (From h (at + passed_end rest (with_literal history rest in_rest.inner))) part)) past_is
+        ∙ lexemes_moved old.begin (map (moved at) (stand_ins history rest in_rest.inner)) (items_since (From opened (at + passed_end rest (with_literal history rest in_rest.inner))) part)
+        ∙ ap (λ n. given stands ++ map (moved_item old.begin) (items_since (From opened n) part)) (sym last_is)
 
     module _ (state : LexerState) (earlier : ℕ) (lexing : IsLexingIn (course_of again part) part state) (count : state.yielded_count ≡ 0) (going : state.has_ended ≡ false) (text : state.reader.text ≡ old.state.reader.text)
-        (peeked : ℕ) (some : 1 ≤ peeked) (few : peeked ≤ 16) (reads : earlier ≡ more_reads old.earlier_reads peeked) where
+        (peeked : ℕ) (some : 1 ≤ peeked) (few : peeked ≤ 16) (reads : earlier ≡ more_reads old.earlier_reads peeked) (stand_in : Option (ℕ × Token × ℕ)) (it : StandsFor old fault stand_in) where
       abbrev on : RecoveryState
-      on = record old { state = state; comment = None; fault_count = old.fault_count + 1; earlier_reads = earlier }
+      on = record old { state = state; comment = None; stand_in = stand_in; stand_in_count = 0; fault_count = old.fault_count + 1; earlier_reads = earlier }
 
       reads_on : HasReadBefore old.begin last (old.fault_count + 1) earlier
       reads_on =
@@ -347,12 +411,19 @@ module _ (old : RecoveryState) (fault : Spanned Fault) (stopped : IsStopped old 
             most = omega (arith, before.most, reads, few);
           }
 
+      waits_on : Waits on
+      waits_on = by stand_in it.placed
+        where
+          by : (stand_in : Option (ℕ × Token × ℕ)) → IfSome stand_in (IsPlacedIn old.text.now) → IfSome stand_in (λ lexeme. (state.has_ended ≡ false) × (state.yielded_count ≡ 0) × (◌≡◌ {A = ℕ} 0 0) × IsPlacedIn old.text.now lexeme)
+          by None placed = tt
+          by (Some lexeme) placed = (going, count, refl, placed)
+
       onward_on : IsOnward on
       onward_on = record {
         origin = again;
         rest = is_again;
         lexing = lexing;
-        left = left_kept;
+        left = (stands, left_kept, omega arith, it.views ∙ ap (λ ls. map shown_lexeme (map (moved old.begin) ls)) stands_here);
         comment = λ at. ap (λ n. ends_by_comment at (take n (course_of again part).lexemes)) count;
         earlier = tt;
         reads = reads_on;
@@ -361,10 +432,11 @@ module _ (old : RecoveryState) (fault : Spanned Fault) (stopped : IsStopped old 
       pub kept_on : (exception : Diagnosed ErrorKind) → IsException old.code_map (moved old.begin fault) exception → HasPassedOn old fault (Error exception) on
       kept_on exception throws =
           let is = stopped.is_part in (
-            record { is_part = record { fits = is.fits; utf8 = is.utf8; boundary = is.boundary; own = ap (λ t. t.now) text ∙ is.own }; lexing = (course_of again part, lexing); onward = λ goes. onward_on },
+            record { is_part = record { fits = is.fits; utf8 = is.utf8; boundary = is.boundary; own = ap (λ t. t.now) text ∙ is.own }; lexing = (course_of again part, lexing); onward = λ goes. onward_on; waits = waits_on },
             going,
             throws,
             count,
+            refl,
             refl,
             refl,
             refl,
@@ -418,10 +490,10 @@ module _ (old : RecoveryState) (fault : Spanned Fault) (stopped : IsStopped old 
         is_course (Line open_now) next (IsCharBoundary-start next next_utf8) next_utf8 (omega (arith, open_before, passed_inside, stopped.is_part.fits))
         (omega (arith, length-drop passed.begin old.text.now, stopped.is_part.fits))
 
-    module _ (loses : stays_open_here old origin fault ≡ false) (looked : ℕ) (paid : AreReadsTo part ended (old.state.reader.reads + looked)) (state : LexerState) (earlier : ℕ) (own : state.reader.text.now ≡ next) (lexing : IsLexingIn (course_of (Line open_now) next) next state)
+    module _ (loses : stays_open_here old origin fault ≡ false) (none : is_open_here old origin fault ≡ false) (looked : ℕ) (paid : AreReadsTo part ended (old.state.reader.reads + looked)) (state : LexerState) (earlier : ℕ) (own : state.reader.text.now ≡ next) (lexing : IsLexingIn (course_of (Line open_now) next) next state)
         (count : state.yielded_count ≡ 0) (going : state.has_ended ≡ false) (unread : state.reader.reads ≡ 0) (reads : earlier ≡ more_reads old.earlier_reads (more_reads old.state.reader.reads (more_reads passed.reads looked))) where
       abbrev restarted : RecoveryState
-      restarted = record old { begin = passed.begin; state = state; comment = None; fault_count = old.fault_count + 1; earlier_reads = earlier }
+      restarted = record old { begin = passed.begin; state = state; comment = None; stand_in_count = 0; fault_count = old.fault_count + 1; earlier_reads = earlier }
 
       is_part_again : IsPart restarted
       is_part_again = let is = stopped.is_part in record { fits = is.fits; utf8 = is.utf8; boundary = has.boundary; own = own }
@@ -440,7 +512,10 @@ module _ (old : RecoveryState) (fault : Spanned Fault) (stopped : IsStopped old 
           }
 
       lost_so : stays_open history rest in_rest.inner ≡ false
-      lost_so = sym stays_is ∙ loses
+      lost_so = sym stays_is ∙ rw (loses, none) refl
+
+      lost_line : keeps_line history.before rest (outcome_after history rest).lexemes in_rest.inner ≡ false
+      lost_line = sym (keeps_rest origin part stopped.rest.begun fault in_rest) ∙ (or_none (rest_keeps origin part fault) (closes_literal old.state.reader.at part fault) loses).0
 
       -- its tab is in a margin of both
       same_tab : is_margin_tab part (moved at (with_literal history rest in_rest.inner)) ≡ is_margin_tab rest (with_literal history rest in_rest.inner)
@@ -449,7 +524,7 @@ module _ (old : RecoveryState) (fault : Spanned Fault) (stopped : IsStopped old 
           by : (bad : Bool) → is_bad_escape in_rest.inner.node ≡ bad → is_margin_tab part (moved at (with_literal history rest in_rest.inner)) ≡ is_margin_tab rest (with_literal history rest in_rest.inner)
           by true e = rw (whole_untabbed (read_len history rest) rest in_rest.inner e) refl
           by false e = subst (λ (f : Spanned Fault). is_margin_tab part (moved at f) ≡ is_margin_tab rest f) (sym (whole_other (read_len history rest) rest in_rest.inner e))
-              (lost_tab origin part stopped.rest.begun (outcome_after history rest).lexemes in_rest.inner (or_none (keeps_line history.before rest (outcome_after history rest).lexemes in_rest.inner) _ lost_so).0)
+              (lost_tab origin part stopped.rest.begun (outcome_after history rest).lexemes in_rest.inner lost_line)
 
       from_is : restart part ended ≡ at + restart rest (with_literal history rest in_rest.inner)
       from_is = ap (restart part) literal_here.0 ∙ restart_rest part at (with_literal history rest in_rest.inner) same_tab stopped.rest.inside
@@ -460,14 +535,17 @@ module _ (old : RecoveryState) (fault : Spanned Fault) (stopped : IsStopped old 
       abbrev found_next : Text → List Item
       found_next = found_after (at_line open_now)
 
-      left_again : IsLeftOf restarted (Line open_now)
-      left_again =
+      items_again : after_faults (old.fault_count + 1) (found old.text.now) ≡ map (moved_item passed.begin) (items_since (Line open_now) next)
+      items_again =
           left_past
           ∙ ap (λ (p : PassedOver). map (moved_item old.begin) (items_past origin part p)) (passed_lost history rest in_rest.inner lost_so)
           ∙ ap (λ n. map (moved_item old.begin) (map (moved_item n) (found_next (drop n part)))) (sym from_is)
           ∙ ap (λ (t : Text). map (moved_item old.begin) (map (moved_item (restart part ended)) (found_next t))) next_is
           ∙ all_moved_twice old.begin (restart part ended) (found_next next) ∙ ap (λ n. map (moved_item n) (found_next next)) (sym begins_at)
           ∙ ap (map (moved_item passed.begin)) (sym (line_items open_now next))
+
+      left_again : IsLeftOf restarted (Line open_now)
+      left_again = ([], items_again, omega arith, ap (λ (s : Option (ℕ × Token × ℕ)). option_to_list (option_map lexeme_view s)) stopped.none)
 
       onward_again : IsOnward restarted
       onward_again = record {
@@ -482,10 +560,11 @@ module _ (old : RecoveryState) (fault : Spanned Fault) (stopped : IsStopped old 
 
       pub lost_on : HasPassedOn old fault (Error passed.fault) restarted
       lost_on = (
-        record { is_part = is_part_again; lexing = (course_of (Line open_now) next, lexing); onward = λ goes. onward_again },
+        record { is_part = is_part_again; lexing = (course_of (Line open_now) next, lexing); onward = λ goes. onward_again; waits = rw stopped.none tt },
         going,
         has.exception,
         count,
+        refl,
         refl,
         refl,
         refl,

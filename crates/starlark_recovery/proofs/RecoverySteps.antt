@@ -3,7 +3,8 @@ use Rattle.std.proofs.Common.{◌≡◌, ◌≤◌, ◌<◌, ◌+◌, ◌||◌, 
 use Rattle.std.proofs.lemmas.Bool.{eq-eqb, ne_eqb}
 use Rattle.std.proofs.lemmas.List.{drop-map, take_all}
 use Rattle.std.proofs.lemmas.Str.{IsCharBoundary-from_rest, IsCharBoundary-start}
-use Rattle.std.specs.Prelude.{◌^◌, if◌then◌else◌, Option, Result}
+use Rattle.std.specs.Option.{option_map}
+use Rattle.std.specs.Prelude.{◌^◌, if◌then◌else◌, Option, Result, option_to_list}
 use Rattle.std.specs.Str.{IsCharBoundary, IsUtf8}
 use Rattle.starlark_base.specs.Diagnostics.{Diagnosed}
 use Rattle.starlark_base.specs.Sources.{SourceFile}
@@ -18,14 +19,14 @@ use Rattle.starlark_errors.specs.Exceptions.{IsException}
 use Rattle.starlark_lexemes.specs.Inner.LexerStates as lexing
 use Rattle.starlark_lexemes.specs.Inner.LexerStates.{Course, HasFound, IsBegun, IsLexing, IsLexingIn, StateView, course_of, whole}
 use Rattle.starlark_lexemes.specs.Inner.RawItems.{OffsetsHold}
-use Rattle.starlark_recovery.specs.Inner.RecoveryStates.{HasPassedOn, HasReadBefore, IsAdvanced, IsLeftOf, IsOnward, IsPart, IsRecovering, IsStopped, is_comment, is_end, items_since, last_comment, left_of, part_of, view_of}
+use Rattle.starlark_recovery.specs.Inner.RecoveryStates.{HasPassedOn, HasReadBefore, IsAdvanced, IsLeftOf, IsOnward, IsPart, IsPlacedIn, IsRecovering, IsStopped, Waits, after_faults, is_comment, is_end, items_since, last_comment, left_of, part_of, view_of}
 use Rattle.starlark_lexemes.specs.Lexer.{AnswersNext, is_ended_by, yielded_by}
 use Rattle.starlark_recovery.specs.RecoveringLexer.{AreReadsOn, HasReadOn, IsNextOf, RecoveringView, all_items, shown_item}
 use Rattle.starlark_errors.specs.declared.error.kinds.ErrorKind.{ErrorKind}
 use Rattle.starlark_lexemes.specs.declared.lexer_state.LexerState.{LexerState}
 use Rattle.starlark_recovery.specs.declared.recovery_state.RecoveryState.{RecoveryState}
 use Rattle.starlark_lexemes.proofs.LexerStates.{lexing_read_in, or_false}
-use Rattle.starlark_recovery.proofs.RecoveredItems.{after_fault, all_moved_by_none, items_are, items_past, no_lexemes, past_given, tail_none, tail_of, tail_some}
+use Rattle.starlark_recovery.proofs.RecoveredItems.{after_fault, all_moved_by_none, items_are, items_past, no_lexemes, past_given, past_stands, tail_none, tail_of, tail_some}
 use Rattle.starlark_recovery.proofs.PartRests.{RestFault, rest_fault}
 use Rattle.starlark_recovery.proofs.RecoveryStates.{is_start, on_reads, part_begins, part_len, start_items, start_lexing}
 use Rattle.starlark_text.specs.declared.or_memory.OrMemory.{OrMemory}
@@ -42,10 +43,15 @@ pub views : (text whole : Text) (file : SourceFile) (left more : List LexerItem)
     → ◌≡◌ {A = RecoveringView} (record { text = text; code_map = file; left = left; fault_count = n; has_ended = ended; reads = reads }) (record { text = whole; code_map = file; left = more; fault_count = m; has_ended = other; reads = all })
 views text whole file left more n m ended other reads all t l c e r = rw (t, l, c, e, r) refl
 
+-- where nothing stands for the last fault any more
+pub no_waits : (state : RecoveryState) → state.stand_in ≡ None → Waits state
+no_waits state none = rw none tt
+
 -- The start of a text
 
 module _ (new : RecoveryState) (utf8 : IsUtf8 new.text.now) (fits : length new.text.now < 2 ^ 32) (start : new.begin ≡ 0)
-    (begun : IsBegun new.text.now new.state) (lexing : IsLexing (whole new.state.reader.text.now) new.state) (count : new.fault_count ≡ 0) (comment : new.comment ≡ None) (earlier : new.earlier_reads ≡ 0) where
+    (begun : IsBegun new.text.now new.state) (lexing : IsLexing (whole new.state.reader.text.now) new.state) (count : new.fault_count ≡ 0) (comment : new.comment ≡ None) (earlier : new.earlier_reads ≡ 0)
+    (none : new.stand_in ≡ None) (stood : new.stand_in_count ≡ 0) where
   part : part_of new ≡ new.text.now
   part = ap (λ n. drop n new.text.now) start
 
@@ -62,7 +68,7 @@ module _ (new : RecoveryState) (utf8 : IsUtf8 new.text.now) (fits : length new.t
   goes_on = start_lexing (part_of new) new.state own lexing
 
   told : IsLeftOf new Start
-  told = rw (count, part, start) (sym (ap (map (moved_item 0)) (start_items new.text.now) ∙ all_moved_by_none (items.found new.text.now)))
+  told = ([], rw (count, part, start) (sym (ap (map (moved_item 0)) (start_items new.text.now) ∙ all_moved_by_none (items.found new.text.now))), omega (arith, stood), rw (none, stood) refl)
 
   pub recovering_start : IsRecovering new
   recovering_start = record {
@@ -77,11 +83,12 @@ module _ (new : RecoveryState) (utf8 : IsUtf8 new.text.now) (fits : length new.t
       earlier = rw comment tt;
       reads = record { few = omega (arith, count); first = λ h. start; least = omega (arith, count); most = omega (arith, earlier) };
     };
+    waits = no_waits new none;
   }
 
   pub left_start : left_of new ≡ all_items new.text.now
   unfolding all_items
-  left_start = rw (ended, yielded, count) refl
+  left_start = rw (ended, stood, yielded, count) refl
 
 -- One lexeme
 
@@ -129,12 +136,20 @@ recorded false (Some comment) k end less = omega (arith, less)
 left_ended : (old : RecoveryState) → old.state.has_ended ≡ true → left_of old ≡ []
 left_ended old ended = rw ended refl
 
-left_goes : (old : RecoveryState) → old.state.has_ended ≡ false → (onward : IsOnward old)
+-- the items of the part that are left
+left_in_part : (old : RecoveryState) → old.stand_in ≡ None → (onward : IsOnward old) → (k : ℕ) → drop (old.stand_in_count + k) (after_faults old.fault_count (items.found old.text.now)) ≡ map (moved_item old.begin) (drop k (items_since onward.origin (part_of old)))
+left_in_part old none onward k =
+    let left = onward.left in
+    let passed : drop old.stand_in_count (map shown_lexeme left.0) ≡ [] = drop-map shown_lexeme old.stand_in_count left.0 ∙ sym left.3 ∙ ap (λ (s : Option (ℕ × Token × ℕ)). option_to_list (option_map lexeme_view s)) none in
+    ap (drop (old.stand_in_count + k)) left.1 ∙ past_stands old.stand_in_count k left.0 (map (moved_item old.begin) (items_since onward.origin (part_of old))) left.2 passed
+    ∙ drop-map (moved_item old.begin) k (items_since onward.origin (part_of old))
+
+left_goes : (old : RecoveryState) → old.state.has_ended ≡ false → old.stand_in ≡ None → (onward : IsOnward old)
     → left_of old ≡ map shown_item (map (moved_item old.begin) (items.given (drop old.state.yielded_count (course_of onward.origin (part_of old)).lexemes) ++ tail_of onward.origin (part_of old)))
-left_goes old goes onward =
+left_goes old goes none onward =
     let few = (onward.lexing.1 goes).0 in
     rw goes (
-    ap (λ items. map shown_item (drop old.state.yielded_count items)) onward.left ∙ ap (map shown_item) (drop-map (moved_item old.begin) old.state.yielded_count (items_since onward.origin (part_of old)))
+    ap (map shown_item) (left_in_part old none onward old.state.yielded_count)
     ∙ ap (λ items. map shown_item (map (moved_item old.begin) items))
     (ap (λ items. drop old.state.yielded_count items) (items_are onward.origin (part_of old)) ∙ past_given old.state.yielded_count (course_of onward.origin (part_of old)).lexemes (tail_of onward.origin (part_of old)) few)
     )
@@ -145,11 +160,11 @@ some_goes true none = let wrong = none refl in cc
 some_goes false none = refl
 
 -- an offset of the part, in the text
-text_boundary : (old : RecoveryState) (is : IsPart old) (at : ℕ) → IsCharBoundary (part_of old) at → IsCharBoundary old.text.now (old.begin + at)
+pub text_boundary : (old : RecoveryState) (is : IsPart old) (at : ℕ) → IsCharBoundary (part_of old) at → IsCharBoundary old.text.now (old.begin + at)
 text_boundary old is at boundary = IsCharBoundary-from_rest old.text.now old.begin at (part_begins old is) boundary
 
 -- what lies in the part lies in the text
-text_within : (old : RecoveryState) (is : IsPart old) (from to : ℕ) → IsWithin (part_of old) from to → IsWithin old.text.now (old.begin + from) (old.begin + to)
+pub text_within : (old : RecoveryState) (is : IsPart old) (from to : ℕ) → IsWithin (part_of old) from to → IsWithin old.text.now (old.begin + from) (old.begin + to)
 text_within old is from to within =
     (omega (arith, within.0), omega (arith, within.1, part_len old is, part_begins old is), is.fits)
 
@@ -186,7 +201,7 @@ module _ (old : RecoveryState) (is : IsRecovering old) (state : LexerState) (on 
           let onward = is.onward e in
           let course = course_of onward.origin (part_of old) in
           let none = on.found e course onward.lexing in
-          left_goes old e onward
+          left_goes old e on.none onward
           ∙ ap (λ l. map shown_item (map (moved_item old.begin) l)) (ap (λ ls. items.given ls ++ tail_of onward.origin (part_of old)) (no_lexemes course.lexemes old.state.yielded_count none.0) ∙ tail_none onward.origin (part_of old) none.1)
 
   onward_same : IsOnward old → IsOnward (record old { state = state })
@@ -201,7 +216,12 @@ module _ (old : RecoveryState) (is : IsRecovering old) (state : LexerState) (on 
   }
 
   pub nothing_recovering : IsRecovering (record old { state = state })
-  nothing_recovering = record { is_part = part_on old is state None on old.comment; lexing = lexing_on old is state None on; onward = λ goes. onward_same (is.onward (sym same_end ∙ goes)) }
+  nothing_recovering = record {
+    is_part = part_on old is state None on old.comment;
+    lexing = lexing_on old is state None on;
+    onward = λ goes. onward_same (is.onward (sym same_end ∙ goes));
+    waits = no_waits (record old { state = state }) on.none;
+  }
 
   nothing_reads : old.state.has_ended ≡ false → HasReadOn old.text.now old.fault_count None (more_reads old.earlier_reads state.reader.reads)
   nothing_reads goes =
@@ -271,11 +291,11 @@ module _ (old : RecoveryState) (is : IsRecovering old) (state : LexerState) (fro
 
   left_is : left_of old ≡ Given (moved old.begin (lexeme_view (from, token, to))) ∷ left_of past
   left_is =
-      left_goes old going onward ∙ ap items_by at.left ∙ ap (λ (x : Spanned TokenView). Given (moved old.begin x) ∷ items_by at.more) at.shows
-      ∙ ap (λ l. Given (moved old.begin (lexeme_view (from, token, to))) ∷ l) (ap items_by (sym at.rest ∙ ap (λ n. drop n course.lexemes) (sym on.count)) ∙ sym (left_goes past goes onward_past))
+      left_goes old going on.none onward ∙ ap items_by at.left ∙ ap (λ (x : Spanned TokenView). Given (moved old.begin x) ∷ items_by at.more) at.shows
+      ∙ ap (λ l. Given (moved old.begin (lexeme_view (from, token, to))) ∷ l) (ap items_by (sym at.rest ∙ ap (λ n. drop n course.lexemes) (sym on.count)) ∙ sym (left_goes past goes on.none onward_past))
 
   pub lexeme_recovering : IsRecovering past
-  lexeme_recovering = record { is_part = part_on old is state _ on last; lexing = lexing_on old is state _ on; onward = λ going. onward_past }
+  lexeme_recovering = record { is_part = part_on old is state _ on last; lexing = lexing_on old is state _ on; onward = λ going. onward_past; waits = no_waits past on.none }
 
   pub lexeme_next : IsNextOf (view_of old) (Some (Ok (old.begin + from, token, old.begin + to))) (view_of past)
   lexeme_next =
@@ -309,13 +329,13 @@ module _ (old : RecoveryState) (is : IsRecovering old) (state : LexerState) (goi
   has_ended = on.ends ∙ ap (λ b. b || true) going
 
   pub memory_recovering : IsRecovering (record old { state = state })
-  memory_recovering = record { is_part = part_on old is state _ on old.comment; lexing = lexing_on old is state _ on; onward = λ goes. let both : true ≡ false = sym has_ended ∙ goes in cc }
+  memory_recovering = record { is_part = part_on old is state _ on old.comment; lexing = lexing_on old is state _ on; onward = λ goes. let both : true ≡ false = sym has_ended ∙ goes in cc; waits = no_waits (record old { state = state }) on.none }
 
   pub memory_next : IsNextOf (view_of old) (Some (Err Memory)) (view_of (record old { state = state }))
   memory_next =
       let onward = is.onward going in
       let some = some_left onward.origin (part_of old) old.state.yielded_count (on.found going (course_of onward.origin (part_of old)) onward.lexing) in
-      let left = left_goes old going onward ∙ ap (λ items. map shown_item (map (moved_item old.begin) items)) some.2 in
+      let left = left_goes old going on.none onward ∙ ap (λ items. map shown_item (map (moved_item old.begin) items)) some.2 in
       record {
         item = memory_item old.code_map (left_of old) _ _ left;
         within = tt;
@@ -366,6 +386,7 @@ module _ (old : RecoveryState) (is : IsRecovering old) (state : LexerState) (raw
         rest = before.rest;
         here = reached.2;
         ended = on.ends ∙ ap (λ b. b || true) going;
+        none = on.none;
         left = before.left;
         comment = λ at. ap (ends_by_comment at) (sym all_taken) ∙ before.comment at ∙ ap (λ n. is_end old.comment n at) (sym all_counted);
         reads = before.reads;
@@ -377,12 +398,13 @@ module _ (old : RecoveryState) (is : IsRecovering old) (state : LexerState) (raw
 
   fault_left : left_of old ≡ Refused (moved old.begin reached.0) ∷ items_then
   fault_left =
-      left_goes old going before
+      left_goes old going on.none before
       ∙ ap (λ l. map shown_item (map (moved_item old.begin) l)) (ap (λ ls. items.given ls ++ tail_of before.origin (part_of old)) (no_lexemes course_now.lexemes old.state.yielded_count reached.1) ∙ tail_some before.origin (part_of old) reached.0 in_rest)
 
-  left_after_fault : (new : RecoveryState) → new.state.has_ended ≡ false → new.state.yielded_count ≡ 0 → new.fault_count ≡ old.fault_count + 1 → new.text ≡ old.text → left_of new ≡ drop 1 (left_of old)
-  left_after_fault new goes none count text =
-      rw (goes, none, count, text) (ap (map shown_item) (after_fault old.fault_count old.begin before.origin (part_of old) (items.found old.text.now) in_rest.inner before.left in_rest.has)) ∙ sym (ap (λ (l : List LexerItem). drop 1 l) fault_left)
+  left_after_fault : (new : RecoveryState) → new.state.has_ended ≡ false → new.state.yielded_count ≡ 0 → new.stand_in_count ≡ 0 → new.fault_count ≡ old.fault_count + 1 → new.text ≡ old.text → left_of new ≡ drop 1 (left_of old)
+  left_after_fault new goes none stood count text =
+      let left = before.left in
+      rw (goes, none, stood, count, text) (ap (map shown_item) (after_fault old.fault_count old.begin before.origin (part_of old) (items.found old.text.now) left.0 in_rest.inner left.1 in_rest.has)) ∙ sym (ap (λ (l : List LexerItem). drop 1 l) fault_left)
 
   fault_edges : IsCharBoundary old.text.now (old.begin + reached.0.begin) × IsCharBoundary old.text.now (old.begin + reached.0.end)
   fault_edges = (text_boundary old is.is_part reached.0.begin stopped_here.begins, text_boundary old is.is_part reached.0.end stopped_here.ends)
@@ -394,10 +416,10 @@ module _ (old : RecoveryState) (is : IsRecovering old) (state : LexerState) (raw
       item = subst (λ (l : List LexerItem). AnswersNext old.code_map (slice_get l 0) (Some (Err (Error exception)))) (sym fault_left) passed.2;
       within = span_has (IsWithin old.text.now) old.code_map (moved old.begin reached.0) exception passed.2 (text_within old is.is_part reached.0.begin reached.0.end stopped_here.within);
       between = span_has (λ from to. IsCharBoundary old.text.now from × IsCharBoundary old.text.now to) old.code_map (moved old.begin reached.0) exception passed.2 fault_edges;
-      after = ap (λ (f : SourceFile). record { text = new.text.now; code_map = f; left = left_of new; fault_count = new.fault_count; has_ended = new.state.has_ended; reads = (view_of new).reads }) passed.6
+      after = ap (λ (f : SourceFile). record { text = new.text.now; code_map = f; left = left_of new; fault_count = new.fault_count; has_ended = new.state.has_ended; reads = (view_of new).reads }) passed.7
           ∙ views new.text.now old.text.now old.code_map (left_of new) (drop 1 (left_of old)) new.fault_count (old.fault_count + 1) new.state.has_ended (old.state.has_ended || false) (view_of new).reads (view_of new).reads
-          (ap (λ t. t.now) passed.5) (left_after_fault new passed.1 passed.3 passed.4 passed.5) passed.4 (passed.1 ∙ sym (or_false old.state.has_ended ∙ going)) refl;
-      reads = λ goes. passed.7;
+          (ap (λ t. t.now) passed.6) (left_after_fault new passed.1 passed.3 passed.4 passed.5 passed.6) passed.5 (passed.1 ∙ sym (or_false old.state.has_ended ∙ going)) refl;
+      reads = λ goes. passed.8;
     },
   )
   fault_next Memory new passed = (
@@ -422,7 +444,7 @@ module _ (old : RecoveryState) (is : IsRecovering old) (state : LexerState) (raw
 
 -- An item is found
 
-pub advanced : (old : RecoveryState) → IsRecovering old → (item : Option (Result (ℕ × Token × ℕ) (OrMemory (ℕ × LexemeError × ℕ)))) (state : LexerState)
+pub advanced : (old : RecoveryState) → IsRecovering old → old.stand_in ≡ None → (item : Option (Result (ℕ × Token × ℕ) (OrMemory (ℕ × LexemeError × ℕ)))) (state : LexerState)
     → (old.state.has_ended ≡ true → (item ≡ None) × (state ≡ old.state))
     → (old.state.has_ended ≡ false → (course : Course) → IsLexing course old.state → HasFound course old.state.reader.text.now old.state item state)
     → ((course : Course) → IsLexing course old.state → IsLexing course state)
@@ -430,11 +452,12 @@ pub advanced : (old : RecoveryState) → IsRecovering old → (item : Option (Re
     → OffsetsHold (λ from to. IsCharBoundary old.state.reader.text.now from × IsCharBoundary old.state.reader.text.now to) item
     → lexing.view_of state ≡ record (lexing.view_of old.state) { yielded_count = old.state.yielded_count + yielded_by item; has_ended = old.state.has_ended || is_ended_by item; reads = state.reader.reads }
     → IsAdvanced old item (record old { state = state })
-advanced old is item state ended found lexing within between after =
+advanced old is none item state ended found lexing within between after =
     let own = is.is_part.own in
     let text : state.reader.text.now ≡ old.state.reader.text.now = ap (λ (v : StateView). v.text) after in
     record {
       recovering = is;
+      none = none;
       ended = λ on. ((ended on).0, ap (λ (s : LexerState). s.reader.reads) (ended on).1);
       found = λ goes course now. subst (λ (t : Text). HasFound course t old.state item state) own (found goes course (subst (λ (t : Text). IsLexingIn course t old.state) (sym own) now));
       lexing = λ course now. subst (λ (t : Text). IsLexingIn course t state) (text ∙ own) (lexing course (subst (λ (t : Text). IsLexingIn course t old.state) (sym own) now));
@@ -449,3 +472,75 @@ advanced old is item state ended found lexing within between after =
 -- a state that lexes what its reader has
 pub lexing_here : (old : RecoveryState) → IsRecovering old → (course : Course) × IsLexing course old.state
 lexing_here old is = (is.lexing.0, subst (λ (t : Text). IsLexingIn is.lexing.0 t old.state) (sym is.is_part.own) is.lexing.1)
+
+-- What stands for the last fault is next
+
+module _ (old : RecoveryState) (is : IsRecovering old) (lexeme : ℕ × Token × ℕ) (some : old.stand_in ≡ Some lexeme) where
+  abbrev stood : RecoveryState
+  stood = record old { stand_in = None; stand_in_count = 1 }
+
+  waiting : (old.state.has_ended ≡ false) × (old.state.yielded_count ≡ 0) × (old.stand_in_count ≡ 0) × IsPlacedIn old.text.now lexeme
+  waiting = rw some at is.waits
+
+  goes_still : old.state.has_ended ≡ false
+  goes_still = waiting.0
+
+  abbrev onward_now : IsOnward old
+  onward_now = is.onward goes_still
+
+  abbrev later_items : List Item
+  later_items = map (moved_item old.begin) (items_since onward_now.origin (part_of old))
+
+  first_of : (stands : List Lexeme) → option_to_list (option_map lexeme_view (Some lexeme)) ≡ map shown_lexeme stands → (first : Lexeme) × (stands ≡ first ∷ []) × (shown_lexeme first ≡ lexeme_view lexeme)
+  first_of [] e = cc
+  first_of (first ∷ []) e = (first, refl, cc)
+  first_of (first ∷ second ∷ stands) e = cc
+
+  alone : (first : Lexeme) × (onward_now.left.0 ≡ first ∷ []) × (shown_lexeme first ≡ lexeme_view lexeme)
+  alone =
+      first_of onward_now.left.0
+      (ap (λ (s : Option (ℕ × Token × ℕ)). option_to_list (option_map lexeme_view s)) (sym some) ∙ onward_now.left.3 ∙ ap (λ n. map shown_lexeme (drop n onward_now.left.0)) waiting.2)
+
+  -- what is left after so many items
+  left_at : (n : ℕ) → (if old.state.has_ended then [] else map shown_item (drop (n + old.state.yielded_count) (after_faults old.fault_count (items.found old.text.now)))) ≡ map shown_item (drop n (after_faults old.fault_count (items.found old.text.now)))
+  left_at n =
+      let all : List Item = after_faults old.fault_count (items.found old.text.now) in
+      let none : n + old.state.yielded_count ≡ n = omega (arith, waiting.1) in
+      ap (λ (ended : Bool). if ended then [] else map shown_item (drop (n + old.state.yielded_count) all)) goes_still ∙ ap (λ k. map shown_item (drop k all)) none
+
+  items_now : after_faults old.fault_count (items.found old.text.now) ≡ items.given (alone.0 ∷ []) ++ later_items
+  items_now = let one = alone.1 in onward_now.left.1 ∙ ap (λ ls. items.given ls ++ later_items) one
+
+  left_now : left_of old ≡ Given (lexeme_view lexeme) ∷ map shown_item later_items
+  left_now =
+      let shows = alone.2 in
+      left_at old.stand_in_count ∙ ap (λ n. map shown_item (drop n (after_faults old.fault_count (items.found old.text.now)))) waiting.2
+      ∙ ap (map shown_item) items_now ∙ ap (λ (x : Spanned TokenView). Given x ∷ map shown_item later_items) shows
+
+  left_then : left_of stood ≡ map shown_item later_items
+  left_then = left_at 1 ∙ ap (λ (l : List Item). map shown_item (drop 1 l)) items_now
+
+  onward_then : IsOnward stood
+  onward_then = record {
+    origin = onward_now.origin;
+    rest = onward_now.rest;
+    lexing = onward_now.lexing;
+    left = (alone.0 ∷ [], items_now, omega arith, refl);
+    comment = onward_now.comment;
+    earlier = onward_now.earlier;
+    reads = onward_now.reads;
+  }
+
+  pub stood_recovering : IsRecovering stood
+  stood_recovering = record { is_part = let part = is.is_part in record { fits = part.fits; utf8 = part.utf8; boundary = part.boundary; own = part.own }; lexing = is.lexing; onward = λ goes. onward_then; waits = tt }
+
+  pub stood_next : IsNextOf (view_of old) (Some (Ok lexeme)) (view_of stood)
+  stood_next =
+      let placed = waiting.3 in
+      record {
+        item = subst (λ (l : List LexerItem). AnswersNext old.code_map (slice_get l 0) (Some (Ok lexeme))) (sym left_now) refl;
+        within = placed.0;
+        between = (placed.1, placed.2);
+        after = views old.text.now old.text.now old.code_map _ _ old.fault_count (old.fault_count + 0) old.state.has_ended (old.state.has_ended || false) _ _ refl (left_then ∙ sym (ap (λ (l : List LexerItem). drop 1 l) left_now)) (omega arith) (sym (or_false old.state.has_ended)) refl;
+        reads = λ now. reads_now old is.is_part (course_of onward_now.origin (part_of old)) old.state onward_now.lexing goes_still (begin_of onward_now.origin) old.fault_count onward_now.rest.inside onward_now.reads;
+      }

@@ -6,7 +6,7 @@ ghost use Rattle.std.specs.Str.{bytes_eq};
 ghost use Rattle.starlark_grammar.specs.KeptLines as spec;
 ghost use Rattle.starlark_grammar.specs.Margins.{begins_with_line_end};
 ghost use Rattle.starlark_grammar.specs.Tokens.{Fault, Spanned};
-ghost use Rattle.starlark_recovery.specs.Inner.Passed.{error_keeps_line};
+ghost use Rattle.starlark_recovery.specs.Inner.Passed.{error_keeps_line, is_unfinished_error};
 ghost use Rattle.starlark_recovery.specs.Restarts.{IsPlaceOf};
 
 use starlark_token::lexeme_error::LexemeError;
@@ -44,6 +44,13 @@ pub(crate) fn keeps_line(
         }
         _ => false,
     }
+}
+
+/// Whether a fault is an unfinished literal.
+pub(crate) fn is_unfinished(fault: &LexemeError) -> bool
+    ensures { result ≡ is_unfinished_error fault.now }
+{
+    matches!(fault, LexemeError::UnfinishedStringLiteral)
 }
 
 /// Number of tabs at the start of a text. The caller has to count the reads.

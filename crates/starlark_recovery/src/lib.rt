@@ -7,3 +7,4 @@ mod passed_faults;
 pub mod recovering_lexer;
 mod recovery_state;
 pub mod restarts;
+mod stand_ins;

@@ -1,7 +1,7 @@
 //! Literals with a bad escape: where they end, if from there on each backslash only takes the byte
 //! after it.
 
-ghost use Rattle.std.specs.Prelude.{◌≡◌, ◌≤◌, ◌+◌, ◌==◌, ◌&&◌, codes, false, length, not, true};
+ghost use Rattle.std.specs.Prelude.{ℕ, ◌≡◌, ◌≤◌, ◌+◌, ◌==◌, ◌&&◌, codes, false, length, not, true};
 ghost use Rattle.std.specs.Str.{bytes_eq};
 ghost use Rattle.starlark_grammar.specs.Inner.Openings.{opening_view};
 ghost use Rattle.starlark_grammar.specs.Items.{closing_quotes, quote_byte};
@@ -42,7 +42,7 @@ pub(crate) fn is_bad_escape(fault: &LexemeError) -> bool
 }
 
 /// The quotes that close a literal.
-fn closing_quotes(opening: Opening) -> &'static [u8]
+pub(crate) fn closing_quotes(opening: Opening) -> &'static [u8]
     ensures { result.now ≡ closing_quotes (opening_view opening) }
 {
     match (opening.quote, opening.is_triple) {
@@ -120,16 +120,23 @@ fn rest_of(opening: Opening, bytes: &[u8]) -> LiteralRest
     }
 }
 
-/// What is left of the literal that begins at byte `at` of a text, from its bad escape at byte `begin`
-/// on. The caller has to count the reads: of its opening, and at most two for each byte that is left.
-pub(crate) fn literal_rest(text: &str, at: usize, begin: usize) -> LiteralRest
+/// The opening of the literal that begins at byte `at` of a text, and has a bad escape at byte `begin`.
+/// The caller has to count the reads: at most `OPENING_LEN`.
+pub(crate) fn literal_opening(text: &str, at: usize, begin: usize) -> Opening
     requires order { at ≤ begin }
     requires within { begin ≤ length text.now }
-    ensures value { rest_view result ≡ spec.literal_rest at text.now begin }
+    ensures { opening_view result ≡ spec.literal_opening at text.now begin }
+{
+    let front = &text.as_bytes()[at..begin];
+    raw_opening(&front[..front.len().min(OPENING_LEN)])
+}
+
+/// What is left of a literal from its bad escape at byte `begin` of a text on, by its opening. The
+/// caller has to count the reads: at most two for each byte that is left.
+pub(crate) fn literal_rest(text: &str, opening: Opening, begin: usize) -> LiteralRest
+    requires { begin ≤ length text.now }
+    ensures value { (at : ℕ) → opening_view opening ≡ spec.literal_opening at text.now begin → rest_view result ≡ spec.literal_rest at text.now begin }
     ensures within { begin + result.len ≤ length text.now }
 {
-    let bytes = text.as_bytes();
-    let front = &bytes[at..begin];
-    let opening = raw_opening(&front[..front.len().min(OPENING_LEN)]);
-    rest_of(opening, &bytes[begin..])
+    rest_of(opening, &text.as_bytes()[begin..])
 }

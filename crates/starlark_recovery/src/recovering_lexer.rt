@@ -18,10 +18,17 @@ use std::marker::Model;
 /// It yields what `Lexer` yields up to the first fault. A reserved word, an integer with a leading 0,
 /// a character that begins no token, and a tab in code keep their lines: it goes on after them, with
 /// all brackets, f-strings and blocks open. So it does after a literal with a bad escape, if that is
-/// closed. After any other fault it begins again at the next line, with the blocks alone open. Only
-/// out of memory ends it before the end of the text. In a contract it is its text, its code map, the
-/// items that are left, how many faults it has yielded, whether out of memory has ended it, and how
-/// often it has read bytes.
+/// closed, and at the line end of an open quote, a literal outside of f-strings that ends with its
+/// line, whose brackets count. After any other fault it begins again at the next line, with the blocks
+/// alone open.
+///
+/// Right after a fault a lexeme stands for it, so that a parser can go on: an `Identifier` for a
+/// reserved word, an `Int` in decimal for an integer with a leading 0, and for such a literal a
+/// `String` or `Bytes` with its body as it is written. Other faults have none.
+///
+/// Only out of memory ends the lexer before the end of the text. In a contract it is its text, its
+/// code map, the items that are left, how many faults it has yielded, whether out of memory has ended
+/// it, and how often it has read bytes.
 #[derive(Drop)]
 pub struct RecoveringLexer<'a> {
     state: RecoveryState<'a>,

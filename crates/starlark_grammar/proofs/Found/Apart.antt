@@ -1,19 +1,21 @@
--- No lexeme that is found lies in the span of a fault, but for comments.
-use Rattle.std.proofs.Common.{◌≡◌, ℕ, zero, suc, ◌+◌, ◌≤◌, List, [], ◌∷◌, ◌++◌, map, length, drop, refl, ap, sym, subst, ◌∙◌, arith, Option, None, Some}
+-- No lexeme that is found has a part of a fault's bytes, but for comments.
+use Rattle.std.proofs.Common.{◌≡◌, ℕ, zero, suc, ◌+◌, ◌≤◌, List, [], ◌∷◌, ◌++◌, map, length, drop, refl, ap, sym, subst, ◌∙◌, arith, inl, inr, Option, None, Some}
 use Rattle.std.specs.List.{AllByRecursion}
 use Rattle.starlark_grammar.specs.Found.{Given, Item, Refused, faults_in, found, found_after, found_by, found_within, given, lexemes_in, moved_item, passed}
-use Rattle.starlark_grammar.specs.FoundLaws.{AreApart, EndsBefore, FoundApart}
+use Rattle.starlark_grammar.specs.FoundLaws.{AreApart, BeginsAfter, EndsBefore, FoundApart}
 use Rattle.starlark_grammar.specs.Margins.{margin_of}
 use Rattle.starlark_grammar.specs.Pieces.{Before, Gap, Layout, Nothing, Other, Piece}
 use Rattle.starlark_grammar.specs.Reading.{History, lexemes_along, lexemes_before, nothing, outcome_after, pieces_len}
+use Rattle.starlark_grammar.specs.RecoveryLaws.{AreInOrder}
 use Rattle.starlark_grammar.specs.Tokens.{Fault, Lexeme, Outcome, Spanned, moved}
 use Rattle.starlark_grammar.specs.Words.{Text}
 use Rattle.starlark_grammar.proofs.Found.FoundItems.{passed_bounds}
-use Rattle.starlark_grammar.proofs.Found.Order.{ends_before_rest, faults_append, faults_moved, lexemes_moved, none_faults}
+use Rattle.starlark_grammar.proofs.Found.Order.{ends_before_rest, faults_append, faults_moved, followed, lexemes_append, lexemes_moved, none_faults}
 use Rattle.starlark_grammar.proofs.MarginComments.{margin_holds}
 use Rattle.starlark_grammar.proofs.Order.OrderedLexemes.{some_lexemes_before}
 use Rattle.starlark_grammar.proofs.Reading.Onward.{StopsAt, stops_at}
 use Rattle.starlark_grammar.proofs.Recovery.EarlierLexemes.{EndBy, along_ends}
+use Rattle.starlark_grammar.proofs.Recovery.Order.{order_reach}
 
 -- Lexemes before a fault
 
@@ -54,25 +56,29 @@ ends_moved : (n : ℕ) (lexeme : Lexeme) (faults : List (Spanned Fault)) → All
 ends_moved n lexeme [] ends = tt
 ends_moved n lexeme (fault ∷ faults) ends = ((λ plain. let first = ends.0 plain in omega (arith, first)), ends_moved n lexeme faults ends.1)
 
-begins_moved : (n end : ℕ) (lexemes : List Lexeme) → AllByRecursion (λ (lexeme : Lexeme). end ≤ lexeme.begin) lexemes → AllByRecursion (λ (lexeme : Lexeme). n + end ≤ lexeme.begin) (map (moved n) lexemes)
-begins_moved n end [] begins = tt
-begins_moved n end (lexeme ∷ lexemes) begins = let first = begins.0 in (omega (arith, first), begins_moved n end lexemes begins.1)
+begins_moved : (n : ℕ) (fault : Spanned Fault) (lexemes : List Lexeme) → AllByRecursion (BeginsAfter fault) lexemes → AllByRecursion (BeginsAfter (moved n fault)) (map (moved n) lexemes)
+begins_moved n fault [] begins = tt
+begins_moved n fault (lexeme ∷ lexemes) begins = (by begins.0, begins_moved n fault lexemes begins.1)
+  where
+    by : BeginsAfter fault lexeme → BeginsAfter (moved n fault) (moved n lexeme)
+    by (inl later) = inl (omega (arith, later))
+    by (inr stands) = inr (omega (arith, stands.0), omega (arith, stands.1))
 
 apart_moved : (n : ℕ) (items : List Item) → AreApart items → AreApart (map (moved_item n) items)
 apart_moved n [] apart = tt
 apart_moved n (Given lexeme ∷ items) apart =
     (subst (AllByRecursion (EndsBefore (moved n lexeme))) (sym (faults_moved n items)) (ends_moved n lexeme (faults_in items) apart.0), apart_moved n items apart.1)
 apart_moved n (Refused fault ∷ items) apart =
-    (subst (AllByRecursion (λ (lexeme : Lexeme). n + fault.end ≤ lexeme.begin)) (sym (lexemes_moved n items)) (begins_moved n fault.end (lexemes_in items) apart.0), apart_moved n items apart.1)
+    (subst (AllByRecursion (BeginsAfter (moved n fault))) (sym (lexemes_moved n items)) (begins_moved n fault (lexemes_in items) apart.0), apart_moved n items apart.1)
 
 -- all faults of later items are after an offset, and so are all lexemes
 faults_past : (n : ℕ) (lexeme : Lexeme) (faults : List (Spanned Fault)) → lexeme.end ≤ n → AllByRecursion (EndsBefore lexeme) (map (moved n) faults)
 faults_past n lexeme [] ends = tt
 faults_past n lexeme (fault ∷ faults) ends = ((λ plain. omega (arith, ends)), faults_past n lexeme faults ends)
 
-lexemes_past : (n end : ℕ) (lexemes : List Lexeme) → end ≤ n → AllByRecursion (λ (lexeme : Lexeme). end ≤ lexeme.begin) (map (moved n) lexemes)
-lexemes_past n end [] less = tt
-lexemes_past n end (lexeme ∷ lexemes) less = (omega (arith, less), lexemes_past n end lexemes less)
+lexemes_past : (n : ℕ) (fault : Spanned Fault) (lexemes : List Lexeme) → fault.end ≤ n → AllByRecursion (BeginsAfter fault) (map (moved n) lexemes)
+lexemes_past n fault [] less = tt
+lexemes_past n fault (lexeme ∷ lexemes) less = (inl (omega (arith, less)), lexemes_past n fault lexemes less)
 
 -- What is found
 
@@ -80,15 +86,34 @@ apart_alone : (lexemes : List Lexeme) → AreApart (given lexemes)
 apart_alone [] = tt
 apart_alone (lexeme ∷ lexemes) = (subst (AllByRecursion (EndsBefore lexeme)) (sym (none_faults lexemes)) tt, apart_alone lexemes)
 
--- lexemes, a fault after them, and what is found from an offset on
-apart_joined : (fault : Spanned Fault) (at : ℕ) (items : List Item) (lexemes : List Lexeme) → fault.end ≤ at → AreApart items → AllBefore fault lexemes → EndBy at lexemes → AreApart (given lexemes ++ (Refused fault ∷ map (moved_item at) items))
-apart_joined fault at items [] less apart before ends =
-    (subst (AllByRecursion (λ (lexeme : Lexeme). fault.end ≤ lexeme.begin)) (sym (lexemes_moved at items)) (lexemes_past at fault.end (lexemes_in items) less), apart_moved at items apart)
-apart_joined fault at items (lexeme ∷ lexemes) less apart before ends = (
-  subst (AllByRecursion (EndsBefore lexeme)) (sym (faults_append lexemes (Refused fault ∷ map (moved_item at) items) ∙ ap (λ fs. fault ∷ fs) (faults_moved at items)))
-      (before.0, faults_past at lexeme (faults_in items) ends.0),
-  apart_joined fault at items lexemes less apart before.1 ends.1,
+-- lexemes, and what is found from an offset on that they end before
+apart_after : (at : ℕ) (items : List Item) (lexemes : List Lexeme) → AreApart items → EndBy at lexemes → AreApart (given lexemes ++ map (moved_item at) items)
+apart_after at items [] apart ends = apart_moved at items apart
+apart_after at items (lexeme ∷ lexemes) apart ends =
+    (subst (AllByRecursion (EndsBefore lexeme)) (sym (faults_append lexemes (map (moved_item at) items) ∙ faults_moved at items)) (faults_past at lexeme (faults_in items) ends.0), apart_after at items lexemes apart ends.1)
+
+all_append : (P : Lexeme → Type 0) (one other : List Lexeme) → AllByRecursion P one → AllByRecursion P other → AllByRecursion P (one ++ other)
+all_append P [] other all more = more
+all_append P (lexeme ∷ one) other all more = (all.0, all_append P one other all.1 more)
+
+-- lexemes, a fault after them, what stands for it, and what is found from an offset on
+apart_joined : (fault : Spanned Fault) (at : ℕ) (items : List Item) (stands lexemes : List Lexeme) → fault.end ≤ at → AreApart items → AllByRecursion (BeginsAfter fault) stands → EndBy at stands → AllBefore fault lexemes → EndBy at lexemes
+    → AreApart (given lexemes ++ (Refused fault ∷ (given stands ++ map (moved_item at) items)))
+apart_joined fault at items stands [] less apart cover reach before ends = (
+  subst (AllByRecursion (BeginsAfter fault)) (sym (lexemes_append stands (map (moved_item at) items) ∙ ap (λ ls. stands ++ ls) (lexemes_moved at items)))
+      (all_append (BeginsAfter fault) stands (map (moved at) (lexemes_in items)) cover (lexemes_past at fault (lexemes_in items) less)),
+  apart_after at items stands apart reach,
 )
+apart_joined fault at items stands (lexeme ∷ lexemes) less apart cover reach before ends = (
+  subst (AllByRecursion (EndsBefore lexeme)) (sym (faults_append lexemes (Refused fault ∷ (given stands ++ map (moved_item at) items)) ∙ ap (λ fs. fault ∷ fs) (faults_append stands (map (moved_item at) items) ∙ faults_moved at items)))
+      (before.0, faults_past at lexeme (faults_in items) ends.0),
+  apart_joined fault at items stands lexemes less apart cover reach before.1 ends.1,
+)
+
+-- those in order end before the last offset
+in_order_end : (from : ℕ) (lexemes : List Lexeme) (to : ℕ) → AreInOrder from lexemes to → EndBy to lexemes
+in_order_end from [] to order = tt
+in_order_end from (lexeme ∷ lexemes) to order = (order_reach lexeme.end lexemes to order.2, in_order_end lexeme.end lexemes to order.2)
 
 apart_within : (n : ℕ) (history : History) (text : Text) → AreApart (found_within n history text)
 unfolding found_within
@@ -99,8 +124,9 @@ apart_within (suc n) history text = by (outcome_after history text).fault refl (
     by None e again = apart_alone (outcome_after history text).lexemes
     by (Some fault) e again =
         let past = passed history text fault in
-        apart_joined fault past.len (found_within n past.history (drop past.len text)) (outcome_after history text).lexemes (passed_bounds history text fault e).0
-        (again past.history (drop past.len text)) (before_fault history text fault e) (ends_before_rest history text fault e)
+        let place = followed history text fault e in
+        apart_joined fault past.len (found_within n past.history (drop past.len text)) past.stand_ins (outcome_after history text).lexemes (passed_bounds history text fault e).0
+        (again past.history (drop past.len text)) place.cover (in_order_end place.from past.stand_ins past.len place.order) (before_fault history text fault e) (ends_before_rest history text fault e)
 
 pub found_apart : FoundApart
 unfolding found found_after

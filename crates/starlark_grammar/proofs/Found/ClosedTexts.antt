@@ -69,7 +69,7 @@ closed_alike one _ _ alike line (Past other text fault has is rest) =
     let next = passed_alike one other text fault alike in
     Past one text fault (ap (λ (o : Outcome). o.fault) (alike_outcome one other text alike) ∙ has) (ap (is_decided text) (whole_alike one other text fault alike) ∙ is)
     (subst (λ n. IsClosedAfter (passed one text fault).history (drop n text)) (sym next.0)
-    (closed_alike (passed one text fault).history (passed other text fault).history (drop (passed other text fault).len text) next.1 (passed_line one text fault) rest))
+    (closed_alike (passed one text fault).history (passed other text fault).history (drop (passed other text fault).len text) next.2 (passed_line one text fault) rest))
 
 line_closed : (history : History) (first : Text) → BeforeLine history first → (start : History) (second : Text) → start ≡ nothing → IsClosedAfter start second → begins_plainly second ≡ true → IsClosedAfter history (first ++ second)
 line_closed history first line _ _ e (Empty widths) plain = let some = plain_some [] plain in absurd (omega (arith, some))
@@ -83,7 +83,7 @@ line_closed history first line _ _ e (Past start second fault has is rest) plain
     ap (λ n. drop n (first ++ second)) next.0 ∙ drop-append-add first second (passed nothing second fault).len in
     Past history (first ++ second) (moved (length first) fault) (fault_is history first second line plain (Some fault) found) (ap (is_decided (first ++ second)) (whole_joined history first second line plain fault) ∙ decided_moved first second plain (with_literal nothing second fault) ∙ decides)
     (subst (IsClosedAfter (passed history (first ++ second) (moved (length first) fault)).history) (sym place)
-    (closed_alike (passed history (first ++ second) (moved (length first) fault)).history (passed nothing second fault).history (drop (passed nothing second fault).len second) next.1 (passed_line history (first ++ second) (moved (length first) fault))
+    (closed_alike (passed history (first ++ second) (moved (length first) fault)).history (passed nothing second fault).history (drop (passed nothing second fault).len second) next.2 (passed_line history (first ++ second) (moved (length first) fault))
     (subst (λ (h : History). IsClosedAfter (passed h second fault).history (drop (passed h second fault).len second)) e rest)))
 
 closed_append : (second : Text) → begins_plainly second ≡ true → IsClosed second → (history : History) (first : Text) → IsClosedAfter history first → IsClosedAfter history (first ++ second)

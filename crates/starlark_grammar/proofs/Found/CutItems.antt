@@ -6,13 +6,13 @@ use Rattle.std.proofs.lemmas.Bool.{both_ways}
 use Rattle.std.proofs.lemmas.List.{append-nil, map-append}
 use Rattle.starlark_grammar.specs.Cuts.{is_newline}
 use Rattle.starlark_grammar.specs.ClosedTexts.{IsClosedAfter}
-use Rattle.starlark_grammar.specs.Found.{Given, Item, Refused, found, found_after, found_by, found_within, given, moved_item, passed}
+use Rattle.starlark_grammar.specs.Found.{Given, Item, Refused, found, found_after, found_by, found_from, found_within, given, moved_item, passed}
 use Rattle.starlark_grammar.specs.FoundLaws.{NewlinesCutFound, begin_undented}
 use Rattle.starlark_grammar.specs.Joining.{begins_plainly, begins_undented, has_newline, is_dedent, without_last_newline}
 use Rattle.starlark_grammar.specs.Reading.{History, nothing, outcome_after}
 use Rattle.starlark_grammar.specs.Tokens.{Fault, Lexeme, Spanned, moved}
 use Rattle.starlark_grammar.specs.Words.{Text}
-use Rattle.starlark_grammar.proofs.Found.Cuts.{Inside, Later, LineAt, RestLine, after_fault, closes_within, front_found, line_at, none_later, rest_line}
+use Rattle.starlark_grammar.proofs.Found.Cuts.{Inside, Later, LineAt, RestLine, after_fault, closes_within, front_found, line_at, none_later, none_stands, rest_line}
 use Rattle.starlark_grammar.proofs.Found.FoundItems.{faultless_found}
 use Rattle.starlark_grammar.proofs.Found.JoinedTexts.{given_moved}
 use Rattle.starlark_grammar.proofs.Lists.{drop-sum}
@@ -151,6 +151,9 @@ module _ (n : ℕ) (history : History) (text : Text) (front : List Item) (line :
     abbrev at : ℕ
     at = (passed history text fault).len
 
+    abbrev stands : List Lexeme
+    stands = (passed history text fault).stand_ins
+
     abbrev past : History
     past = (passed history text fault).history
 
@@ -158,7 +161,7 @@ module _ (n : ℕ) (history : History) (text : Text) (front : List Item) (line :
     rest = drop at text
 
     -- after a fault
-    later_line : (later : List Item) → given (outcome_after history text).lexemes ++ (Refused fault ∷ later) ≡ front → RestLine n history text fault later line (given dedents ++ more) → FoundTo history text front line dedents
+    later_line : (later : List Item) → given (outcome_after history text).lexemes ++ (Refused fault ∷ (given stands ++ later)) ≡ front → RestLine n history text fault later line (given dedents ++ more) → FoundTo history text front line dedents
     later_line later front_is here =
         let own = here.own in
         let parts = moved_dedents at own.rest dedents more own.rest_is in
@@ -192,22 +195,26 @@ module _ (n : ℕ) (history : History) (text : Text) (front : List Item) (line :
             ∙ ap (λ (l : Lexeme). later ++ (Given l ∷ map (moved_item at) (given closing))) line_is
             ∙ ap (λ (l : List Item). later ++ (Given line ∷ l)) (sym (given_moved at closing)) in
             ap (λ m. found_after history (take m text)) (sym last) ∙ front_found history text fault has end some inside closed
-            ∙ ap (λ (l : List Item). left ++ (Refused fault ∷ l)) items
-            ∙ sym (append_assoc left (Refused fault ∷ later) (Given line ∷ given (map (moved at) closing)))
+            ∙ ap (λ (l : List Item). left ++ (Refused fault ∷ (given stands ++ l))) items
+            ∙ ap (λ (l : List Item). left ++ (Refused fault ∷ l)) (sym (append_assoc (given stands) later (Given line ∷ given (map (moved at) closing))))
+            ∙ sym (append_assoc left (Refused fault ∷ (given stands ++ later)) (Given line ∷ given (map (moved at) closing)))
             ∙ ap (λ (l : List Item). l ++ (Given line ∷ given (map (moved at) closing))) front_is
 
-    found_line : LineAt (outcome_after history text).lexemes (Refused fault ∷ map (moved_item at) (found_within n past rest)) front line (given dedents ++ more) → FoundTo history text front line dedents
-    found_line here = own_line (Refused fault ∷ map (moved_item at) (found_within n past rest)) tt here later
+    abbrev after : List Item
+    after = map (moved_item at) (found_within n past rest)
+
+    found_line : LineAt (outcome_after history text).lexemes (Refused fault ∷ (given stands ++ after)) front line (given dedents ++ more) → FoundTo history text front line dedents
+    found_line here = own_line (Refused fault ∷ (given stands ++ after)) tt here later
       where
-        later : (items : List Item) → given (outcome_after history text).lexemes ++ items ≡ front → Refused fault ∷ map (moved_item at) (found_within n past rest) ≡ items ++ (Given line ∷ (given dedents ++ more)) → FoundTo history text front line dedents
+        later : (items : List Item) → given (outcome_after history text).lexemes ++ items ≡ front → Refused fault ∷ (given stands ++ after) ≡ items ++ (Given line ∷ (given dedents ++ more)) → FoundTo history text front line dedents
         later items front_is is_items =
-            let inner = after_fault fault (map (moved_item at) (found_within n past rest)) items line (given dedents ++ more) is_items in
+            let inner = after_fault fault stands after items line (given dedents ++ more) (none_stands history text fault) is is_items in
             let items_are = inner.1 in
             later_line inner.0 (ap (λ (l : List Item). given (outcome_after history text).lexemes ++ l) items_are ∙ front_is) (rest_line n history text fault inner.0 line (given dedents ++ more) has inner.2 is some)
 
   by_fault : CutsWithin n → (has : Option (Spanned Fault)) → (outcome_after history text).fault ≡ has → found_by history text has (found_within n) ≡ front ++ (Given line ∷ (given dedents ++ more)) → FoundTo history text front line dedents
   by_fault again None none e = alone e
-  by_fault again (Some fault) has e = found_line again fault has (line_at (outcome_after history text).lexemes (Refused fault ∷ map (moved_item (passed history text fault).len) (found_within n (passed history text fault).history (drop (passed history text fault).len text))) front line (given dedents ++ more) e)
+  by_fault again (Some fault) has e = found_line again fault has (line_at (outcome_after history text).lexemes (found_from text fault (passed history text fault) (found_within n)) front line (given dedents ++ more) e)
 
 cuts_within : (n : ℕ) → CutsWithin n
 unfolding found_within

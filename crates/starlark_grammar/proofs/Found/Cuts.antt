@@ -1,28 +1,30 @@
 -- Newlines that close a text.
 use Rattle.std.proofs.Common.{◌≡◌, ℕ, zero, suc, ◌+◌, ◌≤◌, ◌<◌, ◌⊎◌, inl, inr, Bool, true, false, List, [], ◌∷◌, ◌++◌, map, length, take, drop, refl, ap, sym, subst, ◌∙◌, arith, Option, None, Some}
 use Rattle.std.specs.List.{ends_with, list_all}
-use Rattle.std.specs.Prelude.{◌&&◌, codes, nat_eq, not}
-use Rattle.std.proofs.lemmas.Bool.{lt-ltb}
+use Rattle.std.specs.Prelude.{◌&&◌, ◌||◌, codes, nat_eq, not}
+use Rattle.std.proofs.lemmas.Bool.{both_ways, lt-ltb}
 use Rattle.std.proofs.lemmas.List.{drop-take, length-drop, length-take-le, take-append-drop, take_all, append-nil}
 use Rattle.starlark_grammar.specs.Cuts.{is_newline}
 use Rattle.starlark_grammar.specs.ClosedTexts.{Cut, IsClosedAfter, Past}
-use Rattle.starlark_grammar.specs.Found.{Given, Item, Passed, Refused, found, found_after, found_by, found_within, given, lexemes_in, moved_item, passed}
+use Rattle.starlark_grammar.specs.Found.{Given, Item, Passed, Refused, found, found_after, found_by, found_from, found_within, given, lexemes_in, moved_item, passed}
 use Rattle.starlark_grammar.specs.FoundLaws.{LastNewlinesClose, NewlinesClose}
-use Rattle.starlark_grammar.specs.Joining.{begins_plainly, begins_undented, is_decided, is_dedent}
+use Rattle.starlark_grammar.specs.Joining.{begins_plainly, begins_undented, has_newline, is_decided, is_dedent}
 use Rattle.starlark_grammar.specs.KeptLines.{with_literal, with_literal_at}
 use Rattle.starlark_grammar.specs.Reading.{History, nothing, outcome_after, read_len}
 use Rattle.starlark_grammar.specs.RecoveryLaws.{AreInOrder}
 use Rattle.starlark_grammar.specs.Tokens.{Fault, Lexeme, Outcome, Spanned, moved}
 use Rattle.starlark_grammar.specs.Words.{Text}
 use Rattle.starlark_grammar.proofs.Found.ClosedTexts.{closed_ends}
-use Rattle.starlark_grammar.proofs.Found.FoundItems.{found_after_faults, passed_bounds, whole_bounds}
+use Rattle.starlark_grammar.proofs.Found.FoundItems.{by_keeps, found_after_faults, passed_bounds, passed_kept, passed_lost, whole_bounds}
 use Rattle.starlark_grammar.proofs.Found.Order.{good_within}
 use Rattle.starlark_grammar.proofs.Found.PassedFaults.{passed_stays}
 use Rattle.starlark_grammar.proofs.Joining.Laws.{ends_after}
 use Rattle.starlark_grammar.proofs.KeptLines.LiteralRests.{whole_stays}
+use Rattle.starlark_grammar.proofs.KeptLines.StandIns.{no_newline}
 use Rattle.starlark_grammar.proofs.Lists.{drop-sum}
 use Rattle.starlark_grammar.proofs.Reading.Onward.{StopsAt, stops_at}
 use Rattle.starlark_grammar.proofs.Recovery.DecidedFaults.{decided, read_stays}
+use Rattle.starlark_grammar.proofs.Recovery.LineCuts.{has_newline_later}
 use Rattle.starlark_grammar.proofs.Recovery.NewlineCuts.{last_newline_cuts_after, newlines_cut_after}
 use Rattle.starlark_grammar.proofs.Recovery.Order.{order_reach}
 use Rattle.starlark_grammar.proofs.Recovery.ShortenedFaults.{fault_shortened}
@@ -98,12 +100,12 @@ module _ (history : History) (text : Text) (fault : Spanned Fault) (has : (outco
       Past history so_far fault front_has front_decided
       (subst (λ (p : Passed). IsClosedAfter p.history (drop p.len so_far)) (sym front_passed) (subst (IsClosedAfter (passed history text fault).history) (sym rest_is) closed))
 
-  pub front_found : found_after history so_far ≡ given (outcome_after history text).lexemes ++ (Refused fault ∷ map (moved_item at) (found_after (passed history text fault).history (take n (drop at text))))
+  pub front_found : found_after history so_far ≡ given (outcome_after history text).lexemes ++ (Refused fault ∷ (given (passed history text fault).stand_ins ++ map (moved_item at) (found_after (passed history text fault).history (take n (drop at text)))))
   front_found =
       found_after_faults history so_far fault front_has
-      ∙ ap (λ (o : Outcome). given o.lexemes ++ (Refused fault ∷ map (moved_item (passed history so_far fault).len) (found_after (passed history so_far fault).history (drop (passed history so_far fault).len so_far)))) front_outcome
-      ∙ ap (λ (p : Passed). given (outcome_after history text).lexemes ++ (Refused fault ∷ map (moved_item p.len) (found_after p.history (drop p.len so_far)))) front_passed
-      ∙ ap (λ (t : Text). given (outcome_after history text).lexemes ++ (Refused fault ∷ map (moved_item at) (found_after (passed history text fault).history t))) rest_is
+      ∙ ap (λ (o : Outcome). given o.lexemes ++ found_from so_far fault (passed history so_far fault) found_after) front_outcome
+      ∙ ap (λ (p : Passed). given (outcome_after history text).lexemes ++ found_from so_far fault p found_after) front_passed
+      ∙ ap (λ (t : Text). given (outcome_after history text).lexemes ++ (Refused fault ∷ (given (passed history text fault).stand_ins ++ map (moved_item at) (found_after (passed history text fault).history t)))) rest_is
 
 -- Where the newline is
 
@@ -133,12 +135,31 @@ pub none_later : (later : List Item) (line : Lexeme) (more : List Item) → [] �
 none_later [] line more e = cc
 none_later (item ∷ later) line more e = cc
 
-pub after_fault : (fault : Spanned Fault) (others later : List Item) (line : Lexeme) (more : List Item) → Refused fault ∷ others ≡ later ++ (Given line ∷ more) → (past : List Item) × (Refused fault ∷ past ≡ later) × (others ≡ past ++ (Given line ∷ more))
-after_fault fault others [] line more e = cc
-after_fault fault others (item ∷ later) line more e =
-    let same : Refused fault ≡ item = cc in
-    let rest : others ≡ later ++ (Given line ∷ more) = cc in
-    (later, ap (λ i. i ∷ later) same, rest)
+-- a newline among lexemes
+newline_in : (before : List Lexeme) (line : Lexeme) (rest : List Lexeme) → is_newline line.node ≡ true → has_newline (before ++ (line ∷ rest)) ≡ true
+newline_in before line rest is = has_newline_later before (line ∷ rest) (ap (λ (b : Bool). b || has_newline rest) is)
+
+-- after a fault and lexemes without a newline
+pub after_fault : (fault : Spanned Fault) (stands : List Lexeme) (others later : List Item) (line : Lexeme) (more : List Item) → has_newline stands ≡ false → is_newline line.node ≡ true → Refused fault ∷ (given stands ++ others) ≡ later ++ (Given line ∷ more)
+    → (past : List Item) × (Refused fault ∷ (given stands ++ past) ≡ later) × (others ≡ past ++ (Given line ∷ more))
+after_fault fault stands others [] line more none is e = cc
+after_fault fault stands others (item ∷ later) line more none is e = by (line_at stands others later line more rest)
+  where
+    same : Refused fault ≡ item
+    same = cc
+
+    rest : given stands ++ others ≡ later ++ (Given line ∷ more)
+    rest = cc
+
+    by : LineAt stands others later line more → (past : List Item) × (Refused fault ∷ (given stands ++ past) ≡ item ∷ later) × (others ≡ past ++ (Given line ∷ more))
+    by (Inside before after whole front_is more_is) = absurd (both_ways _ none (ap has_newline whole ∙ newline_in before line after is))
+    by (Later past front_is items) = (past, rw (same, front_is) refl, items)
+
+-- no newline stands for a fault
+pub none_stands : (history : History) (text : Text) (fault : Spanned Fault) → has_newline (passed history text fault).stand_ins ≡ false
+none_stands history text fault = by_keeps history text fault
+    (λ is. ap (λ (p : Passed). has_newline p.stand_ins) (passed_kept history text fault is) ∙ no_newline (read_len history text) text fault)
+    (λ is. ap (λ (p : Passed). has_newline p.stand_ins) (passed_lost history text fault is))
 
 -- a lexeme among those that are in order
 pub in_order : (from : ℕ) (later : List Item) (line : Lexeme) (more : List Item) (to : ℕ) → AreInOrder from (lexemes_in (later ++ (Given line ∷ more))) to → (from ≤ line.begin) × (line.begin ≤ line.end) × (line.end ≤ to)
@@ -284,12 +305,12 @@ closes_within (suc n) history text front line more e is some ends = by (outcome_
         subst (λ m. IsClosedAfter history (take m text)) last (front_closed history text fault has own.own.end (omega (arith, less)) rest.inside left)
 
     after : (fault : Spanned Fault) → List Item
-    after fault = map (moved_item (passed history text fault).len) (found_within n (passed history text fault).history (drop (passed history text fault).len text))
+    after fault = given (passed history text fault).stand_ins ++ map (moved_item (passed history text fault).len) (found_within n (passed history text fault).history (drop (passed history text fault).len text))
 
     found_line : (fault : Spanned Fault) → (outcome_after history text).fault ≡ Some fault → ClosesWithin n → LineAt lexemes (Refused fault ∷ after fault) front line more → IsClosedAfter history (take line.end text)
     found_line fault has again (Inside before rest whole front_is more_is) = own_line history text before line rest whole is some ends
     found_line fault has again (Later later front_is items) =
-        let past = after_fault fault (after fault) later line more items in
+        let past = after_fault fault (passed history text fault).stand_ins (map (moved_item (passed history text fault).len) (found_within n (passed history text fault).history (drop (passed history text fault).len text))) later line more (none_stands history text fault) is items in
         later_line fault has again past.0 (rest_line n history text fault past.0 line more has past.2 is some)
 
     by : (has : Option (Spanned Fault)) → (outcome_after history text).fault ≡ has → ClosesWithin n → found_by history text has (found_within n) ≡ front ++ (Given line ∷ more) → IsClosedAfter history (take line.end text)

@@ -6,12 +6,13 @@ use Rattle.starlark_grammar.specs.AfterFaults.{is_margin_tab, line_end_len, marg
 use Rattle.starlark_grammar.specs.Found.{Passed, at_line, Refused, found_after, found_by, found_within, given, moved_item, passed}
 use Rattle.starlark_grammar.specs.FoundLaws.{FaultlessFound, FoundAfterFaults}
 use Rattle.starlark_grammar.specs.KeptLines.{passed_end, stays_open, with_literal}
-use Rattle.starlark_grammar.specs.Pieces.{Other}
 use Rattle.starlark_grammar.specs.Reading.{History, history_after, outcome_after, read_len}
+use Rattle.starlark_grammar.specs.StandIns.{stand_ins}
 use Rattle.starlark_grammar.specs.Tokens.{Fault, Spanned}
 use Rattle.starlark_grammar.specs.Words.{Text}
 use Rattle.starlark_grammar.proofs.KeptLines.KeptFaultPlaces.{kept_end, kept_faults_have_bytes, kept_whole}
 use Rattle.starlark_grammar.proofs.KeptLines.LiteralRests.{whole_ends, whole_same}
+use Rattle.starlark_grammar.proofs.KeptLines.OpenQuotes.{past_fault}
 use Rattle.starlark_grammar.proofs.Reading.Onward.{StopsAt, stops_at}
 use Rattle.starlark_grammar.proofs.Recovery.LineCuts.{AtLine, before_faultless}
 use Rattle.starlark_grammar.proofs.Recovery.RestartBounds.{restart_bounds}
@@ -26,7 +27,7 @@ by_keeps {A} history text fault hit miss = go (stays_open history text fault) re
 
 -- what is passed with such a fault, …
 abbrev pub kept_past : History → Text → Spanned Fault → Passed
-kept_past history text fault = record { len = passed_end text (with_literal history text fault); history = record (history_after history text) { before = Other } }
+kept_past history text fault = record { len = passed_end text (with_literal history text fault); stand_ins = stand_ins history text fault; history = past_fault (history_after history text) text fault }
 
 pub passed_kept : (history : History) (text : Text) (fault : Spanned Fault) → stays_open history text fault ≡ true → passed history text fault ≡ kept_past history text fault
 unfolding passed
@@ -34,7 +35,7 @@ passed_kept history text fault is = rw is refl
 
 -- … and with any other
 abbrev pub lost_past : History → Text → Spanned Fault → Passed
-lost_past history text fault = record { len = restart text (with_literal history text fault); history = at_line (history_after history text).widths }
+lost_past history text fault = record { len = restart text (with_literal history text fault); stand_ins = []; history = at_line (history_after history text).widths }
 
 pub passed_lost : (history : History) (text : Text) (fault : Spanned Fault) → stays_open history text fault ≡ false → passed history text fault ≡ lost_past history text fault
 unfolding passed
@@ -142,7 +143,7 @@ one_more (suc n) history text enough = go (outcome_after history text).fault ref
         → found_by history text has (found_within (suc n)) ≡ found_by history text has (found_within n)
     go None e again = refl
     go (Some fault) e again =
-        ap (λ items. given (outcome_after history text).lexemes ++ (Refused fault ∷ map (moved_item (passed history text fault).len) items))
+        ap (λ items. given (outcome_after history text).lexemes ++ (Refused fault ∷ (given (passed history text fault).stand_ins ++ map (moved_item (passed history text fault).len) items)))
         (again (passed history text fault).history (drop (passed history text fault).len text) (enough_rest n history text fault e enough))
 
 -- so each number that is enough finds the same
@@ -175,6 +176,6 @@ found_after_faults history text fault has =
     let enough = enough_rest (length text) history text fault has (enough_bytes (suc (length text)) history text (omega arith)) in
     after_is history text
     ∙ ap (λ has. found_by history text has (found_within (length text))) has
-    ∙ ap (λ items. given (outcome_after history text).lexemes ++ (Refused fault ∷ map (moved_item (passed history text fault).len) items))
+    ∙ ap (λ items. given (outcome_after history text).lexemes ++ (Refused fault ∷ (given (passed history text fault).stand_ins ++ map (moved_item (passed history text fault).len) items)))
     (sym (one_more (length text) (passed history text fault).history rest enough)
     ∙ enough_find (suc (length text)) (passed history text fault).history rest (omega (arith, length-drop (passed history text fault).len text)))

@@ -1,28 +1,34 @@
 -- What is passed with a fault of a text that another follows, or that is after another.
-use Rattle.std.proofs.Common.{◌≡◌, ℕ, ◌+◌, ◌<◌, Bool, true, false, cond, not, List, [], ◌∷◌, ◌++◌, length, drop, refl, ap, ◌∙◌, sym, subst, Some, arith, ◌||◌, inl}
+use Rattle.std.proofs.Common.{◌≡◌, ℕ, ◌+◌, ◌-◌, ◌<◌, Bool, true, false, cond, not, List, [], ◌∷◌, ◌++◌, length, length-append, take, drop, refl, ap, ◌∙◌, sym, subst, Some, arith, ◌||◌, inl}
 use Rattle.std.specs.Prelude.{◌&&◌, ◌==◌, if◌then◌else◌, nat_eq, nat_lt, codes}
 use Rattle.std.specs.List.{prefix_len}
 use Rattle.std.specs.Str.{bytes_eq}
 use Rattle.std.proofs.lemmas.Bool.{and_parts, eqb-true, lt-ltb, ltb-true}
-use Rattle.std.proofs.lemmas.List.{drop-append-le}
+use Rattle.std.proofs.lemmas.Bool.Decides.{nat_tests}
+use Rattle.std.proofs.lemmas.List.{drop-append-le, length-drop, take-append-le}
 use Rattle.std.proofs.Math.Seq.{drop-append-add}
 use Rattle.starlark_grammar.specs.Inner.KeptFaults.{is_in_margin}
 use Rattle.starlark_grammar.specs.AfterFaults.{is_tab, restart}
 use Rattle.starlark_grammar.specs.Found.{Passed, at_line, passed}
 use Rattle.starlark_grammar.specs.Joining.{is_decided}
-use Rattle.starlark_grammar.specs.KeptLines.{closes_literal, ends_by_comment, is_bad_escape, keeps_line, passed_end, stays_open, with_literal, with_literal_at}
+use Rattle.starlark_grammar.specs.KeptLines.{closes_literal, ends_by_comment, is_bad_escape, is_open_quote, is_unfinished, keeps_line, passed_end, stays_open, with_literal, with_literal_at}
 use Rattle.starlark_grammar.specs.Margins.{begins_with_line_end}
-use Rattle.starlark_grammar.specs.Pieces.{Before, Other}
+use Rattle.starlark_grammar.specs.Depths.{Mode, mode_after, is_outside}
+use Rattle.starlark_grammar.specs.Pieces.{Before, Fails}
 use Rattle.starlark_grammar.specs.Reading.{History, history_after, nothing, outcome_after, read_len}
+use Rattle.starlark_grammar.specs.StandIns.{stand_ins, stand_ins_at}
 use Rattle.starlark_grammar.specs.Tokens.{EmptyEscapeSequence, Fault, Indentation, InvalidEscapeSequence, InvalidInput, InvalidTab, Lexeme, Outcome, ReservedKeyword, Spanned, StartsZero, UnfinishedFStringExpression, UnfinishedStringLiteral, moved}
 use Rattle.starlark_grammar.specs.Words.{Text}
 use Rattle.starlark_grammar.proofs.Found.FoundItems.{by_keeps, passed_kept, passed_lost}
 use Rattle.starlark_grammar.proofs.Joining.Followed.{ends_line, ends_line_drop}
 use Rattle.starlark_grammar.proofs.KeptLines.KeptFaultPlaces.{or_none, whole_untabbed}
 use Rattle.starlark_grammar.proofs.KeptLines.LiteralRests.{whole_ends, whole_other, whole_same, whole_stays}
-use Rattle.starlark_grammar.proofs.Reading.Onward.{StopsAt, stops_at}
+use Rattle.starlark_grammar.proofs.KeptLines.OpenQuotes.{past_alike, past_fault}
+use Rattle.starlark_grammar.proofs.KeptLines.StandIns.{stand_ins_stay}
+use Rattle.starlark_grammar.proofs.Reading.Onward.{StopsAt, read_by, stops_at}
 use Rattle.starlark_grammar.proofs.Reading.Steps.{is_nothing}
 use Rattle.starlark_grammar.proofs.Recovery.DecidedFaults.{InMargin, begins_stays, decided, outcome_stays, read_stays, restart_stays, restart_untabbed}
+use Rattle.starlark_grammar.proofs.Recovery.LineCuts.{Alike}
 use Rattle.starlark_grammar.proofs.Recovery.MovedRestarts.{not_zero}
 
 -- whether a fault keeps its line, by whether its tab is in a margin and whether it follows a comment
@@ -57,7 +63,8 @@ lost_margin margin comment other lost tab = cc
 
 pub lost_in_margin : (history : History) (text : Text) (fault : Spanned Fault) → stays_open history text fault ≡ false → InMargin history text fault
 lost_in_margin history text fault none = λ tab.
-    let lost = (or_none (keeps_line history.before text (outcome_after history text).lexemes fault) _ none).0 in
+    let parts = or_none (keeps_line history.before text (outcome_after history text).lexemes fault || closes_literal (read_len history text) text fault) (is_open_quote (mode_after (history_after history text).tokens) text fault) none in
+    let lost = (or_none (keeps_line history.before text (outcome_after history text).lexemes fault) (closes_literal (read_len history text) text fault) parts.0).0 in
     lost_margin (is_in_margin history.before text fault.begin) (ends_by_comment fault.begin (outcome_after history text).lexemes) fault.node
     (sym (keeps_is history.before text (outcome_after history text).lexemes fault) ∙ lost) (and_parts (is_tab fault.node) _ tab).0
 
@@ -122,11 +129,27 @@ module _ (history : History) (first second : Text) (fault : Spanned Fault) (has 
       ∙ ap (λ (o : Outcome). keeps_by (is_in_margin history.before first fault.begin) (ends_by_comment fault.begin o.lexemes) fault.node) same_outcome.0
       ∙ sym (keeps_is history.before first (outcome_after history first).lexemes fault)
 
+  quote_in : (mode : Mode) → is_open_quote mode (first ++ second) fault ≡ is_open_quote mode first fault
+  quote_in mode =
+      let less = (decided first fault own).0 in
+      rw (lt-ltb fault.end (length (first ++ second)) (omega (arith, less, length-append first second)), lt-ltb fault.end (length first) less) refl
+
+  quote_both : is_open_quote (mode_after (history_after history (first ++ second)).tokens) (first ++ second) fault ≡ is_open_quote (mode_after (history_after history first).tokens) first fault
+  quote_both = ap (λ (h : History). is_open_quote (mode_after h.tokens) (first ++ second) fault) same_outcome.1 ∙ quote_in (mode_after (history_after history first).tokens)
+
+  -- so the same tokens are before the rest
+  past_both : past_fault (history_after history (first ++ second)) (first ++ second) fault ≡ past_fault (history_after history first) first fault
+  past_both =
+      ap (λ (h : History). past_fault h (first ++ second) fault) same_outcome.1
+      ∙ rw (quote_in (mode_after (history_after history first).tokens), bytes) refl
+    where
+      bytes : take (fault.end - fault.begin) (drop fault.begin (first ++ second)) ≡ take (fault.end - fault.begin) (drop fault.begin first)
+      bytes =
+          let less = (decided first fault own).0 in
+          ap (take (fault.end - fault.begin)) left ∙ take-append-le (fault.end - fault.begin) (drop fault.begin first) second (omega (arith, less, length-drop fault.begin first))
+
   keeps_both : stays_open history (first ++ second) fault ≡ stays_open history first fault
-  keeps_both =
-      ap (λ keeps. keeps || closes_literal (read_len history (first ++ second)) (first ++ second) fault) line_both
-      ∙ ap (λ n. keeps_line history.before first (outcome_after history first).lexemes fault || closes_literal n (first ++ second) fault) same_len
-      ∙ ap (λ closes. keeps_line history.before first (outcome_after history first).lexemes fault || closes) literal_both.1
+  keeps_both = rw (line_both, same_len, literal_both.1, quote_both) refl
 
   begins_so : (with_literal history first fault).begin ≡ fault.begin
   begins_so = (whole_same (read_len history first) first fault).0
@@ -149,18 +172,26 @@ module _ (history : History) (first second : Text) (fault : Spanned Fault) (has 
           restart_untabbed first second (with_literal history first fault) (whole_untabbed (read_len history first) first fault e) (omega (arith, order, reach, begins_so)) is
       by false e = subst (λ (last : Spanned Fault). restart (first ++ second) last ≡ restart first last) (sym (whole_other (read_len history first) first fault e)) (restart_stays history first second fault (lost_in_margin history first fault it) here own)
 
+  stands_both : stand_ins history (first ++ second) fault ≡ stand_ins history first fault
+  stands_both =
+      let begin = here.begin in
+      let read = read_by history first here.pieces (Fails here.found) here.longest in
+      ap (λ n. stand_ins_at n (first ++ second) fault) same_len
+      ∙ stand_ins_stay (read_len history first) first second fault literal_both.0 (omega (arith, read, begin, begins_inside)) (omega (arith, begins_inside)) (whole_ends (read_len history first) first fault here.order here.inside).1
+
   -- the same is passed where another text follows
   pub passed_stays : passed history (first ++ second) fault ≡ passed history first fault
   passed_stays = by_keeps history first fault
       (λ it.
       passed_kept history (first ++ second) fault (keeps_both ∙ it)
-      ∙ ap (λ n. let p : Passed = record { len = n; history = record (history_after history (first ++ second)) { before = Other } } in p) end_stays
-      ∙ ap (λ (h : History). let p : Passed = record { len = passed_end first (with_literal history first fault); history = record h { before = Other } } in p) same_outcome.1
+      ∙ ap (λ n. let p : Passed = record { len = n; stand_ins = stand_ins history (first ++ second) fault; history = past_fault (history_after history (first ++ second)) (first ++ second) fault } in p) end_stays
+      ∙ ap (λ (ls : List Lexeme). let p : Passed = record { len = passed_end first (with_literal history first fault); stand_ins = ls; history = past_fault (history_after history (first ++ second)) (first ++ second) fault } in p) stands_both
+      ∙ ap (λ (h : History). let p : Passed = record { len = passed_end first (with_literal history first fault); stand_ins = stand_ins history first fault; history = h } in p) past_both
       ∙ sym (passed_kept history first fault it))
       (λ it.
       passed_lost history (first ++ second) fault (keeps_both ∙ it)
-      ∙ ap (λ n. let p : Passed = record { len = n; history = at_line (history_after history (first ++ second)).widths } in p) (lost_stays it)
-      ∙ ap (λ (h : History). let p : Passed = record { len = restart first (with_literal history first fault); history = at_line h.widths } in p) same_outcome.1
+      ∙ ap (λ n. let p : Passed = record { len = n; stand_ins = []; history = at_line (history_after history (first ++ second)).widths } in p) (lost_stays it)
+      ∙ ap (λ (h : History). let p : Passed = record { len = restart first (with_literal history first fault); stand_ins = []; history = at_line h.widths } in p) same_outcome.1
       ∙ sym (passed_lost history first fault it))
 
 -- A text that is after another
@@ -203,3 +234,23 @@ end_moved first second fault =
     by : (tab : Bool) → (if tab then length first + fault.begin + prefix_len (nat_eq 9) (drop fault.begin second) else length first + fault.end) ≡ length first + (if tab then fault.begin + prefix_len (nat_eq 9) (drop fault.begin second) else fault.end)
     by true = omega arith
     by false = refl
+
+-- whether a fault is an open quote, and its bytes
+pub quote_moved : (mode : Mode) (first second : Text) (fault : Spanned Fault) → is_open_quote mode (first ++ second) (moved (length first) fault) ≡ is_open_quote mode second fault
+quote_moved mode first second fault = ap (λ less. is_unfinished fault.node && is_outside mode && less) less
+  where
+    less_both : (n a b : ℕ) → nat_lt (n + a) (n + b) ≡ nat_lt a b
+    less_both n a b = grind (arith, nat_tests)
+
+    less : nat_lt (length first + fault.end) (length (first ++ second)) ≡ nat_lt fault.end (length second)
+    less = rw (length-append first second) (less_both (length first) fault.end (length second))
+
+pub past_moved : (one other : History) (first second : Text) (fault : Spanned Fault) → Alike one other → Alike (past_fault one (first ++ second) (moved (length first) fault)) (past_fault other second fault)
+past_moved one other first second fault alike =
+    subst (λ (h : History). Alike h (past_fault other second fault)) (sym here) (past_alike one other second fault alike)
+  where
+    len : length first + fault.end - (length first + fault.begin) ≡ fault.end - fault.begin
+    len = omega arith
+
+    here : past_fault one (first ++ second) (moved (length first) fault) ≡ past_fault one second fault
+    here = rw (quote_moved (mode_after one.tokens) first second fault, len, drop-append-add first second fault.begin) refl

@@ -11,12 +11,12 @@ use Rattle.starlark_grammar.specs.declared.class.Class.TheVariants as word
 use Rattle.starlark_grammar.specs.Words.{Text, class_in, language}
 use Rattle.starlark_grammar.specs.Front.{longest_front}
 use Rattle.starlark_grammar.specs.Tokens.{Token, Lexeme, Newline, moved}
-use Rattle.starlark_grammar.specs.Depths.{Mode, is_any_closing, is_any_opening, is_balanced, mode_after, open_fstring}
+use Rattle.starlark_grammar.specs.Depths.{Mode, is_any_closing, is_any_opening, is_balanced, mode_after, open_fstring, is_outside}
 use Rattle.starlark_grammar.specs.Margins.{margin_len, Margin, comment_lines, comments_from, is_comment_only, lines, margin_of, open_widths}
 use Rattle.starlark_grammar.specs.Pieces.{Ends, Layout, Piece, Stands, Step, counts, line_end, margin_step, step_at}
 use Rattle.starlark_grammar.specs.Reading.{History, after, after_all, lexemes_along, next_step, nothing, outcome, pieces_len, read, situation, tokens_onto}
 use Rattle.starlark_grammar.specs.Longest.{IsLongestReading, IsReading}
-use Rattle.starlark_grammar.specs.Cuts.{is_clean_cut_in, is_clean_cut, is_layout, is_outside, is_settled, without_closing}
+use Rattle.starlark_grammar.specs.Cuts.{is_clean_cut_in, is_clean_cut, is_layout, is_settled, without_closing}
 use Rattle.starlark_grammar.proofs.Lists.{drop-sum}
 use Rattle.starlark_grammar.proofs.Words.Fronts.{front_sound}
 use Rattle.starlark_grammar.proofs.Reading.Steps.{is_nothing, lines_len}

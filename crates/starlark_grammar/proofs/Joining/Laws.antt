@@ -12,7 +12,8 @@ use Rattle.starlark_grammar.specs.Margins.{margin_of}
 use Rattle.starlark_grammar.specs.Pieces.{Piece, Step, Fails, Situation}
 use Rattle.starlark_grammar.specs.Reading.{History, nothing, after_all, situation, pieces_len, read, outcome}
 use Rattle.starlark_grammar.specs.Longest.{IsLongestReading}
-use Rattle.starlark_grammar.specs.Cuts.{is_layout, is_outside, is_settled, is_faultless, is_clean_cut, is_clean_cut_in, is_kept_cut, without_closing}
+use Rattle.starlark_grammar.specs.Cuts.{is_layout, is_settled, is_faultless, is_clean_cut, is_clean_cut_in, is_kept_cut, without_closing}
+use Rattle.starlark_grammar.specs.Depths.{is_outside}
 use Rattle.starlark_grammar.specs.TextLaws.{LaterFaultsJoin, FailsLater, FaultsJoin, CutsOfJoined, TabsAfterCuts, KeptCutsKeep, HasFirstMargin}
 use Rattle.starlark_grammar.proofs.Reading.Readings.{one_longest, longest_onward, read_is}
 use Rattle.starlark_grammar.proofs.Joining.Settled.{Settled, remainder, situation_after, map_none}

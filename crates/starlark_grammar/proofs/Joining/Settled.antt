@@ -8,12 +8,12 @@ use Rattle.std.proofs.lemmas.List.Folds.{list_all-append}
 use Rattle.std.proofs.lemmas.List.Sums.{sum_by-append}
 use Rattle.starlark_grammar.specs.Words.{Text, Table}
 use Rattle.starlark_grammar.specs.Tokens.{Token, Opening, FStringStart, FStringEnd, Lexeme}
-use Rattle.starlark_grammar.specs.Depths.{InText, AtTop, Deeper, Round, Square, braces, depth, open_fstring, mode_by, mode_after, is_balanced, is_any_opening, is_any_closing}
+use Rattle.starlark_grammar.specs.Depths.{InText, AtTop, Deeper, Round, Square, braces, depth, open_fstring, mode_by, mode_after, is_balanced, is_any_opening, is_any_closing, is_outside}
 use Rattle.starlark_grammar.specs.Margins.{open_widths}
 use Rattle.starlark_grammar.specs.Pieces.{Piece, Step}
 use Rattle.starlark_grammar.specs.Reading.{History, tokens_onto, after, after_all, situation, next_step, pieces_len}
 use Rattle.starlark_grammar.specs.Longest.{IsReading, IsLongestReading}
-use Rattle.starlark_grammar.specs.Cuts.{is_outside, is_layout, is_settled}
+use Rattle.starlark_grammar.specs.Cuts.{is_layout, is_settled}
 
 pub map_none : {A B : Type 0} (f : A → B) (o : Option A) → option_map f o ≡ None → o ≡ None
 map_none f None h = refl

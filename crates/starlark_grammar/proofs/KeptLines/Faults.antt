@@ -1,6 +1,7 @@
 -- The place of a fault that keeps its line: it is in code, and has a byte.
 use Rattle.std.proofs.Common.{◌≡◌, ℕ, zero, suc, ◌+◌, ◌≤◌, Bool, true, false, not, List, [], ◌∷◌, length, take, drop, refl, ap, ◌∙◌, sym, subst, Option, Some, None, arith, ◌||◌}
 use Rattle.std.specs.Prelude.{◌&&◌, if◌then◌else◌, nat_eq, codes}
+use Rattle.std.specs.Char.{is_ascii_digit}
 use Rattle.std.specs.List.{list_all, starts_with}
 use Rattle.std.proofs.lemmas.Bool.{and_parts, eqb-true}
 use Rattle.std.proofs.lemmas.List.{length-take-le}
@@ -27,10 +28,11 @@ use Rattle.starlark_grammar.proofs.Literals.LiteralSteps.{escape_holds}
 
 -- Words that are faults
 
--- what the words of faults and line ends begin with
+-- what the words of faults and line ends begin with, and what decimal integers are
 abbrev begins_so : Class → Text → Bool
 begins_so Tabs word = begins (nat_eq 9) word
 begins_so LineEnd word = begins_with_line_end word
+begins_so Decimal word = is_run is_ascii_digit word
 begins_so class word = true
 
 rows_begin : RowsFit begins_so
@@ -48,7 +50,7 @@ patterns_begin word =
     (λ h. refl)
     (tabs_begin word)
     (λ h. refl)
-    (λ h. refl)
+    (λ h. h)
     (λ h. refl)
     (λ h. refl)
     (λ h. refl)
@@ -166,6 +168,7 @@ pub record WordFault (first : ℕ) (fault : Spanned Fault) : Type 0 where
   pub begins : fault.begin ≡ 0
   pub some : is_tab fault.node ≡ false → 1 ≤ fault.end
   pub tab : is_tab fault.node ≡ true → (first ≡ 9) × (fault.end ≡ 0)
+  pub digits : (word : Text) → fault.node ≡ StartsZero word → is_run is_ascii_digit word ≡ true
 
 -- A fault that may keep its line, after a history: where it is, and how long.
 pub record CodeFault (history : History) (text : Text) (fault : Spanned Fault) : Type 0 where
@@ -183,16 +186,17 @@ word_fault : (s : Situation) (class : Class) (n b : ℕ) (bs remainder : Text) (
 word_fault s Tabs n b bs remainder fault some fits e keeps no_margin =
     let same : record { begin = 0; node = InvalidTab; end = 0 } ≡ fault = cc in
     let first : 9 ≡ b = eqb-true 9 b (begins_front (nat_eq 9) n b bs fits) in
-    subst (λ (fault : Spanned Fault). WordFault b fault) same (record { begins = refl; some = λ other. cc; tab = λ tab. (sym first, refl) })
+    subst (λ (fault : Spanned Fault). WordFault b fault) same (record { begins = refl; some = λ other. cc; tab = λ tab. (sym first, refl); digits = λ word is. cc })
 word_fault s Reserved n b bs remainder fault some fits e keeps no_margin =
     let same : record { begin = 0; node = ReservedKeyword (take n (b ∷ bs)); end = length (take n (b ∷ bs)) } ≡ fault = cc in
-    subst (λ (fault : Spanned Fault). WordFault b fault) same (record { begins = refl; some = λ other. some; tab = λ tab. cc })
+    subst (λ (fault : Spanned Fault). WordFault b fault) same (record { begins = refl; some = λ other. some; tab = λ tab. cc; digits = λ word is. cc })
 word_fault s Decimal n b bs remainder fault some fits e keeps no_margin = go (starts_zero (take n (b ∷ bs))) e
   where
     go : (zeroes : Bool) → (if zeroes then Fails (record { begin = 0; node = StartsZero (take n (b ∷ bs)); end = length (take n (b ∷ bs)) }) else token (length (take n (b ∷ bs))) (Int (integer_of 10 (take n (b ∷ bs))))) ≡ Fails fault → WordFault b fault
     go true e =
         let same : record { begin = 0; node = StartsZero (take n (b ∷ bs)); end = length (take n (b ∷ bs)) } ≡ fault = cc in
-        subst (λ (fault : Spanned Fault). WordFault b fault) same (record { begins = refl; some = λ other. some; tab = λ tab. cc })
+        subst (λ (fault : Spanned Fault). WordFault b fault) same
+        (record { begins = refl; some = λ other. some; tab = λ tab. cc; digits = λ word is. let own : take n (b ∷ bs) ≡ word = cc in subst (λ (w : Text). is_run is_ascii_digit w ≡ true) own fits })
     go false e = cc
 word_fault s LineEnd n b bs remainder fault some fits e keeps no_margin = go (counts s.mode s.is_balanced) e
   where
@@ -221,6 +225,7 @@ front_fault s b bs None fault found e keeps no_margin =
       begins = refl;
       some = λ other. omega arith;
       tab = λ tab. cc;
+      digits = λ word is. cc;
     })
 front_fault s b bs (Some front) fault found e keeps no_margin =
     let sound = front_sound (class_in language) (b ∷ bs) front.0 front.1 found in

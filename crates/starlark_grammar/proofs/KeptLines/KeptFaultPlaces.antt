@@ -9,19 +9,22 @@ use Rattle.std.proofs.lemmas.List.Sums.{prefix_len-le-length}
 use Rattle.starlark_grammar.specs.AfterFaults.{is_tab}
 use Rattle.starlark_grammar.specs.Inner.KeptFaults.{is_in_margin, may_keep}
 use Rattle.starlark_grammar.specs.KeptLineLaws.{KeepsLine, KeptFaultsHaveBytes, WordsKeepLines}
-use Rattle.starlark_grammar.specs.KeptLines.{closes_literal, ends_by_comment, is_bad_escape, keeps_line, passed_end, stays_open, with_literal, with_literal_at}
+use Rattle.starlark_grammar.specs.KeptLines.{closes_literal, ends_by_comment, is_bad_escape, is_open_quote, is_unfinished, keeps_line, passed_end, stays_open, with_literal, with_literal_at}
 use Rattle.starlark_grammar.specs.Margins.{begins_with_line_end}
 use Rattle.starlark_grammar.specs.Longest.{IsReading}
+use Rattle.starlark_grammar.specs.Numbers.{is_number}
 use Rattle.starlark_grammar.specs.Pieces.{Before, Fails, Piece}
-use Rattle.starlark_grammar.specs.Reading.{History, after, after_all, next_step, outcome_after, pieces_len, read_len}
+use Rattle.starlark_grammar.specs.Reading.{History, after, after_all, history_after, next_step, outcome_after, pieces_len, read_len}
 use Rattle.starlark_grammar.specs.Tokens.{EmptyEscapeSequence, Fault, Indentation, InvalidEscapeSequence, InvalidInput, InvalidTab, Lexeme, ReservedKeyword, Spanned, StartsZero, UnfinishedFStringExpression, UnfinishedStringLiteral}
-use Rattle.starlark_grammar.specs.Depths.{mode_after}
+use Rattle.starlark_grammar.specs.Depths.{InText, Mode, mode_after, is_outside}
 use Rattle.starlark_grammar.specs.Words.{Text, language}
 use Rattle.starlark_grammar.proofs.KeptLines.Faults.{CodeFault, code_fault, escape_place, first_fault, is_in_text}
 use Rattle.starlark_grammar.proofs.KeptLines.LiteralRests.{closed_later, whole_ends, whole_other, whole_same}
+use Rattle.starlark_grammar.proofs.KeptLines.OpenQuotes.{quote_place}
 use Rattle.starlark_grammar.proofs.Reading.Onward.{StopsAt, later_some, stops_at}
 use Rattle.starlark_grammar.proofs.Reading.Readings.{piece_fits, started}
 use Rattle.starlark_grammar.proofs.Reading.Steps.{is_nothing}
+use Rattle.starlark_grammar.proofs.Words.Classes.{digits_number}
 
 -- what is said of a fault that keeps its line
 pub record IsKept (before : Before) (text : Text) (fault : Spanned Fault) : Type 0 where
@@ -155,6 +158,18 @@ own_passes history text fault keeps = go (is_tab fault.node) refl
         let start = is.start in
         (omega (arith, len), omega (arith, len, most, less, order, inside), omega (arith, empty, end, start), omega (arith, empty, end, start))
 
+-- The word of an integer with a leading 0 is a number.
+pub zero_number : (history : History) (text : Text) (fault : Spanned Fault) (word : Text) → (outcome_after history text).fault ≡ Some fault → fault.node ≡ StartsZero word → is_number 10 word ≡ true
+zero_number history text fault word has is =
+    let keeps : keeps_line history.before text (outcome_after history text).lexemes fault ≡ true = zero_keeps history.before text (outcome_after history text).lexemes fault word is in
+    let there = place history text fault (has, keeps) in
+    let node : there.here.found.node ≡ StartsZero word = ap (λ (f : Spanned Fault). f.node) there.here.same ∙ is in
+    digits_number word (there.code.word.digits word node)
+  where
+    zero_keeps : (before : Before) (text : Text) (lexemes : List Lexeme) (fault : Spanned Fault) (word : Text) → fault.node ≡ StartsZero word → keeps_line before text lexemes fault ≡ true
+    zero_keeps before text lexemes fault word is =
+        subst (λ (node : Fault). keeps_line before text lexemes (record { begin = fault.begin; node = node; end = fault.end }) ≡ true) (sym is) (words_keep_lines before text lexemes fault.begin fault.end word).1
+
 -- a literal that is closed
 pub tab_other : (node : Fault) → is_tab node ≡ true → is_bad_escape node ≡ false
 tab_other InvalidTab tab = refl
@@ -184,17 +199,33 @@ literal_passes history text fault has closes =
 
 -- by what all stays open
 pub by_open : {A : Type 0} (history : History) (text : Text) (fault : Spanned Fault) → stays_open history text fault ≡ true → (keeps_line history.before text (outcome_after history text).lexemes fault ≡ true → A)
-    → (closes_literal (read_len history text) text fault ≡ true → A) → A
-by_open {A} history text fault is own literal = go (keeps_line history.before text (outcome_after history text).lexemes fault) refl is
+    → (closes_literal (read_len history text) text fault ≡ true → A) → (is_open_quote (mode_after (history_after history text).tokens) text fault ≡ true → A) → A
+by_open {A} history text fault is own literal quote = go (keeps_line history.before text (outcome_after history text).lexemes fault) (closes_literal (read_len history text) text fault) refl refl is
   where
-    go : (keeps : Bool) → keeps_line history.before text (outcome_after history text).lexemes fault ≡ keeps → (keeps || closes_literal (read_len history text) text fault) ≡ true → A
-    go true e is = own e
-    go false e is = literal is
+    go : (keeps closes : Bool) → keeps_line history.before text (outcome_after history text).lexemes fault ≡ keeps → closes_literal (read_len history text) text fault ≡ closes
+        → (keeps || closes || is_open_quote (mode_after (history_after history text).tokens) text fault) ≡ true → A
+    go true closes e f is = own e
+    go false true e f is = literal f
+    go false false e f is = quote is
+
+-- an open quote is no bad escape, and no tab
+pub quote_other : (node : Fault) → is_unfinished node ≡ true → (is_bad_escape node ≡ false) × (is_tab node ≡ false)
+quote_other UnfinishedStringLiteral is = (refl, refl)
+quote_other node is = cc
+
+quote_passes : (history : History) (text : Text) (fault : Spanned Fault) → (outcome_after history text).fault ≡ Some fault → is_open_quote (mode_after (history_after history text).tokens) text fault ≡ true → Passes text fault fault
+quote_passes history text fault has is =
+    let there = quote_place history text fault has is in
+    let last : passed_end text fault ≡ fault.end = rw (quote_other fault.node there.node).1 refl in
+    (omega (arith, last, there.some), omega (arith, last, there.inside), omega (arith, last), omega (arith, last))
 
 open_passes : (history : History) (text : Text) (fault : Spanned Fault) → KeepsLine history text fault → Passes text fault (with_literal history text fault)
 open_passes history text fault keeps = by_open history text fault keeps.1
     (λ own. subst (Passes text fault) (sym (whole_other (read_len history text) text fault (kept_other history.before text (outcome_after history text).lexemes fault own))) (own_passes history text fault (keeps.0, own)))
     (λ closes. literal_passes history text fault keeps.0 closes)
+    (λ quote.
+    let there = quote_place history text fault keeps.0 quote in
+    subst (Passes text fault) (sym (whole_other (read_len history text) text fault (quote_other fault.node there.node).0)) (quote_passes history text fault keeps.0 quote))
 
 pub kept_faults_have_bytes : KeptFaultsHaveBytes
 kept_faults_have_bytes history text fault keeps = let passes = open_passes history text fault keeps in (passes.0, passes.1)
@@ -222,3 +253,8 @@ open_place history text fault keeps = by_open history text fault keeps.1
     let here = stops_at history text fault keeps.0 in
     let place = escape_begun history text fault here (and_parts (is_bad_escape fault.node) _ closes).0 in
     record { here = here; begun = place.0; in_code = place.1 })
+    (λ quote. let there = quote_place history text fault keeps.0 quote in record { here = there.here; begun = there.begun; in_code = outside_code (mode_after (after_all history there.here.pieces).tokens) there.outside })
+  where
+    outside_code : (mode : Mode) → is_outside mode ≡ true → is_in_text mode ≡ false
+    outside_code (InText opening) is = cc
+    outside_code mode is = refl

@@ -8,7 +8,7 @@ use Rattle.std.proofs.lemmas.List.{drop-append-le, get_or-drop, length-drop, tak
 use Rattle.std.proofs.lemmas.Str.{IsCharBoundary-after_ascii}
 use Rattle.std.proofs.Math.Seq.{drop-append-add}
 use Rattle.starlark_grammar.specs.Items.{closing_quotes}
-use Rattle.starlark_grammar.specs.KeptLines.{LiteralRest, closes_literal, is_bad_escape, literal_rest, longer_rest, raw_opening, rest_from, with_literal_at}
+use Rattle.starlark_grammar.specs.KeptLines.{LiteralRest, closes_literal, is_bad_escape, literal_opening, literal_rest, longer_rest, raw_opening, rest_from, with_literal_at}
 use Rattle.starlark_grammar.specs.Tokens.{Fault, Opening, Spanned, moved}
 use Rattle.starlark_grammar.specs.Words.{Text}
 use Rattle.starlark_grammar.specs.declared.class.Quote.{Quote}
@@ -95,7 +95,7 @@ unfolding with_literal_at literal_rest
 whole_ends at text fault order inside = by (is_bad_escape fault.node)
   where
     opening : Opening
-    opening = raw_opening (take 5 (drop at (take fault.begin text)))
+    opening = literal_opening at text fault.begin
 
     by : (bad : Bool) → (fault.end ≤ (if bad then record fault { end = max fault.end (fault.begin + (rest_from opening false (drop fault.begin text)).len) } else fault).end)
         × ((if bad then record fault { end = max fault.end (fault.begin + (rest_from opening false (drop fault.begin text)).len) } else fault).end ≤ length text)
@@ -127,7 +127,7 @@ unfolding literal_rest
 closed_later at text fault closes = by (is_bad_escape fault.node) refl closes
   where
     by : (bad : Bool) → is_bad_escape fault.node ≡ bad → (bad && (literal_rest at text fault.begin).is_closed) ≡ true → fault.begin < (with_literal_at at text fault).end
-    by true e is = omega (arith, whole_bad at text fault e, closed_some (raw_opening (take 5 (drop at (take fault.begin text)))) false (drop fault.begin text) is)
+    by true e is = omega (arith, whole_bad at text fault e, closed_some (literal_opening at text fault.begin) false (drop fault.begin text) is)
     by false e is = cc
 
 -- in a text that goes on
@@ -146,7 +146,7 @@ literal_rest_stays at text more begin h inside less =
     left = drop-append-le begin text more (omega (arith, inside))
 
     opening : Opening
-    opening = raw_opening (take 5 (drop at (take begin text)))
+    opening = literal_opening at text begin
 
     by : ((begin + (literal_rest at text begin).len < length text) ⊎ (begin + (literal_rest at (text ++ more) begin).len < length text))
         → ((rest_from opening false (drop begin text)).len < length (drop begin text)) ⊎ ((rest_from opening false (drop begin text ++ more)).len < length (drop begin text))
@@ -174,18 +174,18 @@ whole_stays at text more fault h inside less = by (is_bad_escape fault.node) ref
     by false e = rw e (refl, refl)
 
 -- in a text after another
-pub literal_rest_moved : (at : ℕ) (first second : Text) (begin : ℕ) → literal_rest (length first + at) (first ++ second) (length first + begin) ≡ literal_rest at second begin
-unfolding literal_rest
-literal_rest_moved at first second begin =
-    ap (λ (t : Text). rest_from (raw_opening (take 5 t)) false (drop (length first + begin) (first ++ second))) front
-    ∙ ap (rest_from (raw_opening (take 5 (drop at (take begin second)))) false) (drop-append-add first second begin)
+pub opening_moved : (at : ℕ) (first second : Text) (begin : ℕ) → literal_opening (length first + at) (first ++ second) (length first + begin) ≡ literal_opening at second begin
+opening_moved at first second begin = ap (λ (t : Text). raw_opening (take 5 t)) (ap (drop (length first + at)) (taken first) ∙ drop-append-add first (take begin second) at)
   where
     taken : (first : Text) → take (length first + begin) (first ++ second) ≡ first ++ take begin second
     taken [] = let same : length {A = ℕ} [] + begin ≡ begin = omega arith in ap (λ n. take n second) same
     taken (b ∷ bs) = let next : length (b ∷ bs) + begin ≡ suc (length bs + begin) = omega arith in rw next (ap (λ (t : Text). b ∷ t) (taken bs))
 
-    front : drop (length first + at) (take (length first + begin) (first ++ second)) ≡ drop at (take begin second)
-    front = ap (drop (length first + at)) (taken first) ∙ drop-append-add first (take begin second) at
+pub literal_rest_moved : (at : ℕ) (first second : Text) (begin : ℕ) → literal_rest (length first + at) (first ++ second) (length first + begin) ≡ literal_rest at second begin
+unfolding literal_rest
+literal_rest_moved at first second begin =
+    ap (λ (opening : Opening). rest_from opening false (drop (length first + begin) (first ++ second))) (opening_moved at first second begin)
+    ∙ ap (rest_from (literal_opening at second begin) false) (drop-append-add first second begin)
 
 pub whole_moved : (at : ℕ) (first second : Text) (fault : Spanned Fault) → (with_literal_at (length first + at) (first ++ second) (moved (length first) fault) ≡ moved (length first) (with_literal_at at second fault))
     × (closes_literal (length first + at) (first ++ second) (moved (length first) fault) ≡ closes_literal at second fault)
@@ -217,7 +217,7 @@ triple_last quote (b ∷ c ∷ d ∷ bs) less h =
     let same = eqb-true quote d (and_parts (nat_eq quote d) true two.1).0 in
     omega (arith, less, same)
 
-quotes_last : (opening : Opening) (text : Text) → closes_here opening text ≡ true → get_or text (length (closing_quotes opening) - 1) 0 < 128
+pub quotes_last : (opening : Opening) (text : Text) → closes_here opening text ≡ true → get_or text (length (closing_quotes opening) - 1) 0 < 128
 quotes_last opening text = by opening.is_triple opening.quote
   where
     by : (triple : Bool) (quote : Quote) → closes_here (record { is_raw = opening.is_raw; quote = quote; is_triple = triple }) text ≡ true → get_or text (length (closing_quotes (record { is_raw = opening.is_raw; quote = quote; is_triple = triple })) - 1) 0 < 128
@@ -246,7 +246,7 @@ closed_last opening false (b ∷ bs) is = by (closes_here opening (b ∷ bs)) (e
 pub closed_boundary : (at : ℕ) (text : Text) (begin : ℕ) → IsUtf8 text → begin ≤ length text → (literal_rest at text begin).is_closed ≡ true → IsCharBoundary text (begin + (literal_rest at text begin).len)
 unfolding literal_rest
 closed_boundary at text begin utf8 inside is =
-    let opening = raw_opening (take 5 (drop at (take begin text))) in
+    let opening = literal_opening at text begin in
     let rest = rest_from opening false (drop begin text) in
     let some = closed_some opening false (drop begin text) is in
     let fits = rest_fits opening false (drop begin text) in

@@ -13,12 +13,11 @@ use Rattle.starlark_grammar.specs.declared.class.Class.{Class}
 use Rattle.starlark_grammar.specs.declared.class.LiteralKind.TheVariants.{Text as OfText, Bytes as OfBytes, FString as OfFString}
 use Rattle.starlark_grammar.specs.Front.{longest_front, language_front}
 use Rattle.starlark_grammar.specs.Tokens.{Token, Comment, Newline, Indent, Dedent, Identifier, Int, Float, String, Bytes, FStringStart, FStringText, FStringExprStart, FStringExprEnd, FStringBang, FStringEnd, Word, Lexeme, moved, Outcome}
-use Rattle.starlark_grammar.specs.Depths.{Mode, Outside, InText, AtTop, Deeper, open_fstring, mode_by, mode_after}
+use Rattle.starlark_grammar.specs.Depths.{Mode, Outside, InText, AtTop, Deeper, open_fstring, mode_by, mode_after, is_outside}
 use Rattle.starlark_grammar.specs.Margins.{is_lf, margin_of, margin_len, open_widths}
 use Rattle.starlark_grammar.specs.Pieces.{Before, Nothing, Layout, Gap, Other, Piece, Step, Stands, Fails, Ends, Situation, token, word_step, front_step, is_bang, takes_bang, in_code, by_mode, by_before, step_at}
 use Rattle.starlark_grammar.specs.Reading.{tokens_onto, History, nothing, after, after_all, situation, next_step, pieces_len, read, lexemes_along, closing, outcome_of, outcome}
 use Rattle.starlark_grammar.specs.Longest.{IsReading, IsLongestReading}
-use Rattle.starlark_grammar.specs.Cuts.{is_outside}
 use Rattle.starlark_grammar.specs.LineEnds.{holds_escaped_newline, opens_raw, is_raw_in, no_raw_newline}
 use Rattle.starlark_grammar.specs.TextLaws.{CrlfKeepsTokens}
 use Rattle.starlark_grammar.proofs.Lists.{drop-sum}

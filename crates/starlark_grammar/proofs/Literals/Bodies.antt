@@ -1,6 +1,7 @@
 -- Items, stops and bodies lie inside of the text.
 use Rattle.std.proofs.Common.{◌≡◌, ℕ, zero, suc, ◌+◌, ◌-◌, ◌≤◌, Bool, true, false, not, [], ◌∷◌, length, take, drop, ap, ◌∙◌, sym, subst, Option, Some, None, arith, nat_eq}
 use Rattle.std.specs.Prelude.{⊤, ◌==◌, ◌&&◌, if◌then◌else◌, nat_lt, encode_utf8}
+use Rattle.std.proofs.lemmas.Bool.{and_parts, eqb-true}
 use Rattle.std.proofs.lemmas.List.{length-drop}
 use Rattle.std.proofs.lemmas.List.Sums.{prefix_len-le-length, sum_by-cons}
 use Rattle.std.proofs.lemmas.Slice.Eq.{bytes_eq-Decides}
@@ -10,7 +11,7 @@ use Rattle.std.specs.Map.{lookup}
 use Rattle.std.specs.Str.{byte, continuation_len}
 use Rattle.std.specs.Str.Parse.{digits_value}
 use Rattle.starlark_grammar.proofs.Lists.{take_fits, drop-sum, drop-remainder}
-use Rattle.starlark_grammar.specs.Words.{Text, Quote, Kind, is_octal_digit}
+use Rattle.starlark_grammar.specs.Words.{Text, Quote, Kind, begins, is_octal_digit}
 use Rattle.starlark_grammar.specs.Tokens.{Opening}
 use Rattle.starlark_grammar.specs.Items.{Literal, Item, Stop, Closing, Line, Ended, OpeningBrace, ClosingBrace, BadEscape, Found, Goes, Stops, goes, closing_quotes, broken, is_character, numbered, hexadecimal, octal, escaped_newline, simple_escapes, simple, is_of_bytes, escape, raw_pair, brace, is_brace, found_at, Body, body_len, body_onward, body_from, body_at}
 use Rattle.starlark_grammar.specs.FrontCharacter.{first_character}
@@ -23,7 +24,7 @@ character_fits (b ∷ bs) = let fits = take_fits (continuation_len b) bs in omeg
 -- an item has a byte and lies inside; a stop has its bytes inside
 abbrev pub StopFits : Opening → Text → Stop → Type 0
 StopFits opening text Closing = length (closing_quotes opening) ≤ length text
-StopFits opening text Line = 1 ≤ length text
+StopFits opening text Line = (1 ≤ length text) × (begins (nat_eq 10) text ≡ true)
 StopFits opening text Ended = ⊤
 StopFits opening text OpeningBrace = 1 ≤ length text
 StopFits opening text ClosingBrace = 1 ≤ length text
@@ -108,8 +109,8 @@ found_fits literal (b ∷ bs) =
     let opening = literal.opening in
     let P : Found → Type 0 = FoundFits literal.opening (b ∷ bs) in
     by_test P (starts_with nat_eq (b ∷ bs) (closing_quotes literal.opening)) _ _ (starts_fits (b ∷ bs) (closing_quotes literal.opening)) (λ e.
-    either P (b == byte "\n" && not literal.opening.is_triple) _ _ (omega arith)
-    (either P (b == byte "\r") _ _ (omega arith, omega arith)
+    by_test P (b == byte "\n" && not literal.opening.is_triple) _ _ (λ e. (omega arith, ap (nat_eq 10) (eqb-true b 10 (and_parts (b == byte "\n") _ e).0))) (λ e.
+    either P (b == byte "\r") _ _ (omega arith, omega arith)
     (either P (b == byte "\\" && literal.opening.is_raw) _ _ (raw_pair_fits literal.opening literal.kind literal.opening.quote bs (b ∷ bs) (omega arith))
     (either P (b == byte "\\") _ _ (escape_fits literal.opening literal.kind bs (b ∷ bs) (omega arith))
     (either P (is_brace literal.kind b) _ _ (brace_fits literal.opening b bs (b ∷ bs) (omega arith))

@@ -136,7 +136,7 @@ chunk_by_fits opening text body (BadEscape read last) fits stop =
     let less = stop.1 in
     let within = stop.2 in
     record { order = omega arith; inside = omega (arith, length-drop (body_len body) text) }
-chunk_by_fits opening text body Line fits stop = record { order = omega arith; inside = omega (arith, length-drop (body_len body) text) }
+chunk_by_fits opening text body Line fits stop = let some = stop.0 in record { order = omega arith; inside = omega (arith, length-drop (body_len body) text) }
 chunk_by_fits opening text body Ended fits stop = record { order = omega arith; inside = omega arith }
 
 chunk_fits : (opening : Opening) (text : Text) → StepFits 1 text (chunk opening text)

@@ -8,12 +8,12 @@ use Rattle.std.proofs.lemmas.List.Sums.{sum_by-cons}
 use Rattle.std.proofs.Math.Seq.{drop-append-add}
 use Rattle.starlark_grammar.specs.Words.{Text, language}
 use Rattle.starlark_grammar.specs.Tokens.{Newline, Lexeme, moved, Outcome}
-use Rattle.starlark_grammar.specs.Depths.{mode_by, mode_after, open_fstring, is_balanced}
+use Rattle.starlark_grammar.specs.Depths.{mode_by, mode_after, open_fstring, is_balanced, is_outside}
 use Rattle.starlark_grammar.specs.Margins.{lines, margin_of, open_widths}
 use Rattle.starlark_grammar.specs.Pieces.{Before, Layout, Other, Piece, Step, Stands, Fails, Ends, Situation, first_margin, margin_step, step_at}
 use Rattle.starlark_grammar.specs.Reading.{History, nothing, after, after_all, situation, next_step, pieces_len, lexemes_along, lexemes_before, closing, outcome_of, reading_outcome, outcome, outcome_after, history_after, read_len}
 use Rattle.starlark_grammar.specs.Longest.{IsReading, IsLongestReading}
-use Rattle.starlark_grammar.specs.Cuts.{is_layout, is_outside, is_newline, is_faultless}
+use Rattle.starlark_grammar.specs.Cuts.{is_layout, is_newline, is_faultless}
 use Rattle.starlark_grammar.specs.Found.{at_line}
 use Rattle.starlark_grammar.proofs.Indentation.Widths.{positive}
 use Rattle.starlark_grammar.proofs.Reading.Onward.{after_by, first_step_after, last_after, longest_after, outcome_after_nothing, outcome_is, pieces_after, read_by}

@@ -11,12 +11,12 @@ use Rattle.starlark_grammar.specs.declared.class.Class.TheVariants as word
 use Rattle.starlark_grammar.specs.Words.{Text, class_in, language}
 use Rattle.starlark_grammar.specs.Front.{longest_front}
 use Rattle.starlark_grammar.specs.Tokens.{Lexeme, Newline, Dedent, Outcome, moved}
-use Rattle.starlark_grammar.specs.Depths.{Mode, is_balanced, mode_after, open_fstring}
+use Rattle.starlark_grammar.specs.Depths.{Mode, is_balanced, mode_after, open_fstring, is_outside}
 use Rattle.starlark_grammar.specs.Margins.{comment_lines, fits, indentation, is_blank, is_comment_only, is_lf, lines, margin_of, open_widths}
 use Rattle.starlark_grammar.specs.Pieces.{Ends, Layout, Piece, Stands, Step, counts, margin_step, step_at}
 use Rattle.starlark_grammar.specs.Reading.{History, after, after_all, closing, lexemes_along, next_step, nothing, outcome_after, pieces_len, situation}
 use Rattle.starlark_grammar.specs.Longest.{IsLongestReading, IsReading}
-use Rattle.starlark_grammar.specs.Cuts.{is_newline, is_outside}
+use Rattle.starlark_grammar.specs.Cuts.{is_newline}
 use Rattle.starlark_grammar.proofs.Recovery.LineCuts.{line_cut_by}
 use Rattle.starlark_grammar.proofs.Lists.{drop-sum}
 use Rattle.starlark_grammar.proofs.Words.Fronts.{front_sound}

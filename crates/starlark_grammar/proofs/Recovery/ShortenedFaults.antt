@@ -13,7 +13,7 @@ use Rattle.starlark_grammar.specs.Front.{longest_front}
 use Rattle.starlark_grammar.specs.Margins.{begins_with_line_end, Margin, margin_of, margin_len, is_content, has_tab, width_of, fits}
 use Rattle.starlark_grammar.specs.Tokens.{Opening, Indentation, InvalidInput, InvalidTab, Lexeme, Newline, Spanned, Fault, Outcome}
 use Rattle.starlark_grammar.specs.Items.{Stop, Closing, Line, Ended, OpeningBrace, ClosingBrace, BadEscape, Body, body_at, body_len}
-use Rattle.starlark_grammar.specs.Depths.{Mode, Outside, InText, AtTop, Deeper}
+use Rattle.starlark_grammar.specs.Depths.{Mode, Outside, InText, AtTop, Deeper, mode_after}
 use Rattle.starlark_grammar.specs.Pieces.{Before, Nothing, Layout, Gap, Other, Piece, Step, Stands, Fails, Situation, fault, first_margin, margin_step, line_end, opening_of, more_quotes, escape_fault, literal_by, literal, opener, chunk_by, chunk, counts, word_step, front_step, takes_bang, is_bang, in_code, by_mode, by_before, step_at}
 use Rattle.starlark_grammar.specs.Reading.{History, after, after_all, history_after, situation, next_step, outcome_after, pieces_len, read_len}
 use Rattle.starlark_grammar.specs.Longest.{IsReading}
@@ -36,7 +36,8 @@ use Rattle.starlark_grammar.proofs.Recovery.FollowedStops.{StopInside, body_sing
 use Rattle.starlark_grammar.proofs.Recovery.FollowedFaults.{chunk_same, escape_reads, fault_end, same_fault, unfinished_append}
 use Rattle.starlark_grammar.proofs.Recovery.MarginTabs.{FirstFails, BeginsLine, line_end_stands, line_is, no_line_end, tab_next, word_line}
 use Rattle.starlark_grammar.proofs.Found.FoundItems.{by_keeps, passed_lost}
-use Rattle.starlark_grammar.proofs.KeptLines.KeptFaultPlaces.{by_open, kept, no_tab, tab_other}
+use Rattle.starlark_grammar.proofs.KeptLines.KeptFaultPlaces.{by_open, kept, no_tab, quote_other, tab_other}
+use Rattle.starlark_grammar.proofs.KeptLines.OpenQuotes.{quote_parts}
 use Rattle.starlark_grammar.proofs.KeptLines.LiteralRests.{whole_other}
 use Rattle.starlark_grammar.proofs.Reading.Onward.{StopsAt, after_by, later_some, stops_at}
 use Rattle.starlark_grammar.proofs.Recovery.DecidedFaults.{decided, outcome_stays}
@@ -347,7 +348,8 @@ fault_shortened history text (b ∷ bs) fault has is less =
     near = by_keeps history (text ++ (b ∷ bs)) fault
         (λ stays_so. by_open history (text ++ (b ∷ bs)) fault stays_so
         (λ kept_it. λ tab margin far. both_ways _ ((kept history.before (text ++ (b ∷ bs)) (outcome_after history (text ++ (b ∷ bs))).lexemes fault kept_it).no_margin (and_parts (is_tab fault.node) _ tab).0) margin)
-        (λ closes. λ tab margin far. both_ways _ (no_tab fault.node (and_parts (is_bad_escape fault.node) _ closes).0) (and_parts (is_tab fault.node) _ tab).0))
+        (λ closes. λ tab margin far. both_ways _ (no_tab fault.node (and_parts (is_bad_escape fault.node) _ closes).0) (and_parts (is_tab fault.node) _ tab).0)
+        (λ quote. λ tab margin far. both_ways _ (quote_other fault.node (quote_parts (mode_after (history_after history (text ++ (b ∷ bs))).tokens) (text ++ (b ∷ bs)) fault quote).0).1 (and_parts (is_tab fault.node) _ tab).0))
         (λ lost. λ tab margin far.
         let other = whole_other (read_len history (text ++ (b ∷ bs))) (text ++ (b ∷ bs)) fault (tab_other fault.node (and_parts (is_tab fault.node) _ tab).0) in
         let last : restart (text ++ (b ∷ bs)) (with_literal history (text ++ (b ∷ bs)) fault) ≤ length text = subst (λ (p : Passed). p.len ≤ length text) (passed_lost history (text ++ (b ∷ bs)) fault lost) less in

@@ -4,14 +4,16 @@ use Rattle.std.proofs.lemmas.Bool.{both_ways}
 use Rattle.std.specs.Prelude.{⊤, [], ◌∷◌, IfSome, codes, true, false}
 use Rattle.starlark_grammar.proofs.Rows.Shapes.{all_definitions, at, single, utf8, Pass, Fail}
 use Rattle.starlark_grammar.specs.Reading.{History, history_after, nothing, outcome, outcome_after, read_len}
-use Rattle.starlark_grammar.specs.Tokens.{Fault, InvalidEscapeSequence, Lexeme, Spanned, Newline, Identifier, Indent, Dedent, Word, Comment, FStringStart, InvalidInput, InvalidTab, Indentation, UnfinishedStringLiteral, ReservedKeyword}
+use Rattle.starlark_grammar.specs.Tokens.{Fault, InvalidEscapeSequence, Lexeme, Spanned, Newline, Identifier, Indent, String, Dedent, Word, Comment, FStringStart, InvalidInput, InvalidTab, Indentation, UnfinishedStringLiteral, ReservedKeyword}
 use Rattle.starlark_grammar.specs.Words.{Text}
 use Rattle.starlark_grammar.specs.declared.class.Terminal.TheVariants as terminal
 use Rattle.starlark_grammar.specs.AfterFaults.{next_line, restart, stopped_at}
 use Rattle.starlark_grammar.specs.ClosedTexts.{Cut, Empty, IsClosed, IsClosedAfter, Past, parted}
 use Rattle.starlark_grammar.specs.Found.{found, found_after, found_within, passed}
 use Rattle.starlark_grammar.specs.Joining.{begins_plainly, is_between_lines, is_decided, is_line_cut, is_line_cut_after, without_last_newline}
-use Rattle.starlark_grammar.specs.KeptLines.{keeps_line, literal_rest, rest_from, with_literal, with_literal_at}
+use Rattle.starlark_grammar.specs.KeptLines.{keeps_line, literal_rest, rest_from, with_brackets, with_literal, with_literal_at}
+use Rattle.starlark_grammar.specs.Numbers.{integer_of}
+use Rattle.starlark_grammar.specs.StandIns.{stand_ins_at, written_literal, written_quote}
 
 -- the text has these lexemes and these faults
 abbrev pub Recovers : Text → List Lexeme → List (Spanned Fault) → Type 0
@@ -19,19 +21,19 @@ Recovers text lexemes faults = parted (found text) ≡ record { lexemes = lexeme
 
 -- to unfold this is to unfold all that a row computes with
 unfoldable pub all_recovery : Type 0
-unfolding all_definitions next_line stopped_at restart keeps_line rest_from literal_rest with_literal_at outcome_after history_after read_len passed found_within found_after found
+unfolding all_definitions next_line stopped_at restart keeps_line rest_from literal_rest with_literal_at outcome_after history_after read_len with_brackets passed found_within found_after found stand_ins_at written_literal written_quote integer_of
 all_recovery = ⊤
 
 -- no fault, faults that keep their lines, and others
 rows_1 :
     Recovers [] (at 0 Newline 0 ∷ []) []
     × Recovers (codes "x\n") (at 0 (Identifier (codes "x")) 1 ∷ at 1 Newline 2 ∷ at 2 Newline 2 ∷ []) []
-    × Recovers (codes "'a\nx") (at 3 (Identifier (codes "x")) 4 ∷ at 4 Newline 4 ∷ []) (at 0 UnfinishedStringLiteral 2 ∷ [])
+    × Recovers (codes "'a\nx") (at 0 (String (codes "a")) 2 ∷ at 2 Newline 3 ∷ at 3 (Identifier (codes "x")) 4 ∷ at 4 Newline 4 ∷ []) (at 0 UnfinishedStringLiteral 2 ∷ [])
     × Recovers (codes "x $ y\nz") (at 0 (Identifier (codes "x")) 1 ∷ at 4 (Identifier (codes "y")) 5 ∷ at 5 Newline 6 ∷ at 6 (Identifier (codes "z")) 7 ∷ at 7 Newline 7 ∷ []) (at 2 (InvalidInput (codes "$")) 3 ∷ [])
     × Recovers (codes "$") (at 1 Newline 1 ∷ []) (at 0 (InvalidInput (codes "$")) 1 ∷ [])
     × Recovers (codes "$\n") (at 1 Newline 2 ∷ at 2 Newline 2 ∷ []) (at 0 (InvalidInput (codes "$")) 1 ∷ [])
-    × Recovers (codes "$\nis\nx") (at 1 Newline 2 ∷ at 4 Newline 5 ∷ at 5 (Identifier (codes "x")) 6 ∷ at 6 Newline 6 ∷ []) (at 0 (InvalidInput (codes "$")) 1 ∷ at 2 (ReservedKeyword (codes "is")) 4 ∷ [])
-    × Recovers (codes "('a\nx\n") (at 0 (Word terminal.OpeningRound) 1 ∷ at 4 (Identifier (codes "x")) 5 ∷ at 5 Newline 6 ∷ at 6 Newline 6 ∷ []) (at 1 UnfinishedStringLiteral 3 ∷ [])
+    × Recovers (codes "$\nis\nx") (at 1 Newline 2 ∷ at 2 (Identifier (codes "is")) 4 ∷ at 4 Newline 5 ∷ at 5 (Identifier (codes "x")) 6 ∷ at 6 Newline 6 ∷ []) (at 0 (InvalidInput (codes "$")) 1 ∷ at 2 (ReservedKeyword (codes "is")) 4 ∷ [])
+    × Recovers (codes "('a\nx\n") (at 0 (Word terminal.OpeningRound) 1 ∷ at 1 (String (codes "a")) 3 ∷ at 4 (Identifier (codes "x")) 5 ∷ at 6 Newline 6 ∷ []) (at 1 UnfinishedStringLiteral 3 ∷ [])
 unfolding all_recovery
 rows_1 = (refl, refl, refl, refl, refl, refl, refl, refl)
 
@@ -53,14 +55,14 @@ rows_3 :
     Recovers (codes "if a:\n  if b:\n    x = '\\xz'\n    y\n  z\n") (
     at 0 (Word terminal.If) 2 ∷ at 3 (Identifier (codes "a")) 4 ∷ at 4 (Word terminal.Colon) 5 ∷ at 5 Newline 6 ∷
     at 6 Indent 8 ∷ at 8 (Word terminal.If) 10 ∷ at 11 (Identifier (codes "b")) 12 ∷ at 12 (Word terminal.Colon) 13 ∷ at 13 Newline 14 ∷
-    at 14 Indent 18 ∷ at 18 (Identifier (codes "x")) 19 ∷ at 20 (Word terminal.Equal) 21 ∷ at 27 Newline 28 ∷ at 32 (Identifier (codes "y")) 33 ∷ at 33 Newline 34 ∷
+    at 14 Indent 18 ∷ at 18 (Identifier (codes "x")) 19 ∷ at 20 (Word terminal.Equal) 21 ∷ at 22 (String (codes "\\xz")) 27 ∷ at 27 Newline 28 ∷ at 32 (Identifier (codes "y")) 33 ∷ at 33 Newline 34 ∷
     at 34 Dedent 34 ∷ at 36 (Identifier (codes "z")) 37 ∷ at 37 Newline 38 ∷ at 38 Newline 38 ∷ at 38 Dedent 38 ∷ []) (at 23 (InvalidEscapeSequence (codes "xz")) 26 ∷ [])
     × Recovers (codes "if a:\n    b\n  c\n    d\n") (
     at 0 (Word terminal.If) 2 ∷ at 3 (Identifier (codes "a")) 4 ∷ at 4 (Word terminal.Colon) 5 ∷ at 5 Newline 6 ∷
     at 6 Indent 10 ∷ at 10 (Identifier (codes "b")) 11 ∷ at 20 (Identifier (codes "d")) 21 ∷ at 21 Newline 22 ∷ at 22 Newline 22 ∷ at 22 Dedent 22 ∷ []) (at 11 Indentation 14 ∷ [])
     × Recovers (codes "if a:\n  'b\nc\n") (
     at 0 (Word terminal.If) 2 ∷ at 3 (Identifier (codes "a")) 4 ∷ at 4 (Word terminal.Colon) 5 ∷ at 5 Newline 6 ∷
-    at 6 Indent 8 ∷ at 11 Dedent 11 ∷ at 11 (Identifier (codes "c")) 12 ∷ at 12 Newline 13 ∷ at 13 Newline 13 ∷ []) (at 8 UnfinishedStringLiteral 10 ∷ [])
+    at 6 Indent 8 ∷ at 8 (String (codes "b")) 10 ∷ at 10 Newline 11 ∷ at 11 Dedent 11 ∷ at 11 (Identifier (codes "c")) 12 ∷ at 12 Newline 13 ∷ at 13 Newline 13 ∷ []) (at 8 UnfinishedStringLiteral 10 ∷ [])
 unfolding all_recovery
 rows_3 = (refl, refl, refl)
 
@@ -142,7 +144,7 @@ closed_rows = (
   Empty [],
   Cut nothing (codes "x\n") refl,
   Past nothing (codes "$\n") (at 0 (InvalidInput (codes "$")) 1) refl refl (Cut _ (codes "\n") refl),
-  Past nothing (codes "'a\n") (at 0 UnfinishedStringLiteral 2) refl refl (Empty (0 ∷ [])),
+  Past nothing (codes "'a\n") (at 0 UnfinishedStringLiteral 2) refl refl (Cut _ (codes "\n") refl),
   Past nothing (codes "f'a\nb\n") (at 2 UnfinishedStringLiteral 4) refl refl (Cut _ (codes "b\n") refl),
   Past nothing (codes "x\n\ty\n") (at 1 InvalidTab 1) refl refl (Empty (0 ∷ [])),
   Past nothing (codes "$\n x\n") (at 0 (InvalidInput (codes "$")) 1) refl refl (Cut _ (codes "\n x\n") refl),
@@ -192,12 +194,14 @@ open_rows = (
   undecided_open nothing (codes "'''\\x\nx\n") (omega arith, refl) refl,
 )
 
--- … and by brackets that are open after a fault that keeps its line
+-- … and by brackets that are open after a fault that keeps its line, or in an open quote
 brackets_stay_open :
     (IsClosed (codes "$\n(\n") → ⊥)
+    × (IsClosed (codes "'(\n") → ⊥)
     × (IsClosed (codes "(\n$\nx\n") → ⊥)
 unfolding all_recovery is_between_lines is_line_cut_after is_line_cut is_decided
 brackets_stay_open = (
   rest_open nothing (codes "$\n(\n") (omega arith, refl) (undecided_open _ (codes "\n(\n") (omega arith, refl) tt),
+  rest_open nothing (codes "'(\n") (omega arith, refl) (undecided_open _ (codes "\n") (omega arith, refl) tt),
   rest_open nothing (codes "(\n$\nx\n") (omega arith, refl) (undecided_open _ (codes "\nx\n") (omega arith, refl) tt),
 )

@@ -11,7 +11,7 @@ use Rattle.std.proofs.lemmas.Bool.Decides.{nat_tests}
 use Rattle.std.proofs.lemmas.Slice.Eq.{bytes_eq-Decides}
 use Rattle.std.proofs.lemmas.Str.{IsCharBoundary-after_ascii}
 use Rattle.starlark_grammar.specs.Words.{Text, Class, Skipped, Comment, Tabs, LineEnd, Identifier, Decimal, Hexadecimal, Octal, Binary, Float, class_in, openers, line_ends, symbols, names, patterns, language, is_run, is_identifier, is_comment, is_based, is_octal_digit, is_binary_digit, is_float, is_pointed, is_sign, unsigned}
-use Rattle.starlark_grammar.specs.Numbers.{integer_of, integer_in}
+use Rattle.starlark_grammar.specs.Numbers.{integer_of, integer_in, is_number}
 use Rattle.starlark_grammar.proofs.Words.Tables.{class_in-language}
 
 -- whether a test of a class and a word is passed by each row of a list
@@ -168,6 +168,12 @@ digit_no_sign b base most h = grind (arith, nat_tests)
 digits_unsigned : (base : ℕ) (digits : Text) → base ≤ 36 → is_run (λ b. is_digit b base) digits ≡ true → unsigned digits ≡ digits
 digits_unsigned base [] most h = refl
 digits_unsigned base (b ∷ bs) most h = rw (digit_no_sign b base most (and_parts (is_digit b base) (list_all (λ b. is_digit b base) bs) h).0) refl
+
+-- decimal digits are a number
+pub digits_number : (word : Text) → is_run is_ascii_digit word ≡ true → is_number 10 word ≡ true
+digits_number word is =
+    let digits = run_more is_ascii_digit (λ b. is_digit b 10) word decimal_digit is in
+    rw (digits_unsigned 10 word (omega arith) digits) digits
 
 pub digits_are_number : (base : ℕ) (digits : Text) → base ≤ 36 → is_run (λ b. is_digit b base) digits ≡ true → integer_in base digits ≡ Some (integer_of base digits)
 unfolding integer_in

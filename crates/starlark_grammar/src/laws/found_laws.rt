@@ -3,12 +3,13 @@
 
 ghost use Rattle.starlark_grammar.specs.FoundLaws.{ClosedJoin, FaultlessFound, FoundAfterFaults, FoundApart, FoundFaultsInOrder, FoundJoins, FoundLexemesInOrder, LastNewlinesClose, NewlinesClose, NewlinesCutFound, OutcomeAfterNothing};
 
-/// In a text are found its lexemes, then its fault if it has one, and then what is found in the rest
-/// after that, by what was read before it. What is read after nothing is the text's outcome.
+/// In a text are found its lexemes, then its fault if it has one, what stands for that, and what is
+/// found in the rest after it, by what was read before it. What is read after nothing is the text's
+/// outcome.
 ///
 /// A closed text and one after it that begins plainly are lexed each by itself, and two closed texts
-/// are one. All lexemes lie in the text, in order, and so do all faults. No lexeme but a comment lies in
-/// the span of a fault.
+/// are one. All lexemes lie in the text, in order, and so do all faults. No lexeme but a comment has a
+/// byte of a fault, unless it stands for the fault and has all of its bytes.
 pub fn found_in_order()
     ensures faultless { FaultlessFound }
     ensures after { FoundAfterFaults }

@@ -13,7 +13,7 @@ use Rattle.starlark_grammar.specs.Tokens.{Fault, Spanned}
 use Rattle.starlark_grammar.specs.Words.{Text, begins, is_name_start}
 use Rattle.starlark_words.specs.Inner.ScannedWords.{begins_mark, peeked_len}
 use Rattle.starlark_words.specs.declared.scanner.word.Word.{Word}
-use Rattle.starlark_reader.specs.Inner.Reader.{IsAhead, IsAheadAfter, IsAheadPast, IsAtCode, IsAtEnd, IsRaw, IsSomething, IsStateAfter, IsStateAtFault, IsWordHere, From, Origin, Start, begins_with_fault, begins_with_tab, has_read_none, history_since, is_fault, kept_history, left_to_read, outcome_since}
+use Rattle.starlark_reader.specs.Inner.Reader.{IsAhead, IsAheadAfter, IsAheadPast, IsAtCode, IsAtEnd, IsRaw, IsSomething, IsStateAfter, IsStateAtFault, IsWordHere, From, Origin, Start, begins_with_fault, begins_with_tab, has_read_none, history_since, is_fault, kept_history, left_to_read, outcome_since, quoted_history}
 use Rattle.starlark_reader.specs.Inner.ReadBounds.{HasRead, LeavesPassed}
 use Rattle.starlark_reader.specs.declared.reader.Before.{Before}
 use Rattle.starlark_reader.specs.declared.reader.Before.TheVariants as before
@@ -140,6 +140,18 @@ pub record KeepsOpen (course : Course) (text : Text) (fault : Spanned Fault) (en
   pub most : reads ≤ 10 * end + 2
   pub standing : begins_with_fault course.origin text ≡ false
   pub boundary : IsCharBoundary text end
+
+-- What is lexed of the text from the line end of an open quote on, of a text where all before the quote was lexed.
+abbrev pub course_quoted : Course → Text → (quote rest : Text) → Course
+course_quoted course text quote rest = course_of (From (quoted_history (history_since course.origin text) quote) 0) rest
+
+-- Such a fault: these are its bytes, and that is the text from its line end on.
+pub record IsQuoteOf (course : Course) (text : Text) (fault : Spanned Fault) (quote rest : Text) : Type 0 where
+  pub order : fault.begin ≤ fault.end
+  pub inside : fault.end ≤ length text
+  pub quote_len : length quote ≡ fault.end - fault.begin
+  pub rest_len : length rest ≡ length text - fault.end
+  pub standing : begins_with_fault course.origin text ≡ false
 
 -- At a fault each byte before it was read, and at most so many, with those that find where lexing begins again.
 abbrev pub AreReadsTo : Text → Spanned Fault → ℕ → Type 0

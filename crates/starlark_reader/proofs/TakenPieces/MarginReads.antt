@@ -8,7 +8,7 @@ use Rattle.std.specs.Prelude.{codes, if◌then◌else◌, not}
 use Rattle.starlark_grammar.specs.AfterFaults.{is_margin_tab, is_tab, line_end_len, margin_line, next_line, restart}
 use Rattle.starlark_grammar.specs.Margins.{begins_with_line_end, blanks_len, has_tab, is_blank, is_lf, lines, margin_len, margin_of}
 use Rattle.starlark_grammar.specs.Inner.KeptFaults.{may_keep}
-use Rattle.starlark_grammar.specs.KeptLines.{is_bad_escape}
+use Rattle.starlark_grammar.specs.KeptLines.{is_bad_escape, is_unfinished}
 use Rattle.starlark_grammar.specs.Margins as grammar
 use Rattle.starlark_grammar.specs.Pieces as pieces
 use Rattle.starlark_grammar.specs.Tokens.{Fault, Indentation, InvalidTab, Spanned}
@@ -123,6 +123,7 @@ record MarginSearch (text : Text) (begin len : ℕ) (margin : Margin) (fault : S
   pub reads : 5 * margin.at + margin.blanks + 5 + search_reads text fault + 5 * len ≤ 10 * (restart text fault - begin) + 8
   pub keeps_none : may_keep fault.node ≡ true → is_margin_tab text fault ≡ true
   pub good : is_bad_escape fault.node ≡ false
+  pub finished : is_unfinished fault.node ≡ false
 
 never_kept : may_keep Indentation ≡ true → ⊥
 unfolding may_keep
@@ -148,13 +149,13 @@ margin_search text begin len end margin fault there inside is found = λ node vi
         let line = next_line_later text (begin + len + seen.at) (margin_line text (begin + line_end_len (drop begin text))) (last_there text begin len there) in
         let in_margin = tab_there text begin len (begin + end) node there tab in
         let least : begin + len + (margin.at + margin.blanks) ≤ restart text spanned = omega (arith, whole, last_line text (begin + len) (omega (arith, whole, inside)), line, restart_margin text spanned in_margin) in
-        record { after = least; reads = omega (arith, least, some_blank seen.blanks e, is.blanks.len, tab_search text spanned (ap is_tab tab)); keeps_none = λ keeps. in_margin; good = ap is_bad_escape tab }
+        record { after = least; reads = omega (arith, least, some_blank seen.blanks e, is.blanks.len, tab_search text spanned (ap is_tab tab)); keeps_none = λ keeps. in_margin; good = ap is_bad_escape tab; finished = ap is_unfinished tab }
     by node same false e fails =
         let spanned : Spanned Fault = record { begin = begin; node = node; end = begin + end } in
         let other : node ≡ Indentation = same ∙ sym (ap fails_with fails) in
         let last : end ≡ len + margin_len seen = sym (ap fails_to fails) in
         let least : begin + len + (margin.at + margin.blanks) ≤ restart text spanned = omega (arith, last, whole, restart_end text spanned (omega (arith, last, whole, inside))) in
-        record { after = least; reads = omega (arith, least, last, whole, stopped_end text spanned, other_search text spanned (ap is_tab other)); keeps_none = λ keeps. absurd (never_kept (sym (ap may_keep other) ∙ keeps)); good = ap is_bad_escape other }
+        record { after = least; reads = omega (arith, least, last, whole, stopped_end text spanned, other_search text spanned (ap is_tab other)); keeps_none = λ keeps. absurd (never_kept (sym (ap may_keep other) ∙ keeps)); good = ap is_bad_escape other; finished = ap is_unfinished other }
 
 -- the reads at the fault of a margin after a newline
 pub refused_reads : (text : Text) (len end : ℕ) (margin : Margin) (fault : LexemeError) (old new : Reader) → IsLineEnd len (drop old.at text) → old.at + len + (margin.at + margin.blanks) ≤ length text
@@ -167,7 +168,7 @@ refused_reads text len end margin fault old new there inside is found stops read
       read.0,
       λ node view.
           let search = margin_search text old.at len end margin fault (inr there) inside is found node view in
-          (omega (arith, search.reads, read.1), none, omega (arith, search.after), search.keeps_none, search.good),
+          (omega (arith, search.reads, read.1), none, omega (arith, search.after), search.keeps_none, search.good, search.finished),
     )
 
 -- the reads at the fault of a text's first margin
@@ -181,5 +182,5 @@ first_refused_reads text end margin fault old new inside is found stops read owe
       omega arith,
       λ node view.
           let search = margin_search text 0 0 end margin fault (inl (refl, refl)) (omega (arith, inside)) is found node view in
-          (omega (arith, search.after, search.reads, read, owes, has.1), ((λ keeps inside. let tab = search.keeps_none keeps in cc), (λ bad. let good = search.good in cc))),
+          (omega (arith, search.after, search.reads, read, owes, has.1), ((λ keeps inside. let tab = search.keeps_none keeps in cc), (λ bad. let good = search.good in cc), (λ cut. let finished = search.finished in cc))),
     )

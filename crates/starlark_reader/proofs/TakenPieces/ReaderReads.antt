@@ -1,16 +1,19 @@
 -- The reads of a reader after each of its steps.
-use Rattle.std.proofs.Common.{◌≡◌, ◌≤◌, ◌<◌, ◌+◌, ◌*◌, ℕ, Bool, List, Option, drop, length, refl, subst, sym, arith}
-use Rattle.std.specs.Prelude.{IfErr, Result, Ok, Err}
-use Rattle.starlark_grammar.specs.AfterFaults.{next_line}
+use Rattle.std.proofs.Common.{◌≡◌, ◌≤◌, ◌<◌, ◌+◌, ◌*◌, ◌∙◌, ℕ, Bool, false, true, List, Option, Some, ap, drop, length, refl, subst, sym, arith}
+use Rattle.std.specs.Prelude.{IfErr, Result, Ok, Err, if◌then◌else◌}
+use Rattle.starlark_grammar.specs.AfterFaults.{is_tab, next_line}
 use Rattle.starlark_grammar.specs.Depths.{InText, mode_after}
 use Rattle.starlark_grammar.specs.Inner.Openings.{opening_view}
+use Rattle.starlark_grammar.specs.KeptLines.{is_unfinished}
 use Rattle.starlark_grammar.specs.Reading.{History}
 use Rattle.starlark_grammar.specs.Words.{Text}
-use Rattle.starlark_grammar.specs.Tokens.{Fault, Spanned, Token}
+use Rattle.starlark_grammar.specs.Tokens.{Fault, Spanned, Token, UnfinishedStringLiteral}
 use Rattle.starlark_grammar.specs.declared.class.LiteralKind.{LiteralKind}
 use Rattle.starlark_grammar.specs.declared.class.Opening as code
 use Rattle.starlark_grammar.specs.declared.class.Quote.{Quote}
+use Rattle.starlark_token.specs.Lexemes.{fault_view}
 use Rattle.starlark_token.specs.TokenViews.{TokenView}
+use Rattle.starlark_token.specs.declared.lexeme_error.LexemeError.{LexemeError}
 use Rattle.starlark_reader.specs.Inner.Reader.{IsAhead, IsLeft, IsStateAfter, Origin, history_since, step_here}
 use Rattle.starlark_words.specs.Inner.LiteralViews.{fstring_literal, single_literal}
 use Rattle.starlark_words.specs.Inner.PlainRuns.{IsRun}
@@ -19,7 +22,7 @@ use Rattle.starlark_reader.specs.Inner.Lookaheads.{IsTextRun}
 use Rattle.starlark_reader.specs.Inner.Nesting.{Represents}
 use Rattle.starlark_reader.specs.Inner.Pending.{IsIdle, owed}
 use Rattle.starlark_reader.specs.Inner.StepViews.{IsStep, ReadStep}
-use Rattle.starlark_reader.specs.Inner.ReadBounds.{AreStepReads, HasRead, HasReadAt, HasScannedHere, IsMarginRead, IsPassed, IsPassedBy, LeavesReads}
+use Rattle.starlark_reader.specs.Inner.ReadBounds.{AreStepReads, HasRead, HasReadAt, HasScannedHere, IsMarginRead, IsPassed, IsPassedBy, LeavesReads, is_tab_view}
 use Rattle.starlark_reader.proofs.TakenPieces.Here.{fault_here}
 use Rattle.starlark_reader.proofs.TakenPieces.KeptReads.{moved_passed}
 use Rattle.starlark_reader.proofs.TakenPieces.SearchReads.{fault_restart, step_search}
@@ -39,6 +42,14 @@ pub onward_reads : (text : Text) (len before : ℕ) (old new : Reader) → IsRea
 onward_reads text len before old new has read passed =
     subst (HasReadAt text new) (sym passed.1) (omega (arith, has.0, read.0, passed.0.0, passed.0.1), omega (arith, has.1, read.1, passed.0.0, passed.0.1, passed.0.2))
 
+-- the reads at an unfinished literal
+unfinished_reads : (begin end line : ℕ) (fault : LexemeError) (node : Fault) (before after : ℕ) → fault_view fault ≡ Some node → is_unfinished node ≡ true → AreStepReads 0 10 line 10 (steps.Fault begin fault end) before after → after ≤ before + (10 * end + 10)
+unfinished_reads begin end line fault node before after view cut reads = subst (λ tab. after ≤ before + (if tab then 5 * line + 3 else 10 * end + 10)) (ap is_tab_view view ∙ other node cut) reads.1
+  where
+    other : (node : Fault) → is_unfinished node ≡ true → is_tab node ≡ false
+    other UnfinishedStringLiteral cut = refl
+    other node cut = cc
+
 -- the reads after a token or an f-string text, or at a fault
 pub step_reads : {origin : Origin} → (text : Text) (before : ℕ) (history : History) (step : ReadStep) (old new : Reader) → IsStateAfter origin text history old → IsStep (step_here text history old) step
     → IsReadBefore before old.at (owed old.pending) → AreStepReads 0 10 (next_line (drop old.at text) 0) 10 step before old.reads → LeavesReads 0 (drop old.at text) step before old.reads → IsPassed old step new → HasRead text new
@@ -51,7 +62,7 @@ step_reads text before history (steps.Fault begin fault end) old new kept stands
       λ node is.
           let after = fault_restart text old.at begin end node kept.inside here.1 in
           let search = step_search text old.at begin end fault node is kept.inside here.1 in
-          (omega (arith, after, search, has.1, read.1, passed.0.1, passed.0.2), ((λ keeps inside. omega (arith, moved_passed text old.at begin end node, (leaves node is).0 keeps, has.1, passed.0.1, passed.0.2)), (λ bad. omega (arith, (leaves node is).1 bad, has.1, passed.0.1, passed.0.2)))),
+          (omega (arith, after, search, has.1, read.1, passed.0.1, passed.0.2), ((λ keeps inside. omega (arith, moved_passed text old.at begin end node, (leaves node is).0 keeps, has.1, passed.0.1, passed.0.2)), (λ bad. omega (arith, (leaves node is).1 bad, has.1, passed.0.1, passed.0.2)), (λ cut. omega (arith, unfinished_reads begin end (next_line (drop old.at text) 0) fault node before old.reads is cut read, has.1, passed.0.1, passed.0.2)))),
     )
 
 -- the reads after a newline and its margin
@@ -61,7 +72,7 @@ line_reads text len before old new inside has read some margin = go new.stage ma
   where
     go : (stage : Stage) → IsMarginRead text len old new stage → HasReadAt text new stage
     go stages.Onward margin = (omega (arith, has.0, read.0, margin.0.0, margin.1), omega (arith, has.1, read.1, some, margin.0.1, margin.1))
-    go (stages.Fault begin fault end) margin = (omega (arith, has.0, read.0, margin.0, margin.1), λ node is. let there = margin.2 node is in (omega (arith, has.1, read.1, there.0, there.1, there.2), ((λ keeps inside. let tab = there.3 keeps in cc), (λ bad. let good = there.4 in cc))))
+    go (stages.Fault begin fault end) margin = (omega (arith, has.0, read.0, margin.0, margin.1), λ node is. let there = margin.2 node is in (omega (arith, has.1, read.1, there.0, there.1, there.2), ((λ keeps inside. let tab = there.3 keeps in cc), (λ bad. let good = there.4 in cc), (λ cut. let finished = there.5 in cc))))
     go stage margin = absurd margin
 
 -- the run that was peeked after an opener, …

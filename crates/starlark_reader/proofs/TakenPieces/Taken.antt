@@ -1,5 +1,5 @@
 -- A reader before and after a piece.
-use Rattle.std.proofs.Common.{◌≡◌, ℕ, zero, suc, ◌+◌, ◌≤◌, ◌<◌, Bool, true, false, not, List, [], ◌∷◌, ◌++◌, length, drop, map, refl, ap, ◌∙◌, sym, subst, Option, Some, None, arith, append-nil, length-append, nat_lt, rules}
+use Rattle.std.proofs.Common.{◌≡◌, ℕ, zero, suc, ◌+◌, ◌≤◌, ◌<◌, ◌^◌, Bool, true, false, not, List, [], ◌∷◌, ◌++◌, length, drop, map, refl, ap, ◌∙◌, sym, subst, Option, Some, None, arith, append-nil, length-append, nat_lt, rules}
 use Rattle.std.specs.Prelude.{⊤, ◌==◌, ◌&&◌, if◌then◌else◌, count_by, option_to_list, replicate}
 use Rattle.std.specs.List.{AllByRecursion}
 use Rattle.std.specs.Str.{IsCharBoundary, IsUtf8}
@@ -116,7 +116,7 @@ first_is_quiet levels text piece e = subst (Each IsLayout (λ fault. ⊤)) e (ma
 
 -- the state after one more piece
 kept_after : {origin : Origin} → (text : Text) (history : History) (at : ℕ) (new : Reader) (piece : Piece) → IsUtf8 text → IsCharBoundary text at → next_step language history (drop at text) ≡ Stands piece
-    → Represents (tokens_onto history.tokens piece.lexemes) new.nesting → new.levels ≡ open_widths (history.widths ++ option_to_list piece.width) → before_view new.before ≡ piece.sort → new.at ≡ at + piece.len → bracket_count new.nesting ≤ new.at
+    → Represents (tokens_onto history.tokens piece.lexemes) new.nesting → new.levels ≡ open_widths (history.widths ++ option_to_list piece.width) → before_view new.before ≡ piece.sort → new.at ≡ at + piece.len → bracket_count new.nesting + length text < 2 ^ 32 + new.at
     → history_after (after history piece) (drop piece.len (drop at text)) ≡ history_since origin text → at + piece.len + read_len (after history piece) (drop piece.len (drop at text)) ≡ reach_since origin text → (origin ≡ Start → IsReadTo text (after history piece) new.at)
     → IsStateAfter origin text (after history piece) new
 unfolding after
@@ -161,7 +161,7 @@ read_piece {origin = origin} text whole history at given new piece goes kept is_
     }
 
 took_by : {origin : Origin} → (text : Text) (history : History) (old : Reader) (given : List (Spanned TokenView)) (new : Reader) (piece : Piece) → IsUtf8 text → IsStateAfter origin text history old → step_here text history old ≡ Stands piece → AreCutsBehind origin text history old.at piece new
-    → Represents (tokens_onto history.tokens piece.lexemes) new.nesting → new.levels ≡ open_widths (history.widths ++ option_to_list piece.width) → before_view new.before ≡ piece.sort → new.at ≡ old.at + piece.len → bracket_count new.nesting ≤ new.at
+    → Represents (tokens_onto history.tokens piece.lexemes) new.nesting → new.levels ≡ open_widths (history.widths ++ option_to_list piece.width) → before_view new.before ≡ piece.sort → new.at ≡ old.at + piece.len → bracket_count new.nesting + length text < 2 ^ 32 + new.at
     → new.stage ≡ stage.Onward → HandsPast text given new.pending (map (moved old.at) piece.lexemes) → IsReadPast origin text (left_here text history old) given new
 took_by text history old given new piece utf8 kept stands cuts nesting levels before is_at few is_onward hands =
     read_piece text (left_here text history old) history old.at given new piece (onward_stands history old.at (drop old.at text) piece (begun text history old kept) stands)
@@ -183,7 +183,7 @@ no_cut_in text history at piece read begun stands other x found = by found.n fou
 
 -- a piece that is no margin
 pub took_past : {origin : Origin} → (text : Text) (history : History) (old : Reader) (passed : List (Spanned TokenView)) (new : Reader) (piece : Piece) → IsUtf8 text → IsStateAfter origin text history old → step_here text history old ≡ Stands piece → is_layout piece.sort ≡ false
-    → Represents (tokens_onto history.tokens piece.lexemes) new.nesting → new.levels ≡ open_widths (history.widths ++ option_to_list piece.width) → before_view new.before ≡ piece.sort → new.at ≡ old.at + piece.len → bracket_count new.nesting ≤ new.at
+    → Represents (tokens_onto history.tokens piece.lexemes) new.nesting → new.levels ≡ open_widths (history.widths ++ option_to_list piece.width) → before_view new.before ≡ piece.sort → new.at ≡ old.at + piece.len → bracket_count new.nesting + length text < 2 ^ 32 + new.at
     → new.stage ≡ stage.Onward → HandsPast text passed new.pending (map (moved old.at) piece.lexemes) → IsReadPast origin text (left_here text history old) passed new
 took_past text history old passed new piece utf8 kept stands other nesting levels before =
     took_by text history old passed new piece utf8 kept stands
@@ -195,7 +195,7 @@ took_past text history old passed new piece utf8 kept stands other nesting level
     nesting levels before
 
 pub took : {origin : Origin} → (text : Text) (history : History) (old : Reader) (given : Option (ℕ × Token × ℕ)) (new : Reader) (piece : Piece) → IsUtf8 text → IsStateAfter origin text history old → step_here text history old ≡ Stands piece → is_layout piece.sort ≡ false
-    → Represents (tokens_onto history.tokens piece.lexemes) new.nesting → new.levels ≡ open_widths (history.widths ++ option_to_list piece.width) → before_view new.before ≡ piece.sort → new.at ≡ old.at + piece.len → bracket_count new.nesting ≤ new.at
+    → Represents (tokens_onto history.tokens piece.lexemes) new.nesting → new.levels ≡ open_widths (history.widths ++ option_to_list piece.width) → before_view new.before ≡ piece.sort → new.at ≡ old.at + piece.len → bracket_count new.nesting + length text < 2 ^ 32 + new.at
     → new.stage ≡ stage.Onward → Hands text given new.pending (map (moved old.at) piece.lexemes) → IsRead origin text (left_here text history old) given new
 took text history old given new piece = took_past text history old (map lexeme_view (option_to_list given)) new piece
 
@@ -212,7 +212,7 @@ start_step : (widths : List ℕ) (text : Text) (step : Step) → first_margin (o
 start_step widths text step is start = ap (λ levels. first_margin levels text) (sym (flat_start widths start)) ∙ is
 
 took_first : (widths : List ℕ) (text : Text) (new : Reader) (piece : Piece) → IsUtf8 text → first_margin (open_widths widths) text ≡ Stands piece → AreCutsBehind (Line widths) text (at_line widths) 0 piece new
-    → Represents (tokens_onto [] piece.lexemes) new.nesting → new.levels ≡ open_widths (widths ++ option_to_list piece.width) → before_view new.before ≡ piece.sort → new.at ≡ 0 + piece.len → bracket_count new.nesting ≤ new.at
+    → Represents (tokens_onto [] piece.lexemes) new.nesting → new.levels ≡ open_widths (widths ++ option_to_list piece.width) → before_view new.before ≡ piece.sort → new.at ≡ 0 + piece.len → bracket_count new.nesting + length text < 2 ^ 32 + new.at
     → new.stage ≡ stage.Onward → Hands text None new.pending (map (moved 0) piece.lexemes) → IsRead (Line widths) text (outcome_after (at_line widths) text) None new
 took_first widths text new piece utf8 stands cuts nesting levels before is_at few is_onward hands =
     let history = at_line widths in
@@ -407,7 +407,7 @@ module _ {origin : Origin} (text : Text) (history : History) (old : Reader) (len
   line_taken new whole found is utf8 taken of nesting before is_at is_onward =
       let stands : step_here text history old ≡ Stands taken.piece = line_here ∙ taken.stands in
       let layout = line_is_quiet len (open_widths history.widths) (drop (old.at + len) text) taken.piece taken.stands in
-      let few : bracket_count old.nesting ≤ new.at = omega (arith, kept.few, is_at) in
+      let few : bracket_count old.nesting + length text < 2 ^ 32 + new.at = omega (arith, kept.few, is_at) in
       let hands : Hands text (Some (old.at, found, old.at + len)) new.pending (map (moved old.at) taken.piece.lexemes) =
       rw taken.lexemes (hands_first text new.pending (old.at, found, old.at + len) (record { begin = old.at; node = grammar.Newline; end = old.at + len }) (pending_lexemes text new.pending) taken.is_pending
       (ap (λ view. record { begin = old.at; node = view; end = old.at + len }) is) refl) in
@@ -440,11 +440,11 @@ abbrev rest_after : Text → List ℕ → Piece → ℕ
 rest_after text widths piece = length (remaining_outcome (after (at_line widths) piece) (0 + piece.len) (drop piece.len (drop 0 text))).lexemes
 
 module _ (widths : List ℕ) (text : Text) (old new : Reader) (is_new : IsNew widths old) where
-  pub margin_taken : (whole : ℕ) → IsUtf8 text → IsTaken text 0 (first_margin (open_widths widths) text) [] widths new.levels new.pending whole
+  pub margin_taken : (whole : ℕ) → IsUtf8 text → length text < 2 ^ 32 → IsTaken text 0 (first_margin (open_widths widths) text) [] widths new.levels new.pending whole
       → IsOfMargin 0 (margin_of (drop 0 text)).at old.levels new.pending → new.nesting ≡ old.nesting → new.before ≡ sort.Layout → new.at ≡ old.at + whole → new.stage ≡ stage.Onward → IsRead (Line widths) text (outcome_after (at_line widths) text) None new
-  margin_taken whole utf8 taken of nesting before is_at is_onward =
+  margin_taken whole utf8 short taken of nesting before is_at is_onward =
       let layout = first_is_quiet (open_widths widths) text taken.piece taken.stands in
-      let few : bracket_count old.nesting ≤ new.at = omega (arith, is_new.few) in
+      let few : bracket_count old.nesting + length text < 2 ^ 32 + new.at = omega (arith, is_new.few, short) in
       let end : new.at ≡ 0 + taken.piece.len = omega (arith, is_at, is_new.at, taken.whole) in
       took_first widths text new taken.piece utf8 taken.stands (record { cut = cut; cuts = cuts })
       (rw nesting (quiet_kept taken.piece.lexemes [] old.nesting layout.tokens is_new.nesting)) taken.open_now (ap before_view before ∙ sym layout.sort) end (rw nesting few) is_onward (hands_later text new.pending _ taken.is_pending taken.lexemes)

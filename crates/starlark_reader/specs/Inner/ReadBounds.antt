@@ -2,7 +2,7 @@
 use Rattle.std.specs.Prelude.{◌≡◌, ◌≤◌, ◌<◌, ◌+◌, ◌-◌, ◌*◌, if◌then◌else◌, Bool, true, false, ℕ, Option, None, Some, length, ⊤}
 use Rattle.starlark_grammar.specs.AfterFaults.{is_margin_tab, is_tab, restart}
 use Rattle.starlark_grammar.specs.Inner.KeptFaults.{may_keep}
-use Rattle.starlark_grammar.specs.KeptLines.{is_bad_escape, passed_end}
+use Rattle.starlark_grammar.specs.KeptLines.{is_bad_escape, is_unfinished, passed_end}
 use Rattle.starlark_grammar.specs.Tokens.{Fault, Spanned}
 use Rattle.starlark_grammar.specs.Words.{Text}
 use Rattle.starlark_token.specs.Lexemes.{fault_view}
@@ -110,12 +110,14 @@ abbrev pub most_reads_to : Text → Spanned Fault → ℕ
 most_reads_to text fault = 16 * (restart text fault + 1)
 
 -- reads at a fault that keeps its line leave one for each byte that is passed with it and one more:
--- all are at most ten for each byte up to the last of these and two more; and at a bad escape in a
--- literal they are at most ten for each byte before it, one for each of its own, and eight more
+-- all are at most ten for each byte up to the last of these and two more; at a bad escape in a
+-- literal they are at most ten for each byte before it, one for each of its own, and eight more; and
+-- at an unfinished literal ten for each byte up to its end, and twelve more
 abbrev pub LeavesPassed : (text : Text) → Spanned Fault → (reads : ℕ) → Type 0
 LeavesPassed text fault reads =
     (may_keep fault.node ≡ true → is_margin_tab text fault ≡ false → reads + (passed_end text fault - fault.begin) + 1 ≤ 10 * passed_end text fault + 2)
     × (is_bad_escape fault.node ≡ true → reads ≤ 10 * fault.begin + (fault.end - fault.begin) + 8)
+    × (is_unfinished fault.node ≡ true → reads ≤ 10 * fault.end + 12)
 
 -- reads of a literal's body after an opening of `passed` bytes, up to its bad escape
 abbrev pub AreEscapeReads : (passed : ℕ) → ReadStep → (before after : ℕ) → Type 0
@@ -129,7 +131,7 @@ IsMarginRead text len old new stage.Onward =
     AreReads (new.at - (old.at + len)) (5 * (new.at - (old.at + len)) + 5) old.reads new.reads × (old.at + len + owed new.pending ≤ new.at)
 IsMarginRead text len old new (stage.Fault begin fault end) =
     (begin ≡ old.at) × (more_reads old.reads 0 ≤ new.reads)
-    × AtFault begin fault end (λ spanned. (new.reads + search_reads text spanned + 5 * len ≤ old.reads + 10 * (restart text spanned - old.at) + 8) × (owed new.pending ≡ 0) × (old.at ≤ restart text spanned) × (may_keep spanned.node ≡ true → is_margin_tab text spanned ≡ true) × (is_bad_escape spanned.node ≡ false))
+    × AtFault begin fault end (λ spanned. (new.reads + search_reads text spanned + 5 * len ≤ old.reads + 10 * (restart text spanned - old.at) + 8) × (owed new.pending ≡ 0) × (old.at ≤ restart text spanned) × (may_keep spanned.node ≡ true → is_margin_tab text spanned ≡ true) × (is_bad_escape spanned.node ≡ false) × (is_unfinished spanned.node ≡ false))
 IsMarginRead text len old new stage = ⊥
 
 -- the reads at a stage: one to ten for each byte passed; at a fault one or more

@@ -8,6 +8,7 @@ use Rattle.starlark_grammar.specs.Cuts.{is_layout}
 use Rattle.starlark_grammar.specs.Found.{at_line}
 use Rattle.starlark_grammar.specs.Depths.{mode_after}
 use Rattle.starlark_grammar.specs.Front.{language_front}
+use Rattle.starlark_grammar.specs.KeptLines.{with_brackets}
 use Rattle.starlark_grammar.specs.Pieces as pieces
 use Rattle.starlark_grammar.specs.Pieces.{Before, Fails, Gap, Layout, Other, Step, Piece, first_margin, is_bang}
 use Rattle.starlark_words.specs.Inner.ScannedWords.{word_view}
@@ -96,15 +97,16 @@ pub record IsReadTo (text : Text) (history : History) (at : ℕ) : Type 0 where
   pub is_history : after_all nothing pieces ≡ history
   pub reach : pieces_len pieces ≡ at
 
--- the reader stores what the history says at its offset: tokens, widths and last piece; reading on
--- from there leads to the history at the text's end
+-- the reader stores what the history says at its offset: tokens, widths and last piece, with room to
+-- count a bracket for each byte that is left; reading on from there leads to the history at the
+-- text's end
 pub record IsStateAfter (origin : Origin) (text : Text) (history : History) (reader : Reader) : Type 0 where
   pub nesting : Represents history.tokens reader.nesting
   pub levels : reader.levels ≡ open_widths history.widths
   pub before : before_view reader.before ≡ history.before
   pub inside : reader.at ≤ length text
   pub boundary : IsCharBoundary text reader.at
-  pub few : bracket_count reader.nesting ≤ reader.at
+  pub few : bracket_count reader.nesting + length text < 2 ^ 32 + reader.at
   pub onward : history_after history (drop reader.at text) ≡ history_since origin text
   pub reach : reader.at + read_len history (drop reader.at text) ≡ reach_since origin text
   pub read : origin ≡ Start → IsReadTo text history reader.at
@@ -132,6 +134,10 @@ pub record IsStateAtFault (origin : Origin) (text : Text) (reader : Reader) : Ty
 -- the history after a fault that keeps its line: all stays open, and its last piece is neither a margin nor a gap
 abbrev pub kept_history : History → History
 kept_history history = record history { before = Other }
+
+-- the history after an open quote of some bytes: their brackets count
+abbrev pub quoted_history : History → Text → History
+quoted_history history quote = record history { tokens = with_brackets history.tokens quote; before = Other }
 
 -- whether no piece of a text was read
 abbrev pub has_read_none : Reader → Bool

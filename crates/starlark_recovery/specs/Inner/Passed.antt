@@ -1,9 +1,11 @@
 -- Faults that are passed.
-use Rattle.std.specs.Prelude.{◌≡◌, ◌+◌, ◌==◌, ◌&&◌, ◌||◌, ℕ, Bool, true, false, not, codes, drop, string_bytes}
+use Rattle.std.specs.Prelude.{◌≡◌, ◌+◌, ◌==◌, ◌&&◌, ◌||◌, ℕ, Bool, true, false, not, codes, drop, string_bytes, Option, Some, None, ⊤}
+use Rattle.std.specs.Option.{option_map}
 use Rattle.std.specs.Str.{IsCharBoundary, bytes_eq}
 use Rattle.starlark_grammar.specs.Margins.{begins_with_line_end}
 use Rattle.starlark_base.specs.Sources.{SourceFile}
-use Rattle.starlark_grammar.specs.Tokens.{Fault, Spanned, moved}
+use Rattle.starlark_grammar.specs.Numbers.{integer_of, is_number}
+use Rattle.starlark_grammar.specs.Tokens.{Fault, Identifier, Int, Spanned, Token, moved}
 use Rattle.starlark_grammar.specs.Words.{Text}
 use Rattle.starlark_lexemes.specs.Lexer.{search_reads}
 use Rattle.starlark_grammar.specs.Recovery.{restart}
@@ -12,6 +14,7 @@ use Rattle.starlark_recovery.specs.declared.literal_rests.LiteralRest.{LiteralRe
 use Rattle.starlark_recovery.specs.declared.passed_faults.Passed.{Passed}
 use Rattle.starlark_errors.specs.Exceptions.{IsException}
 use Rattle.starlark_words.specs.Inner.Reads.{AreReads}
+use Rattle.starlark_token.specs.TokenViews.{TokenView, Whole}
 use Rattle.starlark_token.specs.declared.lexeme_error.LexemeError.{LexemeError}
 use Rattle.starlark_token.specs.declared.lexeme_error.LexemeError.TheVariants as error
 
@@ -32,6 +35,26 @@ error_keeps_line text begin it follows_comment = false
 abbrev pub is_bad_escape_error : LexemeError → Bool
 is_bad_escape_error (error.InvalidEscapeSequence text) = not (bytes_eq (string_bytes text) (codes "\\"))
 is_bad_escape_error it = false
+
+-- where the error is that of an integer with a leading 0, its word is a number
+abbrev pub IsNumber : LexemeError → Type 0
+IsNumber (error.StartsZero word) = is_number 10 (string_bytes word) ≡ true
+IsNumber it = ⊤
+
+-- the token that stands for the word of an error
+abbrev pub word_token : LexemeError → Option Token
+word_token (error.ReservedKeyword word) = Some (Identifier (string_bytes word))
+word_token (error.StartsZero word) = Some (Int (integer_of 10 (string_bytes word)))
+word_token it = None
+
+-- the lexeme that stands for it, so many bytes later
+abbrev pub word_stand_in : (begin : ℕ) → ℕ × LexemeError × ℕ → Option (Spanned TokenView)
+word_stand_in begin fault = option_map (λ (token : Token). record { begin = begin + fault.0; node = Whole token; end = begin + fault.2 }) (word_token fault.1)
+
+-- whether an error is an unfinished literal
+abbrev pub is_unfinished_error : LexemeError → Bool
+is_unfinished_error error.UnfinishedStringLiteral = true
+is_unfinished_error it = false
 
 -- what is left of a literal, as the grammar sees it
 abbrev pub rest_view : LiteralRest → grammar.LiteralRest

@@ -36,7 +36,7 @@ returns-in-None-clause-ahead c = λ origin lexemes fault so_far. by origin lexem
         let laid = rw c.in-None.is at (c.in_ok-fault.ensures.laid widths (margin_of text) is_new.levels margin) in
         let taken = first_taken text c.args.self.now.levels c.take_margin.new.levels widths c.margin_of-margin.result c.take_margin.new.pending is_new.levels c.requires.sound.text.utf8 margin c.in_ok-fault.ensures.place laid in
         let of : IsOfMargin 0 (margin_of (drop 0 text)).at c.args.self.now.levels c.take_margin.new.pending = rw margin.at at c.in_ok-fault.ensures.place in
-        let read = margin_taken widths text c.args.self.now c.step_over.new.self is_new _ c.requires.sound.text.utf8 (rw new taken) (rw new of)
+        let read = margin_taken widths text c.args.self.now c.step_over.new.self is_new _ c.requires.sound.text.utf8 c.requires.sound.text.fits (rw new taken) (rw new of)
         (ap (λ (reader : Reader). reader.nesting) new) (ap (λ (reader : Reader). reader.before) new) (ap (λ (reader : Reader). reader.at) new) (ap (λ (reader : Reader). reader.stage) new) in
         first_ahead text c.args.self.now c.step_over.new.self lexemes fault read c.requires.idle ahead
 

@@ -26,5 +26,5 @@ returns c = λ found stopped raw line.
     let opens : KeepsOpen course part found c.args.end (old.state.reader.reads + c.args.looked + 1) = subst (λ n. KeepsOpen course part found n (old.state.reader.reads + c.args.looked + 1)) (sym end) (keeps_open old found stopped line c.args.looked paid) in
     let lexing : IsLexingIn (course_past course last part) part c.go_on.new.self =
     subst (λ n. IsLexingIn (course_past course n part) part c.go_on.new.self) end (c.go_on.ensures.lexing course part found stopped.here opens (rw end (course_again old found stopped line))) in
-    kept_on old found stopped line c.go_on.new.self c.saturating_add-self.result lexing c.go_on.ensures.count c.go_on.ensures.going c.go_on.ensures.text c.args.peeked c.requires.some c.requires.few (omega (arith, c.saturating_add-self.ensures))
+    kept_on old found stopped line c.go_on.new.self c.saturating_add-self.result lexing c.go_on.ensures.count c.go_on.ensures.going c.go_on.ensures.text c.args.peeked c.requires.some c.requires.few (omega (arith, c.saturating_add-self.ensures)) c.args.stand_in (c.requires.stand_in found stopped raw)
     c.in-Ok.given (raw_thrown old.code_map old.begin found c.args.fault c.in-Ok.given raw c.in-Ok.ensures)

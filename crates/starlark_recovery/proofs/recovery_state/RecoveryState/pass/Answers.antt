@@ -5,12 +5,13 @@ use Rattle.starlark_grammar.specs.Words.{Text}
 use Rattle.starlark_lexemes.specs.Inner.LexerStates.{AreReadsTo, course_of}
 use Rattle.starlark_reader.specs.Inner.Reader.{IsRaw}
 use Rattle.starlark_recovery.specs.Inner.Passed.{error_keeps_line}
-use Rattle.starlark_recovery.specs.Inner.RecoveryStates.{IsStopped, is_end, part_of, rest_keeps, stays_open_here, with_literal_here}
+use Rattle.starlark_recovery.specs.Inner.RecoveryStates.{IsStopped, is_end, is_open_here, part_of, rest_keeps, stays_open_here, with_literal_here}
 use Rattle.starlark_recovery.specs.Restarts.{IsPlaceOf}
 use Rattle.starlark_recovery.proofs.Passes.{bad_kind, keeps_is, tab_kind}
-use Rattle.starlark_recovery.proofs.RecoveryStates.{later, other_here, own_paid}
+use Rattle.starlark_recovery.proofs.RecoveryStates.{later, other_here, own_paid, part_begins, part_len}
+use Rattle.starlark_recovery.proofs.StandingLexemes.{number_here, word_stands_for}
 use Rattle.starlark_recovery.proofs.recovery_state.RecoveryState.pass.Goals as goal
-use Rattle.starlark_recovery.proofs.recovery_state.RecoveryState.pass.Goals.{After-is_bad_escape, After-keeps_line}
+use Rattle.starlark_recovery.proofs.recovery_state.RecoveryState.pass.Goals.{After-is_bad_escape, After-is_open_quote, After-keeps_line}
 
 -- whether it is a bad escape
 bad : (c : After-is_bad_escape) (found : Spanned Fault) → IsRaw found c.args.fault → is_bad_escape found.node ≡ c.is_bad_escape.result
@@ -21,6 +22,22 @@ pass_literal-requires c = (c.requires.0, c.requires.1, c.requires.2, bad (goal.a
 
 pub returns-then-is_bad_escape : goal.returns-then-is_bad_escape
 returns-then-is_bad_escape c = λ found stopped raw. c.pass_literal.ensures found stopped raw (bad (goal.at.returns-then-is_bad_escape c).After-is_bad_escape found raw ∙ c.if-is_bad_escape.true)
+
+-- whether it is an open quote
+cut : (c : After-is_open_quote) (found : Spanned Fault) (stopped : IsStopped c.args.self.now found) → IsRaw found c.args.fault → c.is_open_quote.result ≡ is_open_here c.args.self.now stopped.origin found
+cut c found stopped raw = c.is_open_quote.ensures found stopped raw.1 raw.2
+
+pub is_open_quote-requires : goal.is_open_quote-requires
+is_open_quote-requires c =
+    let old = c.args.self.now in
+    let is = c.requires.1.is_part in
+    omega (arith, c.requires.1.within.1, c.requires.2.2, part_len old is, part_begins old is)
+
+pub pass_quote-requires : goal.pass_quote-requires
+pass_quote-requires c = (c.requires.0, c.requires.1, c.requires.2, sym (cut (goal.at.pass_quote-requires c).After-is_open_quote c.requires.0 c.requires.1 c.requires.2) ∙ c.if-is_open_quote.true)
+
+pub returns-then-is_open_quote : goal.returns-then-is_open_quote
+returns-then-is_open_quote c = λ found stopped raw. c.pass_quote.ensures found stopped raw (sym (cut (goal.at.returns-then-is_open_quote c).After-is_open_quote found stopped raw) ∙ c.if-is_open_quote.true)
 
 -- whether another fault keeps its line
 lines : (c : After-keeps_line) (found : Spanned Fault) (stopped : IsStopped c.args.self.now found) → IsRaw found c.args.fault → c.keeps_line.result ≡ rest_keeps stopped.origin (part_of c.args.self.now) found
@@ -51,6 +68,7 @@ restart-requires c =
       stopped,
       raw,
       alone.0 ∙ sym (lines at found stopped raw) ∙ c.if-not-keeps_line.true,
+      sym (cut (goal.at.restart-requires c).After-is_open_quote found stopped raw) ∙ c.if-is_open_quote.false,
       raw.2 ∙ sym (ap (λ (f : Spanned Fault). f.end) alone.1),
       subst (λ (f : Spanned Fault). AreReadsTo (part_of old) f (old.state.reader.reads + 0)) (sym alone.1) paid,
     )
@@ -59,6 +77,7 @@ pub returns-then-not-keeps_line : goal.returns-then-not-keeps_line
 returns-then-not-keeps_line c = λ found stopped raw.
     let at = (goal.at.returns-then-not-keeps_line c).After-keeps_line in
     c.restart.ensures found stopped raw ((other at found stopped raw).0 ∙ sym (lines at found stopped raw) ∙ c.if-not-keeps_line.true)
+    (sym (cut (goal.at.returns-then-not-keeps_line c).After-is_open_quote found stopped raw) ∙ c.if-is_open_quote.false)
 
 pub keep-requires-clause-fault : goal.keep-requires-clause-fault
 keep-requires-clause-fault c =
@@ -79,6 +98,14 @@ keep-requires-clause-fault c =
       end ∙ ap (passed_end (part_of old)) (sym alone.1),
       (omega (arith, paid.0, end, raw.0), omega (arith, paid.1, end, raw.0)),
     )
+
+pub word_stand_in-requires-clause-number : goal.word_stand_in-requires-clause-number
+word_stand_in-requires-clause-number c = number_here c.args.self.now c.requires.0 c.requires.1 c.args.fault c.requires.2
+
+pub keep-requires-clause-stand_in : goal.keep-requires-clause-stand_in
+keep-requires-clause-stand_in c = λ found stopped raw.
+    let at = (goal.at.keep-requires-clause-stand_in c).After-keeps_line in
+    word_stands_for c.args.self.now found stopped c.args.fault raw (sym (lines at found stopped raw) ∙ c.if-not-keeps_line.false) c.in-Ok.stand_in c.in-Ok.ensures
 
 pub returns : goal.returns
 returns c = λ found stopped raw.
