@@ -237,13 +237,13 @@ IN_THE_MAKING = "starlark_tokens/src/reporting/reporter.rt"
 MOST_LINES = {
     "the grammar": 660,
     "`Lexer::next`": 896,
-    "`RecoveringLexer`": 993,
+    "`RecoveringLexer`": 1046,
     "`LexedText`": 881,
     "`run`, `run_edits`": 1052,
-    "the calls from C": 1562,
-    "reports, `starlark_tokens`": 2378,
-    "`Document`": 1010,
-    "checks": 391,
+    "the calls from C": 1612,
+    "reports, `starlark_tokens`": 2434,
+    "`Document`": 1063,
+    "checks": 394,
 }
 
 

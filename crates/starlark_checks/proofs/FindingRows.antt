@@ -43,12 +43,13 @@ unfolding finding open_brackets
 brackets = (refl, refl, refl, refl, refl)
 
 numbers : (value more : Integer) → Finds (codes "0o8") (spanned 0 (grammar.Int value) 1 ∷ spanned 1 (grammar.Identifier (codes "o8")) 3 ∷ []) (found_at NumberBeforeWord 0 3 ∷ [])
+    × Finds (codes "01a") (Fault ∷ spanned 0 (grammar.Int value) 2 ∷ spanned 2 (grammar.Identifier (codes "a")) 3 ∷ []) []
     × Finds (codes "1if") (spanned 0 (grammar.Int value) 1 ∷ fixed 1 terminal.If 3 ∷ []) (found_at NumberBeforeWord 0 3 ∷ [])
     × Finds (codes "1 if") (spanned 0 (grammar.Int value) 1 ∷ fixed 2 terminal.If 4 ∷ []) []
     × Finds (codes "1.2.3") (spanned 0 (grammar.Float (codes "1.2")) 3 ∷ spanned 3 (grammar.Float (codes ".3")) 5 ∷ []) (found_at NumberBeforeWord 0 5 ∷ [])
     × Finds (codes "1$2") (spanned 0 (grammar.Int value) 1 ∷ Fault ∷ spanned 2 (grammar.Int more) 3 ∷ []) []
 unfolding finding open_brackets
-numbers value more = (refl, refl, refl, refl, refl)
+numbers value more = (refl, refl, refl, refl, refl, refl)
 
 markers : Finds (codes "<<<<<<< a") (fixed 0 terminal.LessLess 2 ∷ []) (found_at MergeMarker 0 7 ∷ [])
     × Finds (codes "\n=======") (fixed 1 terminal.EqualEqual 3 ∷ []) (found_at MergeMarker 1 8 ∷ [])

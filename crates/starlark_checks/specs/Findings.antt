@@ -49,14 +49,19 @@ line_begin text [] = 0
 line_begin text (Lexeme lexeme ∷ before) = if keeps_line (open_in before) && has_line_end text (end_of before) lexeme.end then lexeme.begin else line_begin text before
 line_begin text (Fault ∷ before) = line_begin text before
 
--- the span of a lexeme, if it is a number
-abbrev pub span_of_number : Role → (begin end : ℕ) → Option (ℕ × ℕ)
-span_of_number Number begin end = Some (begin, end)
-span_of_number role begin end = None
+-- whether a fault was passed last
+abbrev pub follows_fault : List Passed → Bool
+follows_fault (Fault ∷ before) = true
+follows_fault before = false
 
--- the span of the lexeme right before, if that is a number
+-- the span of a lexeme, if it is a number; not of one right after a fault, since it may stand for that
+abbrev pub span_of_number : (is_after_fault : Bool) → Role → (begin end : ℕ) → Option (ℕ × ℕ)
+span_of_number false Number begin end = Some (begin, end)
+span_of_number is_after_fault role begin end = None
+
+-- the span of the lexeme right before, if that is such a number
 abbrev pub number_in : List Passed → Option (ℕ × ℕ)
-number_in (Lexeme lexeme ∷ before) = span_of_number (role_of lexeme.node) lexeme.begin lexeme.end
+number_in (Lexeme lexeme ∷ before) = span_of_number (follows_fault before) (role_of lexeme.node) lexeme.begin lexeme.end
 number_in before = None
 
 -- what is found at a number, name or keyword, by the number before it

@@ -20,7 +20,7 @@ use std::alloc::{AllocError, Global};
 #[derive(Drop)]
 pub struct Checker {
     stack: OpenStack,
-    /// The span of the last lexeme, if that is a number.
+    /// The span of the last lexeme, if that is a number and follows no fault.
     number: Option<(usize, usize)>,
     /// Where the last lexeme ends.
     last_end: usize,
@@ -28,6 +28,8 @@ pub struct Checker {
     /// expression that has to end on its line.
     line_begin: usize,
     has_fault: bool,
+    /// Whether a fault was passed last.
+    follows_fault: bool,
 }
 
 /// Whether an LF is between two offsets of a text. It has none where these aren't offsets in order.
@@ -47,12 +49,17 @@ fn after_number(number: Option<(usize, usize)>, begin: usize, end: usize) -> Opt
     }
 }
 
-/// The span of a lexeme, if it is a number.
-fn span_of_number(role: &Role, begin: usize, end: usize) -> Option<(usize, usize)>
-    ensures { result ≡ span_of_number role.now begin end }
+/// The span of a lexeme, if it is a number; not of one right after a fault, since it may stand for that.
+fn span_of_number(
+    follows_fault: bool,
+    role: &Role,
+    begin: usize,
+    end: usize,
+) -> Option<(usize, usize)>
+    ensures { result ≡ span_of_number follows_fault role.now begin end }
 {
     match role {
-        Role::Number => Some((begin, end)),
+        Role::Number if !follows_fault => Some((begin, end)),
         _ => None,
     }
 }
@@ -68,6 +75,7 @@ impl Checker {
             last_end: 0,
             line_begin: 0,
             has_fault: false,
+            follows_fault: false,
         }
     }
 
@@ -118,8 +126,9 @@ impl Checker {
         if !self.has_fault {
             self.stack.pass(role, begin, end)?;
         }
-        self.number = span_of_number(role, begin, end);
+        self.number = span_of_number(self.follows_fault, role, begin, end);
         self.last_end = end;
+        self.follows_fault = false;
         Ok(())
     }
 
@@ -158,6 +167,7 @@ impl Checker {
         self.stack.clear();
         self.number = None;
         self.has_fault = true;
+        self.follows_fault = true;
     }
 
     /// The next bracket that is never closed, first to last, once the text has ended.

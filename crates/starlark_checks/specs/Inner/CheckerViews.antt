@@ -1,6 +1,6 @@
 -- What a checker stores, and how it changes.
-use Rattle.std.specs.Prelude.{◌≡◌, ℕ, ◌&&◌, if◌then◌else◌, List}
-use Rattle.starlark_checks.specs.Findings.{Passed, Text, end_of, has_fault, has_line_end, line_begin, number_in, open_in, span_of_number}
+use Rattle.std.specs.Prelude.{◌≡◌, ℕ, false, ◌&&◌, if◌then◌else◌, List}
+use Rattle.starlark_checks.specs.Findings.{Passed, Text, end_of, follows_fault, has_fault, has_line_end, line_begin, number_in, open_in, span_of_number}
 use Rattle.starlark_checks.specs.OpenStack.{keeps_line, open_after}
 use Rattle.starlark_checks.specs.declared.checker.Checker.{Checker}
 use Rattle.starlark_checks.specs.declared.token_roles.Role.{Role}
@@ -12,6 +12,7 @@ pub record HasPassed (text : Text) (before : List Passed) (checker : Checker) : 
   pub last_end : checker.last_end ≡ end_of before
   pub line_begin : checker.line_begin ≡ line_begin text before
   pub has_fault : checker.has_fault ≡ has_fault before
+  pub follows_fault : checker.follows_fault ≡ follows_fault before
 
 -- the checker with the line end of a lexeme
 abbrev pub noted : Text → (begin end : ℕ) → Checker → Checker
@@ -23,6 +24,7 @@ noted text begin end checker = record checker {
 abbrev pub advanced : Role → (begin end : ℕ) → Checker → Checker
 advanced role begin end checker = record checker {
   stack = if checker.has_fault then checker.stack else open_after role begin end checker.stack;
-  number = span_of_number role begin end;
+  number = span_of_number checker.follows_fault role begin end;
   last_end = end;
+  follows_fault = false;
 }
