@@ -100,7 +100,7 @@ func ExampleRecover() {
 		}
 	}
 	// Output:
-	// 11 tokens
+	// 13 tokens
 	// SL008 BUILD:1:6: Parse error: integer cannot have leading 0, got `01`
 	// SL007 BUILD:2:3: Parse error: cannot use reserved keyword `class`
 	// SL004 BUILD:3:5: Parse error: unfinished string literal

@@ -219,7 +219,7 @@ func TestRecoverFindsAll(t *testing.T) {
 		"SL007 a.bzl:2:3: Parse error: cannot use reserved keyword `class`",
 		"SL004 a.bzl:3:5: Parse error: unfinished string literal",
 		"Identifier x", "Equal =", "OpeningSquare [", "Int 01", "Comma ,", "Identifier class",
-		"ClosingSquare ]", "Newline \n", "Identifier y", "Equal =", "Newline ",
+		"ClosingSquare ]", "Newline \n", "Identifier y", "Equal =", "String 'a", "Newline \n", "Newline ",
 	})
 	var fault *starlarklexer.Error
 	if !errors.As(err, &fault) || fault != list[0] {

@@ -275,12 +275,11 @@ fn all_faults_of_a_text() {
     let wanted = [
         Token::Identifier("f".into()),
         Token::Identifier("b".into()),
+        Token::Identifier("c".into()),
         Token::Identifier("d".into()),
         Token::Newline,
-        Token::Newline,
     ];
-    // At the line `b` no bracket is open. The fault of a tab is at the line end before its line.
-    // The last fault keeps its line.
+    // The bracket stays open after the quote, so no line end counts, and the tab is in code.
     let kinds = [
         ("'a", FaultKind::UnfinishedStringLiteral),
         ("", FaultKind::InvalidTab),
