@@ -83,11 +83,11 @@ class Stack:
 def findings_between(text, items):
     """For each item of a text, which is a pair of `lexeme` or `fault` and what it is, the item and what is found at it; at the end
     `None` with each bracket that is never closed."""
-    stack, number = Stack(text), None
+    stack, number, follows_fault = Stack(text), None, False
     for what, item in items:
         found = None
         if what == "fault":
-            stack, number = None, None
+            stack, number, follows_fault = None, None, True
             yield (what, item), None
             continue
         if stack:
@@ -96,7 +96,8 @@ def findings_between(text, items):
             found = of_code("SL104", number[0], item.end)
         if item.kind in MARKERS and marker(text, item.begin, MARKERS[item.kind]):
             found = of_code("SL105", item.begin, item.begin + 7)
-        number = (item.begin, item.end) if item.kind in NUMBERS else None
+        number = (item.begin, item.end) if item.kind in NUMBERS and not follows_fault else None
+        follows_fault = False
         yield (what, item), found
     for kind, begin, end, _ in stack.open if stack else []:
         if kind != "FString":
