@@ -17,7 +17,7 @@ pub record IsReady (reporter : Reporter) : Type 0 where
   pub columns_marked : reporter.byte_columns.text.now ≡ reporter.text.now
   pub byte_columns : AreColumns reporter.byte_columns
   pub here : IsPosition reporter.text.now reporter.here
-  pub last_fault : IsPosition reporter.text.now reporter.last_fault
+  pub before_fault : IsPosition reporter.text.now reporter.before_fault
 
 -- style, text and prefix are those of before
 pub record Keeps (old new : Reporter) : Type 0 where

@@ -48,7 +48,8 @@ pub struct Reporter<'t> {
     pub lines: String,
     message: String,
     here: Position,
-    last_fault: Position,
+    /// Where the item before the last fault ends: what stands for that begins after it.
+    before_fault: Position,
     /// Positions that are known, for what begins before `here`.
     known_positions: KnownPositions<'t>,
     byte_columns: ByteColumns<'t>,
@@ -178,7 +179,7 @@ impl<'t> Reporter<'t> {
             lines: String::new(alloc),
             message: String::new(alloc),
             here: Position::START,
-            last_fault: Position::START,
+            before_fault: Position::START,
             known_positions,
             byte_columns,
         })
@@ -199,7 +200,7 @@ impl<'t> Reporter<'t> {
         if self.style.form.has_only_faults() {
             return Ok(());
         }
-        let begin = Position::nearest(self.here, self.last_fault, self.text, begin);
+        let begin = Position::nearest(self.here, self.before_fault, self.text, begin);
         let end = begin.moved(self.text, end);
         self.here = end;
         push_token(
@@ -244,11 +245,11 @@ impl<'t> Reporter<'t> {
             (position_in self.old.style.columns self.old.text.now span.begin) (position_in self.old.style.columns self.old.text.now span.end) (code_of_kind kind.now) (kind_text kind.now) (help_of_kind kind.now)) }
     {
         let begin = span.begin().get() as usize;
-        let begin = Position::nearest(self.here, self.last_fault, self.text, begin);
+        let begin = Position::nearest(self.here, self.before_fault, self.text, begin);
         let end = begin.moved(self.text, span.end().get() as usize);
         let shown = shown_position(self.text, kind, begin, end);
+        self.before_fault = self.here;
         self.here = end;
-        self.last_fault = end;
         let begin = self.counted(begin)?;
         let end = self.counted(end)?;
         let shown = self.counted(shown)?;
@@ -283,11 +284,11 @@ impl<'t> Reporter<'t> {
         ensures kept { OnOk result (Keeps self.old self.new) }
         ensures lines { OnOk result (string_bytes self.new.lines ≡ characters_report self.old.style (string_bytes self.old.prefix) self.old.text.now run.begin run.end) }
     {
-        let begin = Position::nearest(self.here, self.last_fault, self.text, run.begin);
+        let begin = Position::nearest(self.here, self.before_fault, self.text, run.begin);
         let end = begin.moved(self.text, run.end);
         let characters = &self.text[run.begin..run.end];
         self.here = end;
-        self.last_fault = end;
+        self.before_fault = end;
         let begin = self.counted(begin)?;
         let end = self.counted(end)?;
         self.message.clear();
