@@ -110,8 +110,9 @@ func (p *piece) value(t *Token, begin, length int) string {
 	case Identifier, Float:
 		return text
 	case String:
-		// An escape that isn't its own value is longer than that. So a value of this length has none.
-		if length == len(text)-2 {
+		// An escape that isn't its own value is longer than that. So a value of this length has none,
+		// but for an open quote after an r.
+		if length == len(text)-2 && text[0] != 'r' {
 			return text[1 : 1+length]
 		}
 	}

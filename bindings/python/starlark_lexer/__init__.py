@@ -8,7 +8,7 @@ A text is a `str`, or `bytes` and the like in UTF-8. `tokenize` yields its token
 `StarlarkFault`, or goes on after each fault:
 
     >>> [token.string for token in tokenize("x = 'a\\ny\\n", recover=True)]
-    ['x', '=', 'y', '\\n', '']
+    ['x', '=', "'a", '\\n', 'y', '\\n', '']
 
 `faults` returns all faults, and `lex_all` both. `lex_columns` makes no object for each token. Nothing
 is shared between two calls, so they may run in any number of threads.

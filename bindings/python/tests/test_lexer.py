@@ -283,14 +283,15 @@ class Faults(unittest.TestCase):
         self.assertEqual(list(tokenize("x = 1\n", recover=True)), list(tokenize("x = 1\n")))
 
     def test_all(self) -> None:
-        source = "f(\n  'é\nb\n\tc\nd = 01\n"
+        source = "f(\n  'é)\nb\n\tc\nd = 01\n"
         tokens, all_faults = lex_all(source)
-        self.assertEqual([token.string for token in tokens], ["f", "(", "b", "d", "=", "01", "\n", ""])
+        strings = ["f", "(", "'é)", "\n", "b", "d", "=", "01", "\n", ""]
+        self.assertEqual([token.string for token in tokens], strings)
         self.assertEqual([fault.type for fault in all_faults], [4, 3, 8])
         self.assertEqual([fault.start for fault in all_faults], [(2, 2), (3, 1), (5, 4)])
-        self.assertEqual([fault.span for fault in all_faults], [(5, 7), (9, 9), (17, 19)])
-        self.assertEqual([fault.line for fault in all_faults], ["  'é\n", "b\n", "d = 01\n"])
-        self.assertEqual(tokens[3].span, (13, 14))
+        self.assertEqual([fault.span for fault in all_faults], [(5, 8), (10, 10), (18, 20)])
+        self.assertEqual([fault.line for fault in all_faults], ["  'é)\n", "b\n", "d = 01\n"])
+        self.assertEqual(tokens[5].span, (14, 15))
 
     def test_a_reserved_word_as_a_name(self) -> None:
         source = "def f():\n  assert.eq(x,\ny)\n"

@@ -92,6 +92,7 @@ impl<'a> Lexer<'a> {
                 text,
                 from: 0,
                 buffers: Buffers::with_capacity(lexemes, values),
+                is_recovered: false,
             },
             index: 0,
             after: After::Text(0),
@@ -178,6 +179,7 @@ impl<'a> Lexer<'a> {
     #[cold]
     fn lex_recovering(&mut self) {
         self.after = After::End;
+        self.piece.is_recovered = true;
         self.piece.buffers.lex_recovering(self.piece.text);
     }
 

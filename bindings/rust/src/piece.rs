@@ -14,6 +14,8 @@ pub(crate) struct Piece<'a> {
     pub from: u32,
     /// The lexemes of the piece. Their offsets count from where the piece begins.
     pub buffers: Buffers,
+    /// Whether the piece was lexed on after its faults, and so may have open quotes as lexemes.
+    pub is_recovered: bool,
 }
 
 impl<'a> Piece<'a> {
@@ -37,7 +39,7 @@ impl<'a> Piece<'a> {
     pub fn lexeme(&self, record: &LexemeRecord) -> Lexeme<'a> {
         let frame = Frame::least(record.head.kind);
         let len = frame.value_len(record.end - record.begin);
-        if record.value_len != len as usize {
+        if record.value_len != len as usize || self.may_be_open(record, frame) {
             return self.lexeme_by_comparing(record);
         }
         Lexeme {
@@ -50,6 +52,17 @@ impl<'a> Piece<'a> {
                 len,
             }),
         }
+    }
+
+    /// Whether a record may be of an open quote with an `r` before it: so its value has as many bytes as
+    /// one that fills the least frame, and no quote is right before that.
+    #[inline]
+    fn may_be_open(&self, record: &LexemeRecord, frame: Frame) -> bool {
+        if !self.is_recovered {
+            return false;
+        }
+        let before = &self.text.as_bytes()[record.begin as usize..][..usize::from(frame.before)];
+        before.last().is_some_and(|byte| !matches!(byte, b'"' | b'\''))
     }
 
     /// The lexeme of a record whose value doesn't fill the least frame of its kind.
@@ -104,6 +117,7 @@ mod tests {
             text,
             from: 0,
             buffers: Buffers::with_capacity(0, 0),
+            is_recovered: false,
         };
         piece.lexeme(&LexemeRecord {
             begin: 0,
