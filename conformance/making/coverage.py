@@ -33,7 +33,7 @@ UNREACHABLE = [
     (r"^Numbers: (is_small|signed) .*(minus|2 \^ 31 \) \|\| \.\.: by)", "a number of a text has no sign"),
     (r"^Numbers: (is_number|integer_in) ", "only the library's call on a number's text asks it"),
     (r"^Items: found_at literal \[\]", "a body at the end of the text is ended before"),
-    (r"^(Margins: begins_with_line_end|Pieces: is_nothing) ", "only lexing on after a fault asks it"),
+    (r"^(Depths: is_outside|Margins: begins_with_line_end|Pieces: is_nothing) ", "only lexing on after a fault asks it"),
     (r"^Margins: without_return \[\]", "a comment isn't empty"),
     (r"^Pieces: (starts_zero|is_bang) \[\]", "a word isn't empty"),
 ]

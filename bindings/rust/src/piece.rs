@@ -62,7 +62,7 @@ impl<'a> Piece<'a> {
             return false;
         }
         let before = &self.text.as_bytes()[record.begin as usize..][..usize::from(frame.before)];
-        before.last().is_some_and(|byte| !matches!(byte, b'"' | b'\''))
+        matches!(before.last(), Some(byte) if *byte != b'"' && *byte != b'\'')
     }
 
     /// The lexeme of a record whose value doesn't fill the least frame of its kind.
