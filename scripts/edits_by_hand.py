@@ -29,8 +29,8 @@ from pathlib import Path
 from shared.edits import edits_by_hand, last_refused, write_last_refused
 from shared.programs import TOP, give_up
 
-# A crate is proved once more before its first edit, by all processors that are free: 1 to 3 minutes, and 4 for the largest. Then
-# an edit takes 10 to 35 seconds of one processor. So this many end within five minutes.
+# A crate is proved once more before its first edit, by all processors that are free: 1 to 3 minutes, and 6 for the largest. Then
+# an edit takes 10 to 35 seconds of one processor. So this many end within five minutes, of the largest within seven.
 MOST_OF_A_SHARE = 14
 MOST_OF_THE_LARGEST = {"starlark_tokens": 4}
 TRIED = re.compile(r"(?m)^rt: must-fail (\S+/\S+\.edit): (.*)$")
